@@ -1,0 +1,21 @@
+-- Two cases taken apart, and what the cases of a test are. Assumes nothing.
+use Prim.Native.Nat.{ℕ, _<_, _≤_}
+use mathlib.Core.Bool.{Bool, true, false}
+use mathlib.Core.Logic.{_⊎_, inl, inr}
+use mathlib.Core.Path.{_≡_, refl}
+use lib.Dec.{ltb}
+use borrow.Author.Tests.{ltb-true, ltb-false}
+
+-- one of two, the sum first, so that each arm knows its fact's type
+pub cases : {A B C : Type 0} → A ⊎ B → (A → C) → (B → C) → C
+cases (inl a) f g = f a
+cases (inr b) f g = g b
+
+-- a test is true or false, with the equation
+pub either : (b : Bool) → (b ≡ true) ⊎ (b ≡ false)
+either true = inl refl
+either false = inr refl
+
+-- a number is below another, or not
+pub side : (m n : ℕ) → (m < n) ⊎ (n ≤ m)
+side m n = cases (either (ltb m n)) (λ e. inl (ltb-true m n e)) (λ e. inr (ltb-false m n e))

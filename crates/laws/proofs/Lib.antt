@@ -1,0 +1,2 @@
+-- General laws that the toolchain's library lacks, by topic. Assumes nothing.
+pub mod Cases

@@ -1,0 +1,1 @@
+// No code: general laws that the proofs of the other crates cite.
