@@ -1,0 +1,47 @@
+-- What a lawful event's fields are. Assumes nothing.
+use Prim.Native.Nat.{ℕ, _<_, _≤_}
+use mathlib.Core.Bool.{Bool, true, false, _&&_, false≢true}
+use mathlib.Core.Path.{_≡_, refl, sym}
+use native.Mathlib.Omega.{arith}
+use lib.Dec.{leb, eqb}
+use borrow.Author.Tests.{leb-true, eqb-true}
+use Rattle.event.specs.Kind.{row, takes, fitsPlace, fitsValues, lawful}
+use Rattle.event.specs.declared.Event.{Event}
+use Rattle.event.specs.declared.kind.Place.{Place}
+use Rattle.event.specs.declared.kind.Place.the-variants.{Location, Mutex, Nowhere}
+
+pub and-left : (a b : Bool) → (a && b) ≡ true → a ≡ true
+and-left true b h = refl
+and-left false b h = h
+
+pub and-right : (a b : Bool) → (a && b) ≡ true → b ≡ true
+and-right true b h = h
+and-right false b h = absurd (false≢true h)
+
+pub place-in : (p : Place) (n : ℕ) → fitsPlace p n ≡ true → n < 256
+place-in Location n h = omega (arith, leb-true n 255 h)
+place-in Mutex n h = omega (arith, leb-true n 255 h)
+place-in Nowhere n h = omega (arith, eqb-true n 0 h)
+
+module _ (e : Event) (h : lawful e ≡ true) where
+  pub order-of : takes (row (e .kind) .orders) (e .order) ≡ true
+  unfolding lawful
+  order-of = and-left _ _ h
+
+  pub place-of : fitsPlace (row (e .kind) .place) (e .place) ≡ true
+  unfolding lawful
+  place-of = and-left _ _ (and-right (takes (row (e .kind) .orders) (e .order)) _ h)
+
+  pub values-of : fitsValues (row (e .kind) .values) (e .first) (e .second) ≡ true
+  unfolding lawful
+  values-of = and-left _ _ (and-right (fitsPlace (row (e .kind) .place) (e .place)) _ (and-right (takes (row (e .kind) .orders) (e .order)) _ h))
+
+  pub code-of : e .code ≡ 0
+  unfolding lawful
+  code-of =
+      eqb-true _ _
+      (and-right (fitsValues (row (e .kind) .values) (e .first) (e .second)) _
+      (and-right (fitsPlace (row (e .kind) .place) (e .place)) _ (and-right (takes (row (e .kind) .orders) (e .order)) _ h)))
+
+  pub place-below : e .place < 256
+  place-below = place-in (row (e .kind) .place) (e .place) place-of

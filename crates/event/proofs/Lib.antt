@@ -1,0 +1,4 @@
+-- Laws that belong to no one function. Assumes nothing.
+pub mod Rooms
+pub mod Lawful
+pub mod Wrap

@@ -1,0 +1,106 @@
+-- Document 01, "Trace text": the fixed table of kinds, and which events are lawful. Assumes nothing.
+use Prim.Native.Nat.{ℕ}
+use mathlib.Core.Bool.{Bool, true, false, _&&_, _||_, not}
+use mathlib.Core.List.{List, [], _∷_}
+use lib.Dec.{eqb, leb}
+use lib.ListN.{getD}
+use Rattle.event.specs.declared.Event.{Event}
+use Rattle.event.specs.declared.kind.Row.{Row}
+use Rattle.event.specs.declared.kind.Orders.{Orders}
+use Rattle.event.specs.declared.kind.Orders.the-variants.{Bare, Marks, Reads, Writes, Updates, Fences, NoKind}
+use Rattle.event.specs.declared.kind.Place.{Place}
+use Rattle.event.specs.declared.kind.Place.the-variants.{Location, Mutex, Nowhere}
+
+-- the numbers of the orders and marks; 0 is no order
+abbrev pub rlx : ℕ
+rlx = 1
+
+abbrev pub acq : ℕ
+acq = 2
+
+abbrev pub rel : ℕ
+rel = 3
+
+abbrev pub ar : ℕ
+ar = 4
+
+abbrev pub sc : ℕ
+sc = 5
+
+abbrev pub used : ℕ
+used = 6
+
+abbrev pub unused : ℕ
+unused = 7
+
+-- the orders of a list
+abbrev pub ordersOf : Orders → List ℕ
+ordersOf Bare = 0 ∷ []
+ordersOf Marks = used ∷ unused ∷ []
+ordersOf Reads = rlx ∷ acq ∷ sc ∷ []
+ordersOf Writes = rlx ∷ rel ∷ sc ∷ []
+ordersOf Updates = rlx ∷ acq ∷ rel ∷ ar ∷ sc ∷ []
+ordersOf Fences = acq ∷ rel ∷ ar ∷ sc ∷ []
+ordersOf NoKind = []
+
+-- whether a number is in a list
+abbrev pub has : ℕ → List ℕ → Bool
+has n [] = false
+has n (m ∷ l) = eqb n m || has n l
+
+unfoldable pub takes : Orders → ℕ → Bool
+takes os o = has o (ordersOf os)
+
+abbrev pub aRow : Orders → Place → ℕ → Bool → Row
+aRow o p n s = record { orders = o; place = p; values = n; sync = s }
+
+abbrev pub noKind : Row
+noKind = aRow NoKind Nowhere 0 false
+
+-- the fixed table, by the kind's number: orders, place, how many values, whether it synchronises
+abbrev pub rows : List Row
+rows =
+    noKind
+    ∷ aRow Marks Location 1 false  -- 1 load
+    ∷ aRow Bare Location 1 false  -- 2 store
+    ∷ aRow Reads Location 1 true  -- 3 aload
+    ∷ aRow Writes Location 1 true  -- 4 astore
+    ∷ aRow Updates Location 2 true  -- 5 rmw
+    ∷ aRow Updates Location 2 true  -- 6 add
+    ∷ aRow Fences Nowhere 0 true  -- 7 fence
+    ∷ aRow Bare Mutex 0 true  -- 8 lock
+    ∷ aRow Bare Mutex 0 true  -- 9 unlock
+    ∷ []
+
+unfoldable pub row : ℕ → Row
+row k = getD rows k noKind
+
+-- locations and mutexes are 0 to 255; an event that has neither has 0 there
+abbrev pub fitsPlace : Place → ℕ → Bool
+fitsPlace Location n = leb n 255
+fitsPlace Mutex n = leb n 255
+fitsPlace Nowhere n = eqb n 0
+
+-- a value that the kind lacks is 0
+abbrev pub fitsValues : ℕ → ℕ → ℕ → Bool
+fitsValues n a b = (leb 1 n || eqb a 0) && (leb 2 n || eqb b 0)
+
+-- an event of the layout, form 1: an order of its kind, a place in range, no value that its kind lacks, and no code line
+unfoldable pub lawful : Event → Bool
+lawful e =
+    takes (row (e .kind) .orders) (e .order)
+    && (fitsPlace (row (e .kind) .place) (e .place)
+    && (fitsValues (row (e .kind) .values) (e .first) (e .second)
+    && eqb (e .code) 0))
+
+abbrev pub isLocation : Place → Bool
+isLocation Location = true
+isLocation Mutex = false
+isLocation Nowhere = false
+
+-- plain: `load` and `store`; atomic: every other access to a location
+abbrev pub plain : Event → Bool
+plain e = isLocation (row (e .kind) .place) && not (row (e .kind) .sync)
+
+abbrev pub atomic : Event → Bool
+atomic e = isLocation (row (e .kind) .place) && row (e .kind) .sync

@@ -1,0 +1,151 @@
+// The fixed table: a kind's number decides its orders, its place, its values and whether it synchronises.
+ghost use mathlib.Core.Path.{_≡_};
+ghost use Rattle.event.specs.Kind.{aRow, row, has, takes, fitsPlace, fitsValues, lawful};
+use crate::Event;
+use crate::Word;
+
+// The lists of orders that document 01 names.
+pub enum Orders {
+    // none at all
+    Bare,
+    // `used` `unused`
+    Marks,
+    // `rlx` `acq` `sc`
+    Reads,
+    // `rlx` `rel` `sc`
+    Writes,
+    // `rlx` `acq` `rel` `ar` `sc`
+    Updates,
+    // `acq` `rel` `ar` `sc`
+    Fences,
+    // there is no such kind
+    NoKind,
+}
+
+// What `place` of an event is.
+pub enum Place {
+    Location,
+    Mutex,
+    Nowhere,
+}
+
+// A row of the table.
+pub struct Row {
+    pub orders: Orders,
+    pub place: Place,
+    pub values: Word,
+    pub sync: bool,
+}
+
+fn a_row(orders: Orders, place: Place, values: Word, sync: bool) -> Row
+    ensures { λ r. ⌜ r ≡ aRow orders place values sync ⌝ }
+{
+    Row {
+        orders,
+        place,
+        values,
+        sync,
+    }
+}
+
+// The table, a kind to a line.
+pub fn row_of(kind: Word) -> Row
+    ensures { λ r. ⌜ r ≡ row kind ⌝ }
+{
+    match kind {
+        1 => a_row(Orders::Marks, Place::Location, 1, false),
+        2 => a_row(Orders::Bare, Place::Location, 1, false),
+        3 => a_row(Orders::Reads, Place::Location, 1, true),
+        4 => a_row(Orders::Writes, Place::Location, 1, true),
+        5 => a_row(Orders::Updates, Place::Location, 2, true),
+        6 => a_row(Orders::Updates, Place::Location, 2, true),
+        7 => a_row(Orders::Fences, Place::Nowhere, 0, true),
+        8 => a_row(Orders::Bare, Place::Mutex, 0, true),
+        9 => a_row(Orders::Bare, Place::Mutex, 0, true),
+        _ => a_row(Orders::NoKind, Place::Nowhere, 0, false),
+    }
+}
+
+// The orders' numbers; 0 is no order. A load's mark stands in their place.
+const RLX: Word = 1;
+
+const ACQ: Word = 2;
+
+const REL: Word = 3;
+
+const AR: Word = 4;
+
+const SC: Word = 5;
+
+const USED: Word = 6;
+
+const UNUSED: Word = 7;
+
+// Whether a number is in a list.
+fn is_in(n: Word, list: &[Word]) -> bool
+    ensures { λ r. ⌜ r ≡ has n (now (list .entry)) ⌝ }
+{
+    let mut i: usize = 0;
+    while i < list.len() {
+        if n == list[i] {
+            return true;
+        }
+        i += 1;
+    }
+    false
+}
+
+// Whether an order's number is in a list of orders.
+pub fn takes_order(orders: Orders, order: Word) -> bool
+    ensures { λ r. ⌜ r ≡ takes orders order ⌝ }
+{
+    match orders {
+        Orders::Bare => order == 0,
+        Orders::Marks => is_in(order, &[USED, UNUSED]),
+        Orders::Reads => is_in(order, &[RLX, ACQ, SC]),
+        Orders::Writes => is_in(order, &[RLX, REL, SC]),
+        Orders::Updates => is_in(order, &[RLX, ACQ, REL, AR, SC]),
+        Orders::Fences => is_in(order, &[ACQ, REL, AR, SC]),
+        Orders::NoKind => false,
+    }
+}
+
+pub fn fits_place(place: Place, at: Word) -> bool
+    ensures { λ r. ⌜ r ≡ fitsPlace place at ⌝ }
+{
+    match place {
+        Place::Location => at <= 255,
+        Place::Mutex => at <= 255,
+        Place::Nowhere => at == 0,
+    }
+}
+
+// Whether the values that a kind lacks are 0.
+pub fn fits_values(values: Word, first: Word, second: Word) -> bool
+    ensures { λ r. ⌜ r ≡ fitsValues values first second ⌝ }
+{
+    match values {
+        0 => first == 0 && second == 0,
+        1 => second == 0,
+        _ => true,
+    }
+}
+
+// Whether an event is of the layout, form 1.
+pub fn is_lawful(e: Event) -> bool
+    ensures { λ r. ⌜ r ≡ lawful e ⌝ }
+{
+    let row = row_of(e.kind);
+    let orders = row.orders;
+    let place = row.place;
+    if !takes_order(orders, e.order) {
+        return false;
+    }
+    if !fits_place(place, e.place) {
+        return false;
+    }
+    if !fits_values(row.values, e.first, e.second) {
+        return false;
+    }
+    e.code == 0
+}
