@@ -4,6 +4,7 @@ pub mod memory;
 pub mod room;
 
 ghost use mathlib.Core.Path.{_≡_};
+ghost use Rattle.event.specs.Answer.{answer};
 
 // A number of the trace and a word of a room. Its width is named here, in `index_of` and in `memory::wrapped_sum`, and nowhere else.
 pub type Word = u32;
@@ -26,6 +27,18 @@ pub struct Answer {
     pub number: Word,
     pub side: Word,
     pub place: usize,
+}
+
+impl Answer {
+    pub fn new(number: Word, side: Word, place: usize) -> Self
+        ensures { λ r. ⌜ r ≡ answer number side place ⌝ }
+    {
+        Answer {
+            number,
+            side,
+            place,
+        }
+    }
 }
 
 // A word as an index.

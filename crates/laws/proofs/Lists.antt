@@ -1,0 +1,28 @@
+-- What holds of each element of a list. Assumes nothing.
+use Prim.Native.Nat.{ℕ}
+use mathlib.Core.List.{List, [], _∷_, _++_}
+use mathlib.Core.Path.{_≡_}
+
+-- P holds of each element
+abbrev pub Each : {A : Type 0} → (A → Type 0) → List A → Type 0
+Each P [] = Unit {0}
+Each P (a ∷ l) = P a × Each P l
+
+-- the number s is no element
+abbrev pub Free : ℕ → List ℕ → Type 0
+Free s l = Each (λ b. b ≡ s → ⊥) l
+
+module _ {A : Type 0} (P : A → Type 0) where
+  -- what holds of all holds of each
+  pub each-all : ((a : A) → P a) → (l : List A) → Each P l
+  each-all f [] = tt
+  each-all f (a ∷ l) = (f a, each-all f l)
+
+  pub each-append : (l m : List A) → Each P l → Each P m → Each P (l ++ m)
+  each-append [] m h k = k
+  each-append (a ∷ l) m h k = (h .0, each-append l m (h .1) k)
+
+  -- what follows for each
+  pub each-imp : (Q : A → Type 0) → ((a : A) → P a → Q a) → (l : List A) → Each P l → Each Q l
+  each-imp Q f [] h = tt
+  each-imp Q f (a ∷ l) h = (f a (h .0), each-imp Q f l (h .1))

@@ -1,0 +1,19 @@
+// The one search that lines and fields share.
+ghost use mathlib.Core.Path.{_≡_};
+ghost use Prim.Native.Nat.{_+_};
+ghost use lib.ListN.{drop};
+ghost use Rattle.text.specs.Cut.{until};
+
+// Where the first byte `stop` at `from` or after it stands, or the end of the text (`from` itself, if it lies beyond the end).
+pub fn find(text: &[u8], from: usize, stop: u8) -> usize
+    ensures { λ r. ⌜ r ≡ from + until stop (drop from (now (text .entry))) ⌝ }
+{
+    let mut i = from;
+    while i < text.len() {
+        if text[i] == stop {
+            return i;
+        }
+        i += 1;
+    }
+    i
+}
