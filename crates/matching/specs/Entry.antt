@@ -1,0 +1,44 @@
+-- Document 01, "Matching text": one line for each source event. An entry is the kept target number, or 0 for gone. Assumes nothing.
+use Prim.Native.Nat.{ℕ}
+use mathlib.Core.Bool.{cond}
+use mathlib.Core.List.{List, [], _∷_}
+use lib.Dec.{eqb}
+use Rattle.text.specs.Field.{fields, onField, onEnd, join}
+use Rattle.text.specs.Number.{numberOf, onNumber, decimal}
+use Rattle.text.specs.Word.{same}
+use Rattle.matching.specs.declared.entry.EntryRead.{EntryRead}
+use Rattle.matching.specs.declared.entry.EntryRead.the-variants.{Entry, Refused}
+
+-- The greatest target number.
+abbrev pub lastNumber : ℕ
+lastNumber = 800
+
+abbrev pub keepWord : List ℕ
+keepWord = 107 ∷ 101 ∷ 101 ∷ 112 ∷ []
+
+abbrev pub goneWord : List ℕ
+goneWord = 103 ∷ 111 ∷ 110 ∷ 101 ∷ []
+
+-- Line 1 of a matching, form 1.
+abbrev pub header : List ℕ
+header = 109 ∷ 97 ∷ 116 ∷ 99 ∷ 104 ∷ 9 ∷ 49 ∷ []
+
+-- `keep`, after the word: a target number, and nothing more.
+unfoldable pub keepRest : List (List ℕ) → EntryRead
+keepRest fs =
+    onField Refused fs (λ f rest. onNumber Refused (numberOf lastNumber f) (λ n.
+    onEnd Refused rest (cond (eqb n 0) Refused (Entry n))))
+
+-- `gone`, and nothing more.
+unfoldable pub goneRest : List (List ℕ) → EntryRead
+goneRest fs = onEnd Refused fs (Entry 0)
+
+-- What a line is: an entry, or not of the layout.
+unfoldable pub entryOf : List ℕ → EntryRead
+entryOf line =
+    onField Refused (fields line) (λ word fs.
+    cond (same word goneWord) (goneRest fs) (cond (same word keepWord) (keepRest fs) Refused))
+
+-- The line of an entry.
+unfoldable pub entryLine : ℕ → List ℕ
+entryLine n = cond (eqb n 0) goneWord (join (keepWord ∷ decimal n ∷ []))
