@@ -1,0 +1,128 @@
+-- Values along runs, move by move: the cell holds the value of the near access before, so what a move removes or inserts there was, or is, the
+-- latest; therefore each trace of a run has the latest values and leaves the same memory as the first. Assumes nothing.
+use mathlib.Core.Path.{_≡_, refl, sym, _∙_, ap, subst}
+use mathlib.Core.Logic.{_⊎_, inl, inr}
+use mathlib.Core.Bool.{Bool, true, false, cond}
+use mathlib.Core.Option.{Option·map}
+use mathlib.Core.List.{List, [], _∷_, map, head?}
+use Prim.Native.Nat.{ℕ}
+use lib.Dec.{T, eqb, eqb-refl}
+use lib.ListN.{length, set}
+use lib.Seq.{set-getD}
+use borrow.Author.Tests.{eqb-true}
+use Rattle.event.specs.Memory.{stepped}
+use Rattle.event.specs.Kind.{lawful}
+use Rattle.event.specs.declared.Event.{Event}
+use Rattle.event.specs.declared.memory.Memory.{Memory}
+use Rattle.event.specs.declared.memory.Stepped.{Stepped}
+use Rattle.rules.specs.View.{view, View, load, store, valueOf, wall}
+use Rattle.rules.specs.Moves.{Run, group, near, Removable, Insertable, Move, Moves, By, remove, insert, swap, next, done, step, Holds, Phase, extend}
+use Rattle.rules.specs.Run.{Traced, traced, old, new, eventOf, Inserted, viewed}
+use Rattle.rules.specs.Demand.{right, Values}
+use Rattle.rules.proofs.Latest.{Effect, effect}
+use Rattle.rules.proofs.Values.{Keeps, does, first-right, into, leaves, out-of, overwritten, rest-right, swapped, idle}
+use Rattle.rules.proofs.Effect.{sees, Sees, cell, right-lawful, step-length}
+use Rattle.rules.proofs.Truth.{and}
+
+module _ (look : Event → View) (sees : Sees look) where
+  -- each cell holds the value of the near access
+  abbrev Knows : List Traced → Memory → Type 0
+  Knows b m = (p w : ℕ) → Holds w (near (viewed look) p b) → cell m p ≡ w
+
+  -- one more event, seen as v
+  meets : (x : Traced) (v : View) (c d : ℕ → ℕ) (p w : ℕ) (g : List Traced) → viewed look x ≡ v → Effect c v d
+      → (Holds w (Option·map (viewed look) (head? g)) → c p ≡ w) → Holds w (Option·map (viewed look) (head? (extend p v x g))) → d p ≡ w
+  meets x wall c d p w g i e k h = absurd h
+  meets x (load q v u) c d p w g i e k h = go (eqb p q) refl h
+    where
+      go : (y : Bool) → eqb p q ≡ y → Holds w (Option·map (viewed look) (head? (cond y (x ∷ g) g))) → d p ≡ w
+      go true j h = e .1 p ∙ ap c (eqb-true p q j) ∙ e .0 ∙ ap valueOf (sym i) ∙ h
+      go false j h = e .1 p ∙ k h
+  meets x (store q v) c d p w g i e k h = go (eqb p q) (e p) h
+    where
+      go : (y : Bool) → d p ≡ cond y v (c p) → Holds w (Option·map (viewed look) (head? (cond y (x ∷ g) g))) → d p ≡ w
+      go true j h = j ∙ ap valueOf (sym i) ∙ h
+      go false j h = j ∙ k h
+
+  knows-next : (x : Traced) (b : List Traced) (m : Memory) → length (m .cells) ≡ 256 → Knows b m → T (stepped m (eventOf x) .right)
+      → Knows (x ∷ b) (stepped m (eventOf x) .memory)
+  knows-next x b m c k h p w =
+      meets x (viewed look x) (cell m) (cell (stepped m (eventOf x) .memory)) p w (group (viewed look) p b) refl (effect sees m (eventOf x) c h) (k p w)
+
+  -- ---- one move
+
+  removed : (x : Traced) (b a : List Traced) (m : Memory) (v : View) → look (eventOf x) ≡ v → Removable (viewed look) b v a → Knows b m
+      → T (right m (eventOf x ∷ map eventOf a)) → Keeps m (eventOf x ∷ map eventOf a) (map eventOf a)
+  removed x b a m wall i r k h = absurd r
+  removed x b a m (load p v u) i r k h =
+      let l = right-lawful m (eventOf x) (first-right m (eventOf x) (map eventOf a) h) in
+      idle m (eventOf x) (map eventOf a) (ap (λ (z : Stepped). z .memory) (does look sees m (eventOf x) (load p v u) i tt l)) h
+  removed x b a m (store p v) i (inl r) k h =
+      let l = right-lawful m (eventOf x) (first-right m (eventOf x) (map eventOf a) h) in
+      let q : set (m .cells) p v ≡ m .cells = rw (← k p v r) (set-getD (m .cells) p 0) in
+      idle m (eventOf x) (map eventOf a)
+      (ap (λ (z : Stepped). z .memory) (does look sees m (eventOf x) (store p v) i tt l) ∙ ap (λ (c : List ℕ). record { cells = c }) q) h
+  removed x b a m (store p v) i (inr r) k h =
+      let e = eventOf x in
+      let s = map eventOf a in
+      let q = does look sees m e (store p v) i tt (right-lawful m e (first-right m e s h)) in
+      let o = overwritten look sees p v a r m (out-of m e s (store p v) q h .1) in
+      (o .0, o .1 ∙ sym (leaves m e s (store p v) q))
+
+  inserted : (x : Traced) (b : List Traced) (s : List Event) (m : Memory) (v : View) → look (eventOf x) ≡ v → T (lawful (eventOf x))
+      → Insertable (viewed look) b v → Knows b m → T (right m s) → Keeps m s (eventOf x ∷ s)
+  inserted x b s m wall i l r k h = absurd r
+  inserted x b s m (load p v u) i l r k h =
+      let e = eventOf x in
+      let q = does look sees m e (load p v u) i tt l in
+      let c : T (eqb v (cell m p)) = subst (λ z. T (eqb v z)) (sym (k p v r)) (eqb-refl v) in
+      (into m e s (load p v u) q c h, leaves m e s (load p v u) q)
+  inserted x b s m (store p v) i l r k h = absurd r
+
+  lawful-new : (x : Traced) → Inserted x → T (lawful (eventOf x))
+  lawful-new (traced (old i) e) w = absurd w
+  lawful-new (traced (new n) e) w = w
+
+  -- a move keeps a trace right and the memory that it leaves
+  pub moved : {φ : Phase} {b s t : List Traced} → Move (viewed look) Inserted φ b s t → (m : Memory) → length (m .cells) ≡ 256 → Knows b m
+      → T (right m (map eventOf s)) → Keeps m (map eventOf s) (map eventOf t)
+  moved (remove {b = b} {a = a} {e = x} r) m c k h = removed x b a m (look (eventOf x)) refl r k h
+  moved (insert {b = b} {a = a} {e = x} w r) m c k h = inserted x b (map eventOf a) m (look (eventOf x)) refl (lawful-new x w) r k h
+  moved (swap {a = a} {e = x} {f = y} d) m c k h = swapped look sees m (eventOf x) (eventOf y) (map eventOf a) d h
+  moved (next {b = b} {s = s} {t = t} {e = x} q) m c k h =
+      let e = eventOf x in
+      let n = stepped m e .memory in
+      let f = first-right m e (map eventOf s) h in
+      let r = moved q n (step-length m e ∙ c) (knows-next x b m c k f) (rest-right m e (map eventOf s) h) in
+      (and (stepped m e .right) (right n (map eventOf t)) f (r .0), r .1)
+
+  -- ---- moves
+
+  module _ (m : Memory) (c : length (m .cells) ≡ 256) where
+    all-moved : {φ : Phase} {s t : List Traced} → Moves (viewed look) Inserted φ [] s t → T (right m (map eventOf s))
+        → Keeps m (map eventOf s) (map eventOf t)
+    all-moved done h = (h, refl)
+    all-moved (step q r) h =
+        let a = moved q m c (λ p w k. absurd k) h in
+        let b = all-moved r (a .0) in
+        (b .0, b .1 ∙ a .1)
+
+    come-by : {φ : Phase} {s t : List Traced} (r : Moves (viewed look) Inserted φ [] s t) (x : List Traced) → By (viewed look) Inserted x r
+        → T (right m (map eventOf s)) → Keeps m (map eventOf s) (map eventOf x)
+    come-by done x i h = rw i (h, refl)
+    come-by (step q r) x (inl i) h = rw i (h, refl)
+    come-by (step q r) x (inr n) h =
+        let a = moved q m c (λ p w k. absurd k) h in
+        let b = come-by r x n (a .0) in
+        (b .0, b .1 ∙ a .1)
+
+    pub along : {s u : List Traced} (r : Run (viewed look) Inserted s u) (x : List Traced)
+        → By (viewed look) Inserted x (r .1) ⊎ By (viewed look) Inserted x (r .2) → T (right m (map eventOf s)) → Keeps m (map eventOf s) (map eventOf x)
+    along r x (inl i) h = come-by (r .1) x i h
+    along r x (inr i) h =
+        let a = all-moved (r .1) h in
+        let b = come-by (r .2) x i (a .0) in
+        (b .0, b .1 ∙ a .1)
+
+pub values : Values
+values m s u r c h x i = along view sees m c r x i h

@@ -1,0 +1,149 @@
+-- What an answer says: the source's and the target's answers accept exactly where no event shows a fault, as a statement. An answer goes on to the
+-- next event only where all tests of this one fail. Assumes nothing.
+use mathlib.Core.Path.{_≡_, refl, _∙_}
+use mathlib.Core.Bool.{Bool, true, false, not, cond, _||_}
+use mathlib.Core.List.{List, [], _∷_}
+use Prim.Native.Nat.{ℕ, suc}
+use lib.Dec.{T, eqb}
+use Rattle.laws.proofs.Lists.{Each}
+use Rattle.event.specs.declared.Event.{Event}
+use Rattle.event.specs.Answer.{done, first}
+use Rattle.event.specs.declared.Answer.{Answer}
+use Rattle.rules.specs.Fault.{Item, crossed, fate, foreign, item, loadGone, lone, storeGone, unlike, wallGone}
+use Rattle.rules.specs.View.{View}
+use Rattle.rules.specs.Verdict.{items, placed, sourceAnswer, sourceFault, targetAnswer, targetFault}
+use Rattle.rules.proofs.Item.{Clash, Sound, Sound₁, Supported, Ordered}
+use Rattle.rules.proofs.Test.{crossed?, extra?, lost?}
+use Rattle.rules.proofs.Truth.{taken}
+
+-- ---- answers
+
+-- an answer that goes on where another one's number is 0
+onward : (c : Bool) (q r : Answer) → eqb (q .number) 0 ≡ c → T (eqb (cond c r q .number) 0) → T c × T (eqb (r .number) 0)
+onward true q r e h = (tt, h)
+onward false q r e h = absurd (rw e at h)
+
+-- of two answers both accept
+pub both : (a b : Answer) → T (eqb (first a b .number) 0) → T (eqb (a .number) 0) × T (eqb (b .number) 0)
+both a b h = go (eqb (a .number) 0) refl h
+  where
+    go : (c : Bool) → eqb (a .number) 0 ≡ c → T (eqb (cond c b a .number) 0) → T (eqb (a .number) 0) × T (eqb (b .number) 0)
+    go true e h = (rw e tt, h)
+    go false e h = absurd (rw e at h)
+
+five : (c d e f g : Bool) → T (eqb (cond c 10 (cond d 11 (cond e 12 (cond f 13 (cond g 14 0))))) 0)
+    → T (not c) × T (not (d || (f || g))) × T (not e)
+five true d e f g h = absurd h
+five false true e f g h = absurd h
+five false false true f g h = absurd h
+five false false false true g h = absurd h
+five false false false false true h = absurd h
+five false false false false false h = (tt, tt, tt)
+
+five′ : (c d e f g : Bool) → T (not c) → T (not (d || (f || g))) → T (not e) → T (eqb (cond c 10 (cond d 11 (cond e 12 (cond f 13 (cond g 14 0))))) 0)
+five′ true d e f g h i j = absurd h
+five′ false true e f g h i j = absurd i
+five′ false false true f g h i j = absurd j
+five′ false false false true g h i j = absurd i
+five′ false false false false true h i j = absurd i
+five′ false false false false false h i j = tt
+
+pair : (c d : Bool) → T (eqb (cond c 15 (cond d 16 0)) 0) → T (not (c || d))
+pair true d h = absurd h
+pair false true h = absurd h
+pair false false h = tt
+
+pair′ : (c d : Bool) → T (not (c || d)) → T (eqb (cond c 15 (cond d 16 0)) 0)
+pair′ true d h = absurd h
+pair′ false true h = absurd h
+pair′ false false h = tt
+
+-- no fault 10
+abbrev pub Faithful : List Event → List Event → List ℕ → Type 0
+Faithful t [] ns = Unit {0}
+Faithful t (e ∷ s) [] = Unit {0}
+Faithful t (e ∷ s) (n ∷ ns) = T (not (unlike t e n)) × Faithful t s ns
+
+module _ (view : Event → View) where
+  -- ---- the source
+
+  -- no fault 10 to 14 at a source event
+  abbrev pub Clean₁ : List Event → List Item → Event → ℕ → List Item → Type 0
+  Clean₁ t b e n a =
+      T (not (unlike t e n)) × Sound₁ b (item (view e) (fate n)) a × Each (λ y. Clash y (item (view e) (fate n))) b
+
+  abbrev pub Clean : List Event → List Item → List Event → List ℕ → Type 0
+  Clean t b [] ns = Unit {0}
+  Clean t b (e ∷ s) [] = Unit {0}
+  Clean t b (e ∷ s) (n ∷ ns) = Clean₁ t b e n (items view s ns) × Clean t (item (view e) (fate n) ∷ b) s ns
+
+  clean₁ : (t : List Event) (b : List Item) (e : Event) (n : ℕ) (a : List Item) → T (eqb (sourceFault t b e n (item (view e) (fate n)) a) 0) → Clean₁ t b e n a
+  clean₁ t b e n a h =
+      let x = item (view e) (fate n) in
+      let f = five (unlike t e n) (wallGone x) (crossed b x) (loadGone b x) (storeGone b x a) h in
+      (f .0, lost? b x a .0 (f .1), crossed? b x .0 (f .2))
+
+  clean₁′ : (t : List Event) (b : List Item) (e : Event) (n : ℕ) (a : List Item) → Clean₁ t b e n a → T (eqb (sourceFault t b e n (item (view e) (fate n)) a) 0)
+  clean₁′ t b e n a f =
+      let x = item (view e) (fate n) in
+      five′ (unlike t e n) (wallGone x) (crossed b x) (loadGone b x) (storeGone b x a) (f .0) (lost? b x a .1 (f .1)) (crossed? b x .1 (f .2))
+
+  pub source-clean : (t : List Event) (i : ℕ) (b : List Item) (s : List Event) (ns : List ℕ) → T (eqb (sourceAnswer view t i b s ns .number) 0) → Clean t b s ns
+  unfolding sourceAnswer
+  source-clean t i b [] ns h = tt
+  source-clean t i b (e ∷ s) [] h = tt
+  source-clean t i b (e ∷ s) (n ∷ ns) h =
+      let x = item (view e) (fate n) in
+      let k = sourceFault t b e n x (items view s ns) in
+      let q = onward (eqb k 0) _ (sourceAnswer view t (suc i) (x ∷ b) s ns) refl h in
+      (clean₁ t b e n (items view s ns) (q .0), source-clean t (suc i) (x ∷ b) s ns (q .1))
+
+  pub clean-source : (t : List Event) (i : ℕ) (b : List Item) (s : List Event) (ns : List ℕ) → Clean t b s ns → sourceAnswer view t i b s ns ≡ done
+  unfolding sourceAnswer
+  clean-source t i b [] ns h = refl
+  clean-source t i b (e ∷ s) [] h = refl
+  clean-source t i b (e ∷ s) (n ∷ ns) h =
+      let x = item (view e) (fate n) in
+      let k = sourceFault t b e n x (items view s ns) in
+      taken (sourceAnswer view t (suc i) (x ∷ b) s ns) _ (eqb k 0) (clean₁′ t b e n (items view s ns) (h .0))
+      ∙ clean-source t (suc i) (x ∷ b) s ns (h .1)
+
+  -- ---- the target
+
+  -- the target's events as items: each at its number, new if no entry names it
+  abbrev pub placeds : List ℕ → ℕ → List Event → List Item
+  placeds ns k [] = []
+  placeds ns k (e ∷ t) = placed view ns k e ∷ placeds ns (suc k) t
+
+  pub target-clean : (ns : List ℕ) (k : ℕ) (b : List Item) (t : List Event) → T (eqb (targetAnswer view ns k b t .number) 0) → Supported b (placeds ns k t)
+  unfolding targetAnswer
+  target-clean ns k b [] h = tt
+  target-clean ns k b (e ∷ t) h =
+      let x = placed view ns k e in
+      let q = onward (eqb (targetFault b x) 0) _ (targetAnswer view ns (suc k) (x ∷ b) t) refl h in
+      (extra? b x .0 (pair (foreign x) (lone b x) (q .0)), target-clean ns (suc k) (x ∷ b) t (q .1))
+
+  pub clean-target : (ns : List ℕ) (k : ℕ) (b : List Item) (t : List Event) → Supported b (placeds ns k t) → targetAnswer view ns k b t ≡ done
+  unfolding targetAnswer
+  clean-target ns k b [] h = refl
+  clean-target ns k b (e ∷ t) h =
+      let x = placed view ns k e in
+      let f = targetFault b x in
+      taken (targetAnswer view ns (suc k) (x ∷ b) t) _ (eqb f 0) (pair′ (foreign x) (lone b x) (extra? b x .1 (h .0)))
+      ∙ clean-target ns (suc k) (x ∷ b) t (h .1)
+
+  -- ---- the source's faults, each kind by itself
+
+  pub split : (t : List Event) (b : List Item) (s : List Event) (ns : List ℕ) → Clean t b s ns
+      → Faithful t s ns × Sound b (items view s ns) × Ordered b (items view s ns)
+  split t b [] ns h = (tt, tt, tt)
+  split t b (e ∷ s) [] h = (tt, tt, tt)
+  split t b (e ∷ s) (n ∷ ns) h =
+      let r = split t (item (view e) (fate n) ∷ b) s ns (h .1) in
+      ((h .0 .0, r .0), (h .0 .1, r .1), (h .0 .2, r .2))
+
+  pub merge : (t : List Event) (b : List Item) (s : List Event) (ns : List ℕ) → Faithful t s ns → Sound b (items view s ns)
+      → Ordered b (items view s ns) → Clean t b s ns
+  merge t b [] ns f g o = tt
+  merge t b (e ∷ s) [] f g o = tt
+  merge t b (e ∷ s) (n ∷ ns) f g o = ((f .0, g .0, o .0), merge t (item (view e) (fate n) ∷ b) s ns (f .1) (g .1) (o .1))

@@ -1,0 +1,54 @@
+-- What it means for events to be the same, marks apart: each event is its own like, and the rules see two such events alike. Assumes nothing.
+use mathlib.Core.Path.{_≡_}
+use mathlib.Core.Bool.{Bool, true, false, cond, _&&_, _||_}
+use Prim.Native.Nat.{ℕ}
+use lib.Dec.{T, eqb, eqb→eq, eqb-refl}
+use Rattle.event.specs.declared.Event.{Event}
+use Rattle.event.specs.Kind.{used}
+use Rattle.rules.specs.View.{same, view, load, store, wall}
+use Rattle.rules.proofs.Matching.{Alike, equal, marked}
+use Rattle.rules.proofs.Truth.{and, and-left, and-right, or-right}
+
+pub same-refl : (e : Event) → T (same e e)
+same-refl e = go (eqb (e .kind) (e .kind)) (eqb (e .place) (e .place)) (eqb (e .first) (e .first)) (eqb (e .second) (e .second)) (eqb (e .code) (e .code))
+    (eqb (e .kind) 1) (eqb (e .order) (e .order)) (eqb-refl (e .kind)) (eqb-refl (e .place)) (eqb-refl (e .first)) (eqb-refl (e .second)) (eqb-refl (e .code))
+    (eqb-refl (e .order))
+  where
+    go : (a b c d f m o : Bool) → T a → T b → T c → T d → T f → T o → T (a && (b && (c && (d && (f && (m || o))))))
+    go a b c d f m o h i j k l n =
+        and a (b && (c && (d && (f && (m || o))))) h (and b (c && (d && (f && (m || o)))) i (and c (d && (f && (m || o))) j
+        (and d (f && (m || o)) k (and f (m || o) l (or-right m o n)))))
+
+-- what the same events share, as far as the rules and the memory go
+pub record Shared (e f : Event) : Type 0 where
+  pub kinds : e .kind ≡ f .kind
+  pub places : e .place ≡ f .place
+  pub firsts : e .first ≡ f .first
+  pub seconds : e .second ≡ f .second
+
+pub shared : (e f : Event) → T (same e f) → Shared e f
+shared e f h =
+    let a = eqb (e .kind) (f .kind) in
+    let b = eqb (e .place) (f .place) in
+    let c = eqb (e .first) (f .first) in
+    let d = eqb (e .second) (f .second) in
+    let g = eqb (e .code) (f .code) && (eqb (e .kind) 1 || eqb (e .order) (f .order)) in
+    let i = and-right a (b && (c && (d && g))) h in
+    let j = and-right b (c && (d && g)) i in
+    record {
+      kinds = eqb→eq (e .kind) (f .kind) (and-left a (b && (c && (d && g))) h);
+      places = eqb→eq (e .place) (f .place) (and-left b (c && (d && g)) i);
+      firsts = eqb→eq (e .first) (f .first) (and-left c (d && g) j);
+      seconds = eqb→eq (e .second) (f .second) (and-left d g (and-right c (d && g) j));
+    }
+
+alike-view : (c d : Bool) (p v : ℕ) (u u′ : Bool) → Alike (cond c (load p v u) (cond d (store p v) wall)) (cond c (load p v u′) (cond d (store p v) wall))
+alike-view true d p v u u′ = marked
+alike-view false true p v u u′ = equal
+alike-view false false p v u u′ = equal
+
+pub alike : (e f : Event) → T (same e f) → Alike (view e) (view f)
+alike e f h =
+    let r = shared e f h in
+    rw (r .kinds, r .places, r .firsts)
+    (alike-view (eqb (f .kind) 1) (eqb (f .kind) 2) (f .place) (f .first) (eqb (e .order) used) (eqb (f .order) used))

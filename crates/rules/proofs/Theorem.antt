@@ -1,0 +1,64 @@
+-- Demand 3. For a source and a target whose events are lawful and have the latest values, from equal starting memories, and for entries that are as
+-- many as the source events and that each name a target event of its own: the checker accepts exactly when a run of removals and swaps, then of
+-- insertions and swaps, leads from the source to the target, marks apart, every kept event ending at its number and every gone one removed.
+-- Accepting says that no event shows a fault, and without faults the run in the fixed order is such a run; a run, read backwards, shows no
+-- fault, 10 included. Assumes nothing.
+use mathlib.Core.Path.{_≡_, sym, _∙_, subst}
+use mathlib.Core.List.{List, []}
+use Prim.Native.Nat.{ℕ}
+use lib.Dec.{T, eqb}
+use lib.ListN.{length}
+use Rattle.event.specs.declared.Event.{Event}
+use Rattle.event.specs.Answer.{done, first}
+use Rattle.event.specs.declared.Answer.{Answer}
+use Rattle.event.specs.declared.memory.Memory.{Memory}
+use Rattle.rules.specs.View.{view}
+use Rattle.rules.specs.Verdict.{verdict, sourceAnswer, targetAnswer}
+use Rattle.rules.specs.Demand.{Passed, Demand3}
+use Rattle.rules.specs.Run.{Ends, Inserted, Traced, number, viewed}
+use Rattle.rules.proofs.Realise.{Faultfree, Ready, faultfree, in-order, realised}
+use Rattle.rules.proofs.Latest.{agrees-source, agrees-target, all-lawful}
+use Rattle.rules.proofs.Same.{alike}
+use Rattle.rules.proofs.Clean.{both, clean-source, clean-target, source-clean, target-clean}
+use Rattle.rules.proofs.Entries.{entries}
+use Rattle.rules.proofs.Effect.{sees}
+use Rattle.rules.proofs.Fixed.{InOrder}
+use Rattle.rules.proofs.Traced.{Leaves, Overtakes}
+
+module _ (m n : Memory) (s t : List Event) (ns : List ℕ) (p : Passed m n s t ns) where
+  ready : Ready view s t ns
+  ready =
+      let e = entries (length t) s ns (p .count) (p .entries) in
+      record {
+        entries = e;
+        source = agrees-source view sees m s ns (p .source-cells) (e .many) (p .source);
+        target = agrees-target view sees n ns t (p .target-cells) (p .target);
+        lawfuls = all-lawful n t (p .target);
+      }
+
+  -- what is left of the verdict
+  left : verdict view (m .cells) (n .cells) s t ns ≡ first (sourceAnswer view t 1 [] s ns) (targetAnswer view ns 1 [] t)
+  unfolding verdict
+  left = rw (p .start, p .count, p .entries)
+
+  pub clean-verdict : verdict view (m .cells) (n .cells) s t ns ≡ done → Faultfree view s t ns
+  clean-verdict h =
+      let c : T (eqb (first (sourceAnswer view t 1 [] s ns) (targetAnswer view ns 1 [] t) .number) 0) =
+      subst (λ (a : Answer). T (eqb (a .number) 0)) (sym (sym left ∙ h)) tt in
+      let b = both (sourceAnswer view t 1 [] s ns) (targetAnswer view ns 1 [] t) c in
+      record { at-source = source-clean view t 1 [] s ns (b .0); at-target = target-clean view ns 1 [] t (b .1) }
+
+  pub verdict-clean : Faultfree view s t ns → verdict view (m .cells) (n .cells) s t ns ≡ done
+  verdict-clean f = left ∙ rw (clean-source view t 1 [] s ns (f .at-source)) (clean-target view ns 1 [] t (f .at-target))
+
+  -- an accepted matching has the run in the fixed order: the highest removable gone event first, then the lowest place against the target's
+  -- order, then the insertions by rising number
+  pub in-fixed-order : verdict view (m .cells) (n .cells) s t ns ≡ done → (u : List Traced)
+      × InOrder (viewed view) (Leaves view s t ns) (Overtakes view s t ns) Inserted (number 1 s) u × Ends ns 1 u t
+  in-fixed-order h = in-order view alike s t ns ready (clean-verdict h)
+
+pub demand-3 : Demand3
+demand-3 m n s t ns p = (
+  λ h. realised view alike s t ns (ready m n s t ns p) (clean-verdict m n s t ns p h),
+  λ r. verdict-clean m n s t ns p (faultfree view alike s t ns (ready m n s t ns p) r),
+)

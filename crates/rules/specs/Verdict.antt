@@ -1,0 +1,78 @@
+-- Document 01, "Numbers that come back": the answer to two traces and a matching that were read without refusal, and the order of its
+-- tests. Places count from 1, but for a location. Assumes nothing.
+use mathlib.Core.Bool.{not, cond, _&&_, _||_}
+use mathlib.Core.List.{List, [], _∷_}
+use Prim.Native.Nat.{ℕ, suc}
+use lib.Dec.{eqb, ltb}
+use lib.ListN.{length}
+use Rattle.event.specs.Kind.{has}
+use Rattle.event.specs.declared.Event.{Event}
+use Rattle.event.specs.declared.Answer.{Answer}
+use Rattle.event.specs.Answer.{answer, done, first}
+use Rattle.rules.specs.View.{View}
+use Rattle.rules.specs.Fault.{Item, item, stays, fate, unlike, wallGone, crossed, loadGone, storeGone, foreign, lone}
+
+-- 7: starting values differ, from the location l on; the place is the lowest such location.
+unfoldable pub startAnswer : ℕ → List ℕ → List ℕ → Answer
+startAnswer l [] n = done
+startAnswer l (v ∷ m) [] = done
+startAnswer l (v ∷ m) (w ∷ n) = cond (eqb v w) (startAnswer (suc l) m n) (answer 7 2 l)
+
+-- 8: matching entries are not as many as source events; the place is their number.
+unfoldable pub countAnswer : List Event → List ℕ → Answer
+countAnswer s ns = cond (eqb (length ns) (length s)) done (answer 8 3 (length ns))
+
+-- 9: a kept target number is beyond the target, of n events, or used by an earlier entry; the entries begin at the number i, behind b.
+unfoldable pub entryAnswer : ℕ → ℕ → List ℕ → List ℕ → Answer
+entryAnswer n i b [] = done
+entryAnswer n i b (k ∷ ks) =
+    cond (not (eqb k 0) && (ltb n k || has k b)) (answer 9 3 i) (entryAnswer n (suc i) (k ∷ b) ks)
+
+-- The first of 10 to 14 that a source event shows, or 0.
+abbrev pub sourceFault : List Event → List Item → Event → ℕ → Item → List Item → ℕ
+sourceFault t b e n x a =
+    cond (unlike t e n) 10
+    (cond (wallGone x) 11
+    (cond (crossed b x) 12
+    (cond (loadGone b x) 13
+    (cond (storeGone b x a) 14 0))))
+
+-- The first of 15 and 16 that a target event shows, or 0.
+abbrev pub targetFault : List Item → Item → ℕ
+targetFault b x = cond (foreign x) 15 (cond (lone b x) 16 0)
+
+module _ (view : Event → View) where
+  -- The source events with the fates that their entries name.
+  abbrev pub items : List Event → List ℕ → List Item
+  items [] ns = []
+  items (e ∷ s) [] = []
+  items (e ∷ s) (n ∷ ns) = item (view e) (fate n) ∷ items s ns
+
+  -- A target event of number k as the faults see it: it has a source if an entry names it.
+  abbrev pub placed : List ℕ → ℕ → Event → Item
+  placed ns k e = item (view e) (stays (not (has k ns)) k)
+
+  -- 10 to 14 over the source events upward, from the number i on, behind b.
+  unfoldable pub sourceAnswer : List Event → ℕ → List Item → List Event → List ℕ → Answer
+  sourceAnswer t i b [] ns = done
+  sourceAnswer t i b (e ∷ s) [] = done
+  sourceAnswer t i b (e ∷ s) (n ∷ ns) =
+      let x = item (view e) (fate n) in
+      let k = sourceFault t b e n x (items s ns) in
+      cond (eqb k 0) (sourceAnswer t (suc i) (x ∷ b) s ns) (answer k 1 i)
+
+  -- 15 and 16 over the target events upward, from the number k on, behind b.
+  unfoldable pub targetAnswer : List ℕ → ℕ → List Item → List Event → Answer
+  targetAnswer ns k b [] = done
+  targetAnswer ns k b (e ∷ t) =
+      let x = placed ns k e in
+      let f = targetFault b x in
+      cond (eqb f 0) (targetAnswer ns (suc k) (x ∷ b) t) (answer f 2 k)
+
+  -- The answer: 7, 8, 9 over all entries, then the source events, then the target events.
+  unfoldable pub verdict : List ℕ → List ℕ → List Event → List Event → List ℕ → Answer
+  verdict m n s t ns =
+      first (startAnswer 0 m n)
+      (first (countAnswer s ns)
+      (first (entryAnswer (length t) 1 [] ns)
+      (first (sourceAnswer t 1 [] s ns) (targetAnswer ns 1 [] t))))

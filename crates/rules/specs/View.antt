@@ -1,0 +1,51 @@
+-- Document 01, "Rules of change": what the rules see of an event, plain or synchronising. Assumes nothing.
+use mathlib.Core.Bool.{Bool, false, not, cond, _&&_, _||_}
+use mathlib.Core.Option.{Option, none, some}
+use Prim.Native.Nat.{ℕ}
+use lib.Dec.{eqb}
+use Rattle.event.specs.Kind.{used}
+use Rattle.event.specs.declared.Event.{Event}
+
+-- A plain event is a load, which says whether its value is used, or a store; every synchronising event is a wall.
+pub data View : Type 0 where
+  wall : View
+  load : (place value : ℕ) (used : Bool) → View
+  store : (place value : ℕ) → View
+
+-- The one function through which the rules see an event: kind 1 is a load, kind 2 a store, every other kind synchronises.
+abbrev pub view : Event → View
+view e =
+    cond (eqb (e .kind) 1) (load (e .place) (e .first) (eqb (e .order) used))
+    (cond (eqb (e .kind) 2) (store (e .place) (e .first)) wall)
+
+-- The location of a plain event; a synchronising one has none here.
+abbrev pub placeOf : View → Option ℕ
+placeOf wall = none
+placeOf (load p v u) = some p
+placeOf (store p v) = some p
+
+-- The value that a plain event reads or writes.
+abbrev pub valueOf : View → ℕ
+valueOf wall = 0
+valueOf (load p v u) = v
+valueOf (store p v) = v
+
+-- There are two locations, and they differ.
+abbrev pub differ : Option ℕ → Option ℕ → Bool
+differ none q = false
+differ (some p) none = false
+differ (some p) (some q) = not (eqb p q)
+
+-- Two plain events at different locations.
+abbrev pub apart : View → View → Bool
+apart v w = differ (placeOf v) (placeOf w)
+
+-- Two events are the same, the marks of loads apart.
+abbrev pub same : Event → Event → Bool
+same e f =
+    eqb (e .kind) (f .kind)
+    && (eqb (e .place) (f .place)
+    && (eqb (e .first) (f .first)
+    && (eqb (e .second) (f .second)
+    && (eqb (e .code) (f .code)
+    && (eqb (e .kind) 1 || eqb (e .order) (f .order))))))
