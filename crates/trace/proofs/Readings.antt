@@ -1,0 +1,75 @@
+-- A reading by what its survey says and by the room: a refusal counts no event, and else the count is that of the text's events.
+-- Assumes nothing.
+use Prim.Native.Nat.{ℕ, _/_, _≤_, _<_}
+use mathlib.Core.Path.{_≡_, refl, sym, _∙_}
+use mathlib.Core.Bool.{Bool, true, false, cond}
+use mathlib.Core.List.{List, [], _∷_}
+use native.Mathlib.Omega.{arith}
+use lib.Dec.{eqb, ltb}
+use lib.ListN.{length}
+use borrow.Author.Tests.{eqb-true, eqb-false, eq-eqb, ne-eqb, le-leb, lt-leb}
+use Rattle.laws.proofs.Cases.{cases, either}
+use Rattle.event.specs.Answer.{answer, first}
+use Rattle.event.specs.Memory.{empty}
+use Rattle.event.specs.declared.Answer.{Answer}
+use Rattle.event.specs.declared.memory.Memory.{Memory}
+use Rattle.text.specs.Line.{split}
+use Rattle.text.specs.Word.{same}
+use Rattle.trace.specs.Layout.{header}
+use Rattle.trace.specs.Fault.{eventFault}
+use Rattle.trace.specs.Reading.{textLimit, initsFault, eventsIn, startFrom, refused, settle, surveyInits, surveyParts, surveyOf, body, eventsOf, readOf, front, roomAfter}
+use Rattle.trace.specs.declared.reading.TraceRead.{TraceRead}
+
+-- what a survey counts: n events where it does not refuse, none where it does
+pub record Counts (n : ℕ) (r : TraceRead) : Type 0 where
+  pub passed : r .answer .number ≡ 0 → r .events ≡ n
+  pub refuses : (r .answer .number ≡ 0 → ⊥) → r .events ≡ 0
+
+counts-refused : (n : ℕ) (a : Answer) → (a .number ≡ 0 → ⊥) → Counts n (refused a)
+counts-refused n a h = record { passed = λ z. absurd (h z); refuses = λ _. refl }
+
+counts-settle : (a : Answer) (n : ℕ) (m : Memory) → Counts n (settle a n m)
+counts-settle a n m =
+    cases (either (eqb (a .number) 0)) (λ e. rw e (record { passed = λ _. refl; refuses = λ h. absurd (h refl) }))
+    (λ e. rw e (counts-refused n a (eqb-false (a .number) 0 e)))
+
+counts-if : (b : Bool) (n : ℕ) (r s : TraceRead) → Counts n r → Counts n s → Counts n (cond b r s)
+counts-if true n r s p q = p
+counts-if false n r s p q = q
+
+counts-inits : (side k low : ℕ) (m : Memory) (ls : List (List ℕ)) → Counts (length (eventsIn ls)) (surveyInits side k low m ls)
+unfolding surveyInits
+counts-inits side k low m ls =
+    counts-settle (first (initsFault side k low ls) (eventFault side 1 (startFrom m ls) [] (eventsIn ls))) (length (eventsIn ls)) (startFrom m ls)
+
+counts-parts : (side : ℕ) (ls : List (List ℕ)) → Counts (length (eventsIn (body ls))) (surveyParts side ls)
+unfolding surveyParts
+counts-parts side [] = counts-refused _ (answer 2 side 1) (λ z. omega arith)
+counts-parts side (l ∷ []) = counts-refused _ (answer 2 side 1) (λ z. omega arith)
+counts-parts side (l ∷ m ∷ ls) =
+    counts-if (same l header) _ _ _ (counts-inits side 2 0 empty (m ∷ ls)) (counts-refused _ (answer 2 side 1) (λ z. omega arith))
+
+pub counts : (side : ℕ) (t : List ℕ) → Counts (length (eventsOf t)) (surveyOf side t)
+unfolding surveyOf eventsOf
+counts side t = counts-if (ltb textLimit (length t)) _ _ _ (counts-refused _ (answer 1 side 0) (λ z. omega arith)) (counts-parts side (split t))
+
+module _ (side : ℕ) (t room : List ℕ) where
+  -- the survey refuses
+  pub read-refused : (surveyOf side t .answer .number ≡ 0 → ⊥) → (readOf side t room ≡ surveyOf side t) × (roomAfter side t room ≡ room)
+  unfolding readOf roomAfter
+  read-refused h =
+      let z : surveyOf side t .events ≤ length room / 6 = omega (arith, counts side t .refuses h) in
+      (rw (le-leb (surveyOf side t .events) (length room / 6) z), rw (le-leb (surveyOf side t .events) (length room / 6) z, ne-eqb _ _ h))
+
+  -- the room is too short
+  pub read-short : length room / 6 < surveyOf side t .events
+      → (readOf side t room ≡ refused (answer 17 side (surveyOf side t .events))) × (roomAfter side t room ≡ room)
+  unfolding readOf roomAfter
+  read-short h = (rw (lt-leb (surveyOf side t .events) (length room / 6) h), rw (lt-leb (surveyOf side t .events) (length room / 6) h))
+
+  -- it is not
+  pub read-done : surveyOf side t .answer .number ≡ 0 → surveyOf side t .events ≤ length room / 6
+      → (readOf side t room ≡ surveyOf side t) × (roomAfter side t room ≡ front (eventsOf t) room)
+  unfolding readOf roomAfter
+  read-done z h =
+      (rw (le-leb (surveyOf side t .events) (length room / 6) h), rw (le-leb (surveyOf side t .events) (length room / 6) h, z))

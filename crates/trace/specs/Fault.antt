@@ -1,0 +1,29 @@
+-- Document 01, "Numbers that come back": answers 5 and 6, event by event. Assumes nothing.
+use Prim.Native.Nat.{ℕ, suc, _+_}
+use mathlib.Core.Bool.{Bool, true, false, cond, _&&_, _||_}
+use mathlib.Core.List.{List, [], _∷_}
+use lib.Dec.{eqb}
+use Rattle.event.specs.Answer.{answer, done}
+use Rattle.event.specs.Kind.{plain, atomic}
+use Rattle.event.specs.Memory.{stepped}
+use Rattle.event.specs.declared.Answer.{Answer}
+use Rattle.event.specs.declared.Event.{Event}
+use Rattle.event.specs.declared.memory.Memory.{Memory}
+
+-- Whether some event of a list is of a class and at a location.
+unfoldable pub uses : (Event → Bool) → ℕ → List Event → Bool
+uses class l [] = false
+uses class l (e ∷ es) = (class e && eqb (e .place) l) || uses class l es
+
+-- Whether an event clashes with an earlier one: one is plain and the other atomic, at one location.
+abbrev pub clashes : List Event → Event → Bool
+clashes before e = (plain e && uses atomic (e .place) before) || (atomic e && uses plain (e .place) before)
+
+-- The first fault 5 or 6 of the events es, the first of which has the number k: behind the events `before`, nearest first, with
+-- the memory as they left it.
+unfoldable pub eventFault : ℕ → ℕ → Memory → List Event → List Event → Answer
+eventFault side k m before [] = done
+eventFault side k m before (e ∷ es) =
+    cond (clashes before e) (answer 5 side k)
+    (cond (stepped m e .right) (eventFault side (k + 1) (stepped m e .memory) (e ∷ before) es)
+    (answer 6 side k))

@@ -1,0 +1,64 @@
+-- Document 01, "Lent room" and "The writer": a starting memory and a room written as a text. Assumes nothing.
+use Prim.Native.Nat.{ℕ, _+_, _/_}
+use mathlib.Core.Bool.{Bool, true, false, cond}
+use mathlib.Core.List.{List, [], _∷_, _++_, map}
+use lib.Dec.{eqb, leb, ltb}
+use lib.ListN.{length, drop}
+use Rattle.event.specs.Answer.{answer, done, first}
+use Rattle.event.specs.Kind.{lawful}
+use Rattle.event.specs.Room.{onward}
+use Rattle.event.specs.declared.Answer.{Answer}
+use Rattle.event.specs.declared.Event.{Event}
+use Rattle.event.specs.declared.memory.Memory.{Memory}
+use Rattle.trace.specs.Layout.{header, initLine, eventLine}
+use Rattle.trace.specs.Fault.{eventFault}
+use Rattle.trace.specs.Reading.{eventLimit}
+
+-- How many events a part of a room has: one that is cut short at its end counts.
+abbrev pub countOf : List ℕ → ℕ
+countOf room = (length room + 5) / 6
+
+-- Its events; one that is cut short is no event, which is not lawful.
+abbrev pub roomEvents : List ℕ → List Event
+roomEvents room = onward room 0 (countOf room)
+
+-- 18: the first event that is outside the layout, the first of the list having the number k.
+unfoldable pub layoutFault : ℕ → List Event → Answer
+layoutFault k [] = done
+layoutFault k (e ∷ es) = cond (lawful e) (layoutFault (k + 1) es) (answer 18 0 k)
+
+-- Each line with its LF.
+unfoldable pub textOf : List (List ℕ) → List ℕ
+textOf [] = []
+textOf (l ∷ ls) = l ++ 10 ∷ textOf ls
+
+-- The `init` lines of the cells from a location on: none for a cell of 0.
+unfoldable pub initLines : ℕ → List ℕ → List (List ℕ)
+initLines l [] = []
+initLines l (v ∷ vs) = cond (eqb v 0) (initLines (l + 1) vs) (initLine l v ∷ initLines (l + 1) vs)
+
+-- The text of a trace.
+unfoldable pub traceText : Memory → List Event → List ℕ
+traceText m es = textOf (header ∷ initLines 0 (m .cells) ++ map eventLine es)
+
+-- Answers 3, 18, 5 and 6 of the writer.
+unfoldable pub roomFault : Memory → List ℕ → Answer
+roomFault m room =
+    cond (ltb eventLimit (countOf room)) (answer 3 0 (eventLimit + 1))
+    (first (layoutFault 1 (roomEvents room)) (eventFault 0 1 m [] (roomEvents room)))
+
+-- The bytes needed.
+abbrev pub bytesOf : Memory → List ℕ → ℕ
+bytesOf m room = length (traceText m (roomEvents room))
+
+-- 17: the room for the bytes is too short; else 0 with the bytes written.
+abbrev pub inOut : ℕ → List ℕ → Answer
+inOut n out = cond (leb n (length out)) (answer 0 0 n) (answer 17 0 n)
+
+unfoldable pub writeOf : Memory → List ℕ → List ℕ → Answer
+writeOf m room out = first (roomFault m room) (inOut (bytesOf m room) out)
+
+-- What the lent bytes hold afterwards: the text at the front; a refusal changes nothing.
+unfoldable pub outAfter : Memory → List ℕ → List ℕ → List ℕ
+outAfter m room out =
+    cond (eqb (writeOf m room out .number) 0) (traceText m (roomEvents room) ++ drop (bytesOf m room) out) out

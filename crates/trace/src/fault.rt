@@ -1,0 +1,51 @@
+// Answers 5 and 6: what one event more brings.
+ghost use mathlib.Core.Path.{_≡_};
+ghost use Rattle.trace.specs.Way.{wayOf, opposed, joined};
+use event::Word;
+use event::kind::Place;
+use event::kind::row_of;
+
+// How a location is used: not at all, by plain events, by atomic ones.
+pub const UNUSED: Word = 0;
+
+pub const PLAIN: Word = 1;
+
+pub const ATOMIC: Word = 2;
+
+// The way in which an event of a kind uses its location.
+pub fn way_of(kind: Word) -> Word
+    ensures { λ r. ⌜ r ≡ wayOf kind ⌝ }
+{
+    let row = row_of(kind);
+    let place = row.place;
+    let Place::Location = place else {
+        return UNUSED;
+    };
+    if row.sync {
+        return ATOMIC;
+    }
+    PLAIN
+}
+
+// Whether a location that was used in one way is now used in the other.
+pub fn are_opposed(was: Word, way: Word) -> bool
+    ensures { λ r. ⌜ r ≡ opposed was way ⌝ }
+{
+    if was == PLAIN {
+        return way == ATOMIC;
+    }
+    if was == ATOMIC {
+        return way == PLAIN;
+    }
+    false
+}
+
+// How a location is used after one event more.
+pub fn joined_way(was: Word, way: Word) -> Word
+    ensures { λ r. ⌜ r ≡ joined was way ⌝ }
+{
+    if way == UNUSED {
+        return was;
+    }
+    way
+}
