@@ -1,20 +1,20 @@
--- A reading by what its survey says and by the room: a refusal counts no entry, and else the count is that of the text's entries.
+-- What a reading counts: a refusal counts no entry, and else the count is that of the text's entries.
 -- Assumes nothing.
-use Prim.Native.Nat.{ℕ, _+_, _≤_, _<_}
-use mathlib.Core.Path.{_≡_, refl, sym, _∙_, subst}
+use Prim.Native.Nat.{ℕ, _+_, _≤_}
+use mathlib.Core.Path.{_≡_, refl, sym, _∙_}
 use mathlib.Core.Bool.{Bool, true, false, cond}
 use mathlib.Core.List.{List, [], _∷_}
 use native.Mathlib.Omega.{arith}
-use lib.Dec.{eqb, ltb}
+use lib.Dec.{eqb, leb, ltb}
 use lib.ListN.{length}
-use borrow.Author.Tests.{eqb-false, ne-eqb, le-leb, lt-leb}
+use borrow.Author.Tests.{eqb-false, leb-true}
 use Rattle.laws.proofs.Cases.{cases, either}
 use Rattle.event.specs.Answer.{answer}
 use Rattle.event.specs.declared.Answer.{Answer}
 use Rattle.text.specs.Line.{split}
 use Rattle.text.specs.Word.{same}
 use Rattle.matching.specs.Entry.{header}
-use Rattle.matching.specs.Reading.{textLimit, linesFault, entriesIn, refused, settle, surveyLines, surveyParts, surveyOf, body, entriesOf, readOf, front, roomAfter}
+use Rattle.matching.specs.Reading.{textLimit, linesFault, entriesIn, refused, settle, surveyLines, surveyParts, surveyOf, body, entriesOf, readOf}
 use Rattle.matching.specs.declared.MatchingRead.{MatchingRead}
 
 -- what a survey counts: n entries where it does not refuse, none where it does
@@ -48,21 +48,13 @@ pub counts : (t : List ℕ) → Counts (length (entriesOf t)) (surveyOf t)
 unfolding surveyOf entriesOf
 counts t = counts-if (ltb textLimit (length t)) _ _ _ (counts-refused _ (answer 1 3 0) (λ z. omega arith)) (counts-parts (split t))
 
-module _ (t room : List ℕ) where
-  -- the survey refuses
-  pub read-refused : (surveyOf t .answer .number ≡ 0 → ⊥) → (readOf t room ≡ surveyOf t) × (roomAfter t room ≡ room)
-  unfolding readOf roomAfter
-  read-refused h =
-      let z : surveyOf t .entries ≤ length room = omega (arith, counts t .refuses h) in
-      (rw (le-leb (surveyOf t .entries) (length room) z), rw (le-leb (surveyOf t .entries) (length room) z, ne-eqb _ _ h))
+-- a reading that does not refuse has room for the entries
+fits-if : (b : Bool) (n : ℕ) (r : MatchingRead) → Counts n r → cond b r (refused (answer 17 3 (r .entries))) .answer .number ≡ 0 → (b ≡ true) × (r .entries ≡ n)
+fits-if true n r c z = (refl, c .passed z)
+fits-if false n r c z = absurd (omega arith)
 
-  -- the room is too short
-  pub read-short : length room < surveyOf t .entries → (readOf t room ≡ refused (answer 17 3 (surveyOf t .entries))) × (roomAfter t room ≡ room)
-  unfolding readOf roomAfter
-  read-short h = (rw (lt-leb (surveyOf t .entries) (length room) h), rw (lt-leb (surveyOf t .entries) (length room) h))
-
-  -- it is not
-  pub read-done : surveyOf t .answer .number ≡ 0 → surveyOf t .entries ≤ length room
-      → (readOf t room ≡ surveyOf t) × (roomAfter t room ≡ front (entriesOf t) room)
-  unfolding readOf roomAfter
-  read-done z h = (rw (le-leb (surveyOf t .entries) (length room) h), rw (le-leb (surveyOf t .entries) (length room) h, z))
+pub read-fits : (t room : List ℕ) → readOf t room .answer .number ≡ 0 → length (entriesOf t) ≤ length room
+unfolding readOf
+read-fits t room z =
+    let f = fits-if (leb (surveyOf t .entries) (length room)) (length (entriesOf t)) (surveyOf t) (counts t) z in
+    omega (arith, f .1, leb-true (surveyOf t .entries) (length room) (f .0))

@@ -70,13 +70,13 @@ body (l ∷ ls) = ls
 unfoldable pub entriesOf : List ℕ → List ℕ
 entriesOf t = entriesIn (body (split t))
 
--- 17, after the others: whether a room holds the entries.
-abbrev pub inRoom : List ℕ → MatchingRead → MatchingRead
-inRoom room r = cond (leb (r .entries) (length room)) r (refused (answer 17 3 (r .entries)))
+-- 17, after the others: a room of so many words does not hold the entries.
+abbrev pub inRoom : ℕ → MatchingRead → MatchingRead
+inRoom words r = cond (leb (r .entries) words) r (refused (answer 17 3 (r .entries)))
 
 -- A reading, by its text and the room lent.
 unfoldable pub readOf : List ℕ → List ℕ → MatchingRead
-readOf t room = inRoom room (surveyOf t)
+readOf t room = inRoom (length room) (surveyOf t)
 
 -- A room with a line's entry at an index, and the index after the line.
 abbrev pub placed : List ℕ → ℕ → EntryRead → List ℕ

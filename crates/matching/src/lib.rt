@@ -6,7 +6,7 @@ ghost use Prim.Native.Nat.{_≤_, _<_};
 ghost use lib.ListN.{length, set};
 ghost use Rattle.text.specs.Line.{splitFrom};
 ghost use Rattle.event.specs.Answer.{answer};
-ghost use Rattle.matching.specs.Reading.{refused, surveyLines, surveyOf, entriesOf, front, readOf, roomAfter, placed, nextIndex};
+ghost use Rattle.matching.specs.Reading.{refused, surveyLines, surveyOf, inRoom, entriesOf, front, readOf, roomAfter, placed, nextIndex};
 use entry::EntryRead;
 use entry::entry_of;
 use event::Answer;
@@ -82,6 +82,18 @@ pub fn survey(text: &[u8]) -> MatchingRead
     survey_lines(text, end + 1)
 }
 
+// Answers 1 to 3 and 17, for a room of so many words.
+pub fn survey_in(text: &[u8], words: usize) -> MatchingRead
+    ensures { λ r. ⌜ r ≡ inRoom words (surveyOf (now (text .entry))) ⌝ }
+{
+    let surveyed = survey(text);
+    let entries = surveyed.entries;
+    if words < entries {
+        return refusal(17, entries);
+    }
+    surveyed
+}
+
 // A word at an index; where the room does not hold it, the room stays as it is.
 fn put(room: &mut [Word], i: usize, e: Word)
     ensures { λ _. ⌜ now (room .exit) ≡ set (now (room .entry)) i e ⌝ }
@@ -123,14 +135,10 @@ pub fn store(text: &[u8], room: &mut [Word])
 pub fn read(text: &[u8], room: &mut [Word]) -> MatchingRead
     ensures { λ r. ⌜ (r ≡ readOf (now (text .entry)) (now (room .entry))) × (now (room .exit) ≡ roomAfter (now (text .entry)) (now (room .entry))) ⌝ }
 {
-    let surveyed = survey(text);
+    let surveyed = survey_in(text, room.len());
     let found = surveyed.answer;
     if found.number != 0 {
         return surveyed;
-    }
-    let entries = surveyed.entries;
-    if room.len() < entries {
-        return refusal(17, entries);
     }
     store(text, room);
     surveyed

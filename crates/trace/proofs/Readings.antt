@@ -1,13 +1,13 @@
--- A reading by what its survey says and by the room: a refusal counts no event, and else the count is that of the text's events.
+-- What a reading counts: a refusal counts no event, and else the count is that of the text's events.
 -- Assumes nothing.
-use Prim.Native.Nat.{ℕ, _/_, _≤_, _<_}
+use Prim.Native.Nat.{ℕ, _*_, _/_, _≤_}
 use mathlib.Core.Path.{_≡_, refl, sym, _∙_}
 use mathlib.Core.Bool.{Bool, true, false, cond}
 use mathlib.Core.List.{List, [], _∷_}
 use native.Mathlib.Omega.{arith}
-use lib.Dec.{eqb, ltb}
+use lib.Dec.{eqb, leb, ltb}
 use lib.ListN.{length}
-use borrow.Author.Tests.{eqb-true, eqb-false, eq-eqb, ne-eqb, le-leb, lt-leb}
+use borrow.Author.Tests.{eqb-false, leb-true}
 use Rattle.laws.proofs.Cases.{cases, either}
 use Rattle.event.specs.Answer.{answer, first}
 use Rattle.event.specs.Memory.{empty}
@@ -17,7 +17,7 @@ use Rattle.text.specs.Line.{split}
 use Rattle.text.specs.Word.{same}
 use Rattle.trace.specs.Layout.{header}
 use Rattle.trace.specs.Fault.{eventFault}
-use Rattle.trace.specs.Reading.{textLimit, initsFault, eventsIn, startFrom, refused, settle, surveyInits, surveyParts, surveyOf, body, eventsOf, readOf, front, roomAfter}
+use Rattle.trace.specs.Reading.{textLimit, initsFault, eventsIn, startFrom, refused, settle, surveyInits, surveyParts, surveyOf, body, eventsOf, readOf}
 use Rattle.trace.specs.declared.reading.TraceRead.{TraceRead}
 
 -- what a survey counts: n events where it does not refuse, none where it does
@@ -53,23 +53,13 @@ pub counts : (side : ℕ) (t : List ℕ) → Counts (length (eventsOf t)) (surve
 unfolding surveyOf eventsOf
 counts side t = counts-if (ltb textLimit (length t)) _ _ _ (counts-refused _ (answer 1 side 0) (λ z. omega arith)) (counts-parts side (split t))
 
-module _ (side : ℕ) (t room : List ℕ) where
-  -- the survey refuses
-  pub read-refused : (surveyOf side t .answer .number ≡ 0 → ⊥) → (readOf side t room ≡ surveyOf side t) × (roomAfter side t room ≡ room)
-  unfolding readOf roomAfter
-  read-refused h =
-      let z : surveyOf side t .events ≤ length room / 6 = omega (arith, counts side t .refuses h) in
-      (rw (le-leb (surveyOf side t .events) (length room / 6) z), rw (le-leb (surveyOf side t .events) (length room / 6) z, ne-eqb _ _ h))
+-- a reading that does not refuse has room for the events
+fits-if : (b : Bool) (side n : ℕ) (r : TraceRead) → Counts n r → cond b r (refused (answer 17 side (r .events))) .answer .number ≡ 0 → (b ≡ true) × (r .events ≡ n)
+fits-if true side n r c z = (refl, c .passed z)
+fits-if false side n r c z = absurd (omega arith)
 
-  -- the room is too short
-  pub read-short : length room / 6 < surveyOf side t .events
-      → (readOf side t room ≡ refused (answer 17 side (surveyOf side t .events))) × (roomAfter side t room ≡ room)
-  unfolding readOf roomAfter
-  read-short h = (rw (lt-leb (surveyOf side t .events) (length room / 6) h), rw (lt-leb (surveyOf side t .events) (length room / 6) h))
-
-  -- it is not
-  pub read-done : surveyOf side t .answer .number ≡ 0 → surveyOf side t .events ≤ length room / 6
-      → (readOf side t room ≡ surveyOf side t) × (roomAfter side t room ≡ front (eventsOf t) room)
-  unfolding readOf roomAfter
-  read-done z h =
-      (rw (le-leb (surveyOf side t .events) (length room / 6) h), rw (le-leb (surveyOf side t .events) (length room / 6) h, z))
+pub read-fits : (side : ℕ) (t room : List ℕ) → readOf side t room .answer .number ≡ 0 → length (eventsOf t) * 6 ≤ length room
+unfolding readOf
+read-fits side t room z =
+    let f = fits-if (leb (surveyOf side t .events) (length room / 6)) side (length (eventsOf t)) (surveyOf side t) (counts side t) z in
+    omega (arith, f .1, leb-true (surveyOf side t .events) (length room / 6) (f .0))

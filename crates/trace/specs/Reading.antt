@@ -107,16 +107,13 @@ body (l ∷ ls) = ls
 unfoldable pub eventsOf : List ℕ → List Event
 eventsOf t = eventsIn (body (split t))
 
--- 17, after the others: whether a room holds the events.
-abbrev pub holds : List ℕ → ℕ → Bool
-holds room n = leb n (length room / 6)
-
-abbrev pub inRoom : ℕ → List ℕ → TraceRead → TraceRead
-inRoom side room r = cond (holds room (r .events)) r (refused (answer 17 side (r .events)))
+-- 17, after the others: a room of so many words does not hold the events.
+abbrev pub inRoom : ℕ → ℕ → TraceRead → TraceRead
+inRoom side words r = cond (leb (r .events) (words / 6)) r (refused (answer 17 side (r .events)))
 
 -- A reading, by its text and the room lent.
 unfoldable pub readOf : ℕ → List ℕ → List ℕ → TraceRead
-readOf side t room = inRoom side room (surveyOf side t)
+readOf side t room = inRoom side (length room) (surveyOf side t)
 
 -- A room with events at its front.
 abbrev pub front : List Event → List ℕ → List ℕ

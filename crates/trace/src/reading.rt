@@ -5,7 +5,7 @@ ghost use lib.ListN.{length};
 ghost use Rattle.event.specs.Answer.{answer, first};
 ghost use Rattle.event.specs.Memory.{empty as emptyMemory};
 ghost use Rattle.text.specs.Line.{splitFrom};
-ghost use Rattle.trace.specs.Reading.{linesFault, surveyInits, surveyOf, refused, eventsOf, front};
+ghost use Rattle.trace.specs.Reading.{linesFault, surveyInits, surveyOf, refused, inRoom, eventsOf, front};
 ghost use Rattle.trace.specs.Survey.{surveyEvents, placed, nextIndex};
 use crate::fault::are_opposed;
 use crate::fault::joined_way;
@@ -13,6 +13,7 @@ use crate::fault::way_of;
 use crate::record::Record;
 use crate::record::record_of;
 use event::Answer;
+use event::WORDS;
 use event::Word;
 use event::index_of;
 use event::memory::Memory;
@@ -182,6 +183,18 @@ pub fn survey(text: &[u8], side: Word) -> TraceRead
         return refusal(Answer::new(2, side, 1));
     }
     survey_lines(text, end + 1, side)
+}
+
+// Answers 1 to 6 and 17, for a room of so many words.
+pub fn survey_in(text: &[u8], side: Word, words: usize) -> TraceRead
+    ensures { λ r. ⌜ r ≡ inRoom side words (surveyOf side (now (text .entry))) ⌝ }
+{
+    let surveyed = survey(text, side);
+    let events = surveyed.events;
+    if words / WORDS < events {
+        return refusal(Answer::new(17, side, events));
+    }
+    surveyed
 }
 
 // The room with a line's event at an index; what comes back is the next index.

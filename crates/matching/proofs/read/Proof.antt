@@ -1,56 +1,35 @@
--- The survey decides, then the room's length; only then anything is stored. Assumes nothing.
-use mathlib.Core.Path.{sym, _∙_, ap}
-use native.Mathlib.Omega.{arith}
-use Rattle.matching.proofs.Readings.{counts, read-refused, read-short, read-done}
+-- The survey decides, and only then anything is stored. Assumes nothing.
+use borrow.Author.Tests.{eq-eqb, ne-eqb}
+use Rattle.matching.specs.Reading.{readOf, roomAfter}
+use Rattle.matching.proofs.Readings.{read-fits}
 use borrow.Author.Needs.{needs}
 use Rattle.matching.proofs.read.Statement.{statement}
 use Rattle.matching.proofs.read.Tie as tie
 
-survey-requires : tie.Need-survey-requires
-survey-requires c κs = search needs
+survey-in-requires : tie.Need-survey-in-requires
+survey-in-requires c κs = search needs
 
 returns : tie.Need-returns
+unfolding readOf roomAfter
 returns c =
     let v = c .before .before .before in
-    let a = v .before .before .before .args in
-    let r = read-refused (a .text .now) (a .room .now) (rw (v .survey .ensures) at (c .if1 .taken)) in
-    (v .survey .ensures ∙ sym (r .0), sym (r .1))
-
-refusal-requires : tie.Need-refusal-requires
-refusal-requires c κs = search needs
-
-returns-2 : tie.Need-returns-2
-returns-2 c =
-    let v = c .before .before .before .before .before in
-    let a = v .before .before .before .args in
-    let r = read-short (a .text .now) (a .room .now) (rw (v .survey .ensures) at (c .before .if2 .taken)) in
-    (c .refusal .ensures ∙ rw (v .survey .ensures) (sym (r .0)), sym (r .1))
+    (v .survey-in .ensures, rw (← v .survey-in .ensures, ne-eqb _ _ (c .if1 .taken)))
 
 store-requires : tie.Need-store-requires
+unfolding readOf
 store-requires c κs =
-    let v = c .before .before .before .before .before in
-    let n = counts (v .before .before .before .args .text .now) .passed (rw (v .survey .ensures) at (c .before .before .if1 .left)) in
-    omega (arith, n, rw (v .survey .ensures) at (c .before .if2 .left))
+    let v = c .before .before .before .before in
+    let a = v .before .before .before .args in
+    read-fits (a .text .now) (a .room .now) (rw (v .survey-in .ensures) at (c .before .if1 .left))
 
 same-length : tie.Need-same-length
 same-length c = search needs
 
-returns-3 : tie.Need-returns-3
-returns-3 c =
-    let v = c .before .before .before .before .before .before .before .before in
-    let a = v .before .before .before .args in
-    let e = c .before .before .before .before in
-    let r = read-done (a .text .now) (a .room .now) (rw (v .survey .ensures) at (e .before .if1 .left)) (rw (v .survey .ensures) at (e .if2 .left)) in
-    (v .survey .ensures ∙ sym (r .0), c .before .before .store .ensures ∙ sym (r .1))
+returns-2 : tie.Need-returns-2
+unfolding readOf roomAfter
+returns-2 c =
+    let v = c .before .before .before .before .before .before .before in
+    (v .survey-in .ensures, rw (← v .survey-in .ensures, eq-eqb _ _ (c .before .before .before .before .if1 .left)) (c .before .before .store .ensures))
 
 pub read-spec : {M : Type 1} → statement M
-read-spec =
-    tie.close
-    (tie.spec
-    survey-requires
-    returns
-    refusal-requires
-    returns-2
-    store-requires
-    same-length
-    returns-3)
+read-spec = tie.close (tie.spec survey-in-requires returns store-requires same-length returns-2)

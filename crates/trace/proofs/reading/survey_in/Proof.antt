@@ -1,0 +1,28 @@
+-- The room's length decides after the survey. Assumes nothing.
+use mathlib.Core.Path.{_∙_, ap}
+use borrow.Author.Tests.{le-leb, lt-leb}
+use Rattle.trace.specs.Reading.{refused}
+use borrow.Author.Needs.{needs}
+use Rattle.trace.proofs.reading.survey_in.Statement.{statement}
+use Rattle.trace.proofs.reading.survey_in.Tie as tie
+
+survey-requires : tie.Need-survey-requires
+survey-requires c κs = search needs
+
+new-requires : tie.Need-new-requires
+new-requires c κs = search needs
+
+refusal-requires : tie.Need-refusal-requires
+refusal-requires c κs = search needs
+
+returns : tie.Need-returns
+returns c =
+    let v = c .before .before .before in
+    rw (← v .survey .ensures, lt-leb _ _ (c .before .before .if1 .taken)) (c .refusal .ensures ∙ ap refused (c .before .new .ensures))
+
+returns-2 : tie.Need-returns-2
+returns-2 c = rw (← c .before .survey .ensures, le-leb _ _ (c .if1 .left))
+
+pub survey-in-spec : {M : Type 1} → statement M
+survey-in-spec =
+    tie.close (tie.spec survey-requires new-requires refusal-requires returns returns-2)
