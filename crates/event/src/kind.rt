@@ -82,7 +82,7 @@ const USED: Word = 6;
 const UNUSED: Word = 7;
 
 // Whether a number is in a list.
-fn is_in(n: Word, list: &[Word]) -> bool
+pub fn is_in(n: Word, list: &[Word]) -> bool
     ensures { λ r. ⌜ r ≡ has n (now (list .entry)) ⌝ }
 {
     let mut i: usize = 0;

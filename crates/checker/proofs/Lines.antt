@@ -1,0 +1,44 @@
+-- The k-th line that is counted, by a place of the text and one line at a time. Assumes nothing.
+use Prim.Native.Nat.{ℕ, zero, suc, _+_, _-_, _≤_, _<_}
+use mathlib.Core.Path.{_≡_, refl, sym, _∙_}
+use mathlib.Core.Bool.{Bool, true, false, cond, _&&_, false≢true}
+use mathlib.Core.List.{List, [], _∷_}
+use native.Mathlib.Omega.{arith}
+use lib.Dec.{eqb}
+use lib.ListN.{length, take, drop}
+use borrow.Author.Tests.{eqb-true, eqb-false}
+use Rattle.laws.proofs.Cases.{cases, either}
+use Rattle.checker.specs.Line.{counted, nthLine, Spans}
+use Rattle.checker.specs.declared.line.Span.{Span}
+
+-- there is no line 0
+pub none-zero : (only : Bool) (ls : List (List ℕ)) → nthLine only 0 ls ≡ []
+unfolding nthLine
+none-zero only [] = refl
+none-zero only (l ∷ ls) = rw (none-zero only ls) (same-both (counted only l))
+  where
+  same-both : (b : Bool) → cond b (cond false l []) [] ≡ []
+  same-both true = refl
+  same-both false = refl
+
+pub none-left : (only : Bool) (k : ℕ) → nthLine only k [] ≡ []
+unfolding nthLine
+none-left only k = refl
+
+-- the line is the one that is sought
+pub line-found : (only : Bool) (k : ℕ) (l : List ℕ) (ls : List (List ℕ)) (b : Bool) → b ≡ counted only l → (b && eqb k 1) ≡ true → nthLine only k (l ∷ ls) ≡ l
+unfolding nthLine
+line-found only k l ls true e h = rw (← e, h)
+line-found only k l ls false e h = absurd (false≢true h)
+
+-- it is not
+pub line-passed : (only : Bool) (k : ℕ) (l : List ℕ) (ls : List (List ℕ)) (b : Bool) → b ≡ counted only l → (b && eqb k 1) ≡ false
+    → nthLine only k (l ∷ ls) ≡ nthLine only (cond b (k - 1) k) ls
+unfolding nthLine
+line-passed only k l ls true e h = rw (← e, h)
+line-passed only k l ls false e h = rw (← e)
+
+-- more than one is left to count
+pub left-some : (b : Bool) (k : ℕ) → 1 ≤ k → (b && eqb k 1) ≡ false → 1 ≤ cond b (k - 1) k
+left-some true k p h = omega (arith, eqb-false k 1 h)
+left-some false k p h = p

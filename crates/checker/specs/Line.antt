@@ -1,0 +1,55 @@
+-- Document 01, "Offending line": the line at fault, as a part of the source or target text. Assumes nothing.
+use Prim.Native.Nat.{ℕ, _-_, _≤_}
+use mathlib.Core.Path.{_≡_}
+use mathlib.Core.Bool.{Bool, true, false, cond, _||_}
+use mathlib.Core.List.{List, [], _∷_}
+use lib.Dec.{eqb}
+use lib.ListN.{length, take, drop}
+use Rattle.event.specs.Kind.{has}
+use Rattle.event.specs.declared.Answer.{Answer}
+use Rattle.text.specs.Line.{split}
+use Rattle.trace.specs.Record.{recordOf}
+use Rattle.trace.specs.declared.record.Record.{Record}
+use Rattle.checker.specs.declared.line.Span.{Span}
+use Rattle.trace.specs.declared.record.Record.the-variants.{Init, Line, Refused}
+
+-- Whether a record is an event.
+abbrev pub isEvent : Record → Bool
+isEvent (Init p v) = false
+isEvent (Line e) = true
+isEvent Refused = false
+
+-- Whether a line is counted: every line, or only those that are events.
+unfoldable pub counted : Bool → List ℕ → Bool
+counted false l = true
+counted true l = isEvent (recordOf l)
+
+-- The k-th line that is counted, from 1; nothing if there are not so many.
+unfoldable pub nthLine : Bool → ℕ → List (List ℕ) → List ℕ
+nthLine only k [] = []
+nthLine only k (l ∷ ls) = cond (counted only l) (cond (eqb k 1) l (nthLine only (k - 1) ls)) (nthLine only k ls)
+
+-- The place of 2, 3 and 4 is a line; that of 5, 6 and 10 to 16 is an event.
+abbrev pub lineFaults : List ℕ
+lineFaults = 2 ∷ 3 ∷ 4 ∷ []
+
+abbrev pub eventFaults : List ℕ
+eventFaults = 5 ∷ 6 ∷ 10 ∷ 11 ∷ 12 ∷ 13 ∷ 14 ∷ 15 ∷ 16 ∷ []
+
+-- The line of a text that an answer's number and place name, without its LF; nothing for another number.
+unfoldable pub lineOf : ℕ → ℕ → List ℕ → List ℕ
+lineOf number place t =
+    cond (has number lineFaults) (nthLine false place (split t))
+    (cond (has number eventFaults) (nthLine true place (split t)) [])
+
+-- The offending line of a check: of the source text, side 1, or the target text, side 2; else nothing.
+unfoldable pub offendingLine : List ℕ → List ℕ → Answer → List ℕ
+offendingLine source target a =
+    cond (eqb (a .side) 1) (lineOf (a .number) (a .place) source)
+    (cond (eqb (a .side) 2) (lineOf (a .number) (a .place) target) [])
+
+-- A part of a text, from one place to another, that is a given line.
+pub record Spans (t line : List ℕ) (s : Span) : Type 0 where
+  pub rises : s .from ≤ s .to
+  pub within : s .to ≤ length t
+  pub is : take (s .to - s .from) (drop (s .from) t) ≡ line

@@ -1,0 +1,114 @@
+// The line at fault: which part of which text an answer names.
+ghost use mathlib.Core.Path.{_≡_};
+ghost use mathlib.Core.Bool.{_&&_, cond};
+ghost use Prim.Native.Nat.{_≤_, _-_};
+ghost use lib.Dec.{eqb};
+ghost use Rattle.checker.specs.Line.{isEvent, counted, nthLine, lineOf, offendingLine, Spans};
+ghost use Rattle.text.specs.Line.{split};
+use event::Answer;
+use event::Word;
+use event::kind::is_in;
+use text::line::line_end;
+use trace::record::Record;
+use trace::record::record_of;
+
+// A part of a text, from one place to another.
+pub struct Span {
+    pub from: usize,
+    pub to: usize,
+}
+
+fn is_event(line: Record) -> bool
+    ensures { λ r. ⌜ r ≡ isEvent line ⌝ }
+{
+    match line {
+        Record::Line(_) => true,
+        Record::Init { place: _, value: _ } => false,
+        Record::Refused => false,
+    }
+}
+
+// Whether a line is counted: every line, or only those that are events.
+fn is_counted(only: bool, line: &[u8]) -> bool
+    ensures { λ r. ⌜ r ≡ counted only (now (line .entry)) ⌝ }
+{
+    if only {
+        return is_event(record_of(line));
+    }
+    true
+}
+
+// Whether a line that is counted or not is the one that is sought, of which `left` are left to count.
+fn ends_here(hit: bool, left: usize) -> bool
+    ensures { λ r. ⌜ r ≡ (hit && eqb left 1) ⌝ }
+{
+    if hit {
+        return left == 1;
+    }
+    false
+}
+
+// How many are left to count after a line.
+fn left_after(hit: bool, left: usize) -> usize
+    requires { ⌜ 1 ≤ left ⌝ }
+    ensures { λ r. ⌜ r ≡ cond hit (left - 1) left ⌝ }
+{
+    if hit {
+        return left - 1;
+    }
+    left
+}
+
+// The k-th line that is counted, from 1; an empty part if there are not so many.
+fn span_of(text: &[u8], only: bool, k: usize) -> Span
+    ensures { λ r. ⌜ Spans (now (text .entry)) (nthLine only k (split (now (text .entry)))) r ⌝ }
+{
+    if k == 0 {
+        return Span { from: 0, to: 0 };
+    }
+    let mut at: usize = 0;
+    let mut left = k;
+    while at <= text.len() {
+        let end = line_end(text, at);
+        let hit = is_counted(only, &text[at..end]);
+        if ends_here(hit, left) {
+            return Span { from: at, to: end };
+        }
+        left = left_after(hit, left);
+        at = end + 1;
+    }
+    Span { from: 0, to: 0 }
+}
+
+// The part of a text that an answer's number and place name: the place of 2, 3 and 4 is a line, that of the others an event.
+fn fault_span(text: &[u8], number: Word, place: usize) -> Span
+    ensures { λ r. ⌜ Spans (now (text .entry)) (lineOf number place (now (text .entry))) r ⌝ }
+{
+    if is_in(number, &[2, 3, 4]) {
+        return span_of(text, false, place);
+    }
+    if is_in(number, &[5, 6, 10, 11, 12, 13, 14, 15, 16]) {
+        return span_of(text, true, place);
+    }
+    Span { from: 0, to: 0 }
+}
+
+// The offending line of a check, without its LF, as that part of the source or target text; else an empty part of the source.
+pub fn offending_line<'a>(source: &'a [u8], target: &'a [u8], answer: Answer) -> &'a [u8]
+    ensures { λ r. ⌜ now r ≡ offendingLine (now (source .entry)) (now (target .entry)) answer ⌝ }
+{
+    let side = answer.side;
+    if side == 1 {
+        let span = fault_span(source, answer.number, answer.place);
+        let from = span.from;
+        let to = span.to;
+        return &source[from..to];
+    }
+    if side == 2 {
+        let span = fault_span(target, answer.number, answer.place);
+        let from = span.from;
+        let to = span.to;
+        return &target[from..to];
+    }
+    &source[0..0]
+}
