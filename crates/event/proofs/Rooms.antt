@@ -1,14 +1,14 @@
 -- Laws of events in a room: six stores in a row, the events' words, a front of a room with one event more. Assumes nothing.
 use Prim.Native.Nat.{ℕ, zero, suc, _+_, _*_, _/_, _≤_, _<_}
 use mathlib.Core.Bool.{true}
-use mathlib.Core.Path.{_≡_, refl, sym, _∙_, ap}
+use mathlib.Core.Path.{_≡_, refl, sym, _∙_, ap, ap₂}
 use mathlib.Core.List.{List, [], _∷_, _++_}
 use native.Mathlib.Omega.{arith}
 use borrow.Author.Tests.{lt-ltb}
-use lib.ListN.{length, set, take, drop, length-append, length-drop}
-use lib.Seq.{length-take-le, sets-eq, take-at, drop-drop, drop-append-add}
+use lib.ListN.{length, getD, set, take, drop, length-append, length-drop}
+use lib.Seq.{length-take-le, sets-eq, take-at, drop-drop, drop-append-add, getD-append-add, getD-append-seam, append-snoc}
 use Rattle.event.specs.declared.Event.{Event}
-use Rattle.event.specs.Room.{words, flat, putAt, inRoom}
+use Rattle.event.specs.Room.{words, flat, eventFrom, eventAt, onward, putAt}
 
 pub six-stores : (l : List ℕ) (i a b c d e f : ℕ) → i + 6 ≤ length l
     → set (set (set (set (set (set l i a) (i + 1) b) (i + 2) c) (i + 3) d) (i + 4) e) (i + 5) f ≡ take i l ++ (a ∷ b ∷ c ∷ d ∷ e ∷ f ∷ []) ++ drop (i + 6) l
@@ -55,3 +55,35 @@ unfolding putAt
 length-put l i e h =
     let k : i * 6 ≤ length l = omega arith in
     rw (lt-ltb i (length l / 6) h, length-append, length-append, length-take-le (i * 6) l k) (omega (arith, length-drop (i * 6 + 6) l))
+
+-- the event whose words stand behind a front
+word-at : (F ws : List ℕ) (at k : ℕ) → at ≡ length F → getD (F ++ ws) (at + k) 0 ≡ getD ws k 0
+word-at F ws at k h = rw h (getD-append-add F ws k 0)
+
+from-front : (F : List ℕ) (e : Event) (r : List ℕ) (at : ℕ) → at ≡ length F → eventFrom (F ++ (words e ++ r)) at ≡ e
+from-front F e r at h =
+    let w : List ℕ = words e ++ r in
+    let z : getD (F ++ w) at 0 ≡ e .kind = rw h (getD-append-seam F (e .kind) _ 0) in
+    rw (z, word-at F w at 1 h, word-at F w at 2 h, word-at F w at 3 h, word-at F w at 4 h, word-at F w at 5 h)
+
+at-front : (F : List ℕ) (e : Event) (r : List ℕ) (i : ℕ) → length F ≡ i * 6 → eventAt (F ++ (words e ++ r)) i ≡ e
+unfolding eventAt
+at-front F e r i h =
+    let n : length (F ++ (words e ++ r)) ≡ i * 6 + (6 + length r) = length-append F (words e ++ r) ∙ omega (arith, h) in
+    let k : i < length (F ++ (words e ++ r)) / 6 = omega (arith, n) in
+    rw (lt-ltb i (length (F ++ (words e ++ r)) / 6) k) (from-front F e r (i * 6) (sym h))
+
+-- a room that holds just the words of events holds these events
+flat-onward : (x es : List Event) (i : ℕ) → i ≡ length x → onward (flat (x ++ es)) i (length es) ≡ es
+unfolding onward flat
+flat-onward x [] i h = refl
+flat-onward x (e ∷ es) i h =
+    let f : flat (x ++ e ∷ es) ≡ flat x ++ (words e ++ flat es) = flat-append x (e ∷ es) in
+    let n : length (flat x) ≡ i * 6 = flat-length x ∙ rw h in
+    let a : x ++ e ∷ es ≡ (x ++ (e ∷ [])) ++ es = sym (append-snoc x e es) in
+    let k : i + 1 ≡ length (x ++ (e ∷ [])) = rw (length-append, h) in
+    ap₂ _∷_ (ap (λ (l : List ℕ). eventAt l i) f ∙ at-front (flat x) e (flat es) i n)
+    (ap (λ (y : List Event). onward (flat y) (i + 1) (length es)) a ∙ flat-onward (x ++ (e ∷ [])) es (i + 1) k)
+
+pub onward-flat : (es : List Event) → onward (flat es) 0 (length es) ≡ es
+onward-flat es = flat-onward [] es 0 refl
