@@ -1,12 +1,14 @@
 -- Laws of events in a room: six stores in a row, the events' words, a front of a room with one event more. Assumes nothing.
 use Prim.Native.Nat.{ℕ, zero, suc, _+_, _*_, _/_, _≤_, _<_}
 use mathlib.Core.Bool.{true}
-use mathlib.Core.Path.{_≡_, refl, sym, _∙_, ap, ap₂}
+use mathlib.Core.Path.{_≡_, refl, sym, _∙_, ap, ap₂, subst}
 use mathlib.Core.List.{List, [], _∷_, _++_}
 use native.Mathlib.Omega.{arith}
 use borrow.Author.Tests.{lt-ltb}
 use lib.ListN.{length, getD, set, take, drop, length-append, length-drop}
 use lib.Seq.{length-take-le, sets-eq, take-at, drop-drop, drop-append-add, getD-append-add, getD-append-seam, append-snoc}
+use Rattle.laws.proofs.Cases.{cases, side}
+use Rattle.laws.proofs.Lists.{Each}
 use Rattle.event.specs.declared.Event.{Event}
 use Rattle.event.specs.Room.{words, flat, eventFrom, eventAt, onward, putAt}
 
@@ -73,6 +75,10 @@ at-front F e r i h =
     let k : i < length (F ++ (words e ++ r)) / 6 = omega (arith, n) in
     rw (lt-ltb i (length (F ++ (words e ++ r)) / 6) k) (from-front F e r (i * 6) (sym h))
 
+at-flat : (x : List Event) (e : Event) (es : List Event) (i : ℕ) → length (flat x) ≡ i * 6 → eventAt (flat x ++ flat (e ∷ es)) i ≡ e
+unfolding flat
+at-flat x e es i h = at-front (flat x) e (flat es) i h
+
 -- a room that holds just the words of events holds these events
 flat-onward : (x es : List Event) (i : ℕ) → i ≡ length x → onward (flat (x ++ es)) i (length es) ≡ es
 unfolding onward flat
@@ -87,3 +93,16 @@ flat-onward x (e ∷ es) i h =
 
 pub onward-flat : (es : List Event) → onward (flat es) 0 (length es) ≡ es
 onward-flat es = flat-onward [] es 0 refl
+
+-- what holds of each of the events holds of each event of such a room
+each-from : (P : Event → Type 0) (x es : List Event) → Each P es → (i : ℕ) → length x ≤ i → i < length x + length es → P (eventAt (flat (x ++ es)) i)
+each-from P x [] h i p q = absurd (omega arith)
+each-from P x (e ∷ es) h i p q =
+    let n : length (x ++ (e ∷ [])) ≡ length x + 1 = length-append x (e ∷ []) in
+    let a : x ++ e ∷ es ≡ (x ++ (e ∷ [])) ++ es = sym (append-snoc x e es) in
+    cases (side (length x) i)
+    (λ k. rw a (each-from P (x ++ (e ∷ [])) es (h .1) i (omega (arith, n)) (omega (arith, n))))
+    (λ k. let j : length (flat x) ≡ i * 6 = flat-length x ∙ omega arith in rw (flat-append x (e ∷ es)) (subst P (sym (at-flat x e es i j)) (h .0)))
+
+pub each-event : (P : Event → Type 0) (es : List Event) → Each P es → (i : ℕ) → i < length es → P (eventAt (flat es) i)
+each-event P es h i k = each-from P [] es h i (omega arith) (omega arith)

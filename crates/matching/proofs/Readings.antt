@@ -58,3 +58,10 @@ unfolding readOf
 read-fits t room z =
     let f = fits-if (leb (surveyOf t .entries) (length room)) (length (entriesOf t)) (surveyOf t) (counts t) z in
     omega (arith, f .1, leb-true (surveyOf t .entries) (length room) (f .0))
+
+-- and is its survey
+pub read-passed : (t room : List ℕ) → readOf t room .answer .number ≡ 0 → readOf t room ≡ surveyOf t
+unfolding readOf
+read-passed t room z =
+    let f = fits-if (leb (surveyOf t .entries) (length room)) (length (entriesOf t)) (surveyOf t) (counts t) z in
+    rw (f .0)

@@ -7,7 +7,7 @@ use mathlib.Core.List.{List, [], _∷_}
 use native.Mathlib.Omega.{arith}
 use lib.Dec.{eqb, leb, ltb}
 use lib.ListN.{length}
-use borrow.Author.Tests.{eqb-false, leb-true}
+use borrow.Author.Tests.{eqb-false, leb-true, le-leb}
 use Rattle.laws.proofs.Cases.{cases, either}
 use Rattle.event.specs.Answer.{answer, first}
 use Rattle.event.specs.Memory.{empty}
@@ -17,7 +17,7 @@ use Rattle.text.specs.Line.{split}
 use Rattle.text.specs.Word.{same}
 use Rattle.trace.specs.Layout.{header}
 use Rattle.trace.specs.Fault.{eventFault}
-use Rattle.trace.specs.Reading.{textLimit, initsFault, eventsIn, startFrom, refused, settle, surveyInits, surveyParts, surveyOf, body, eventsOf, readOf}
+use Rattle.trace.specs.Reading.{textLimit, initsFault, eventsIn, startFrom, refused, settle, surveyInits, surveyParts, surveyOf, body, eventsOf, readOf, front, roomAfter}
 use Rattle.trace.specs.declared.reading.TraceRead.{TraceRead}
 
 -- what a survey counts: n events where it does not refuse, none where it does
@@ -63,3 +63,17 @@ unfolding readOf
 read-fits side t room z =
     let f = fits-if (leb (surveyOf side t .events) (length room / 6)) side (length (eventsOf t)) (surveyOf side t) (counts side t) z in
     omega (arith, f .1, leb-true (surveyOf side t .events) (length room / 6) (f .0))
+
+-- and is its survey
+pub read-passed : (side : ℕ) (t room : List ℕ) → readOf side t room .answer .number ≡ 0 → readOf side t room ≡ surveyOf side t
+unfolding readOf
+read-passed side t room z =
+    let f = fits-if (leb (surveyOf side t .events) (length room / 6)) side (length (eventsOf t)) (surveyOf side t) (counts side t) z in
+    rw (f .0)
+
+-- a survey that does not refuse and has room is the reading
+pub read-done : (side : ℕ) (t room : List ℕ) → surveyOf side t .answer .number ≡ 0 → surveyOf side t .events ≤ length room / 6
+    → (readOf side t room ≡ surveyOf side t) × (roomAfter side t room ≡ front (eventsOf t) room)
+unfolding readOf roomAfter
+read-done side t room z h =
+    (rw (le-leb (surveyOf side t .events) (length room / 6) h), rw (le-leb (surveyOf side t .events) (length room / 6) h, z))
