@@ -17,9 +17,9 @@ unfolding nthLine
 none-zero only [] = refl
 none-zero only (l ∷ ls) = rw (none-zero only ls) (same-both (counted only l))
   where
-  same-both : (b : Bool) → cond b (cond false l []) [] ≡ []
-  same-both true = refl
-  same-both false = refl
+    same-both : (b : Bool) → cond b (cond false l []) [] ≡ []
+    same-both true = refl
+    same-both false = refl
 
 pub none-left : (only : Bool) (k : ℕ) → nthLine only k [] ≡ []
 unfolding nthLine

@@ -1,6 +1,6 @@
 -- Two cases taken apart, and what the cases of a test are. Assumes nothing.
 use Prim.Native.Nat.{ℕ, _<_, _≤_}
-use mathlib.Core.Bool.{Bool, true, false}
+use mathlib.Core.Bool.{Bool, true, false, cond}
 use mathlib.Core.Logic.{_⊎_, inl, inr}
 use mathlib.Core.Path.{_≡_, refl}
 use lib.Dec.{ltb}
@@ -19,3 +19,13 @@ either false = inr refl
 -- a number is below another, or not
 pub side : (m n : ℕ) → (m < n) ⊎ (n ≤ m)
 side m n = cases (either (ltb m n)) (λ e. inl (ltb-true m n e)) (λ e. inr (ltb-false m n e))
+
+-- one of two things by a test: where its number is 0, it is not the one whose number is not
+module _ {A : Type 0} (f : A → ℕ) where
+  pub not-first : (b : Bool) (x y : A) → (f x ≡ 0 → ⊥) → f (cond b x y) ≡ 0 → (b ≡ false) × (f y ≡ 0)
+  not-first true x y n h = absurd (n h)
+  not-first false x y n h = (refl, h)
+
+  pub not-second : (b : Bool) (x y : A) → (f y ≡ 0 → ⊥) → f (cond b x y) ≡ 0 → (b ≡ true) × (f x ≡ 0)
+  not-second true x y n h = (refl, h)
+  not-second false x y n h = absurd (n h)

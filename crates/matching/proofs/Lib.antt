@@ -2,3 +2,6 @@
 pub mod Lines
 pub mod Stores
 pub mod Readings
+pub mod Prints
+pub mod OneText
+pub mod Unique

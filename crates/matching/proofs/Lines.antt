@@ -52,7 +52,7 @@ unfolding surveyParts
 parts-other l [] h = refl
 parts-other l (p ∷ ps) h = rw h
 
-parts-right : (l : List ℕ) (ps : List (List ℕ)) → Some ps → same l header ≡ true → surveyParts (l ∷ ps) ≡ surveyLines 0 ps
+pub parts-right : (l : List ℕ) (ps : List (List ℕ)) → Some ps → same l header ≡ true → surveyParts (l ∷ ps) ≡ surveyLines 0 ps
 unfolding surveyParts
 parts-right l [] s h = absurd s
 parts-right l (p ∷ ps) s h = rw h

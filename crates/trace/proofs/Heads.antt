@@ -19,7 +19,7 @@ unfolding surveyParts
 parts-other side l [] h = refl
 parts-other side l (p ∷ ps) h = rw h
 
-parts-right : (side : ℕ) (l : List ℕ) (ps : List (List ℕ)) → Some ps → same l header ≡ true → surveyParts side (l ∷ ps) ≡ surveyInits side 2 0 empty ps
+pub parts-right : (side : ℕ) (l : List ℕ) (ps : List (List ℕ)) → Some ps → same l header ≡ true → surveyParts side (l ∷ ps) ≡ surveyInits side 2 0 empty ps
 unfolding surveyParts
 parts-right side l [] s h = absurd s
 parts-right side l (p ∷ ps) s h = rw h

@@ -39,7 +39,7 @@ quiet-line Refused side k n cells ls a g h = absurd (omega arith)
 quiet-line (Init p v) side k n cells ls a g h = absurd (omega arith)
 quiet-line (Line e) side k n cells ls a g h = g (quiet-if (leb 800 n) side k a h)
 
-quiet : (side k n : ℕ) (cells : List ℕ) (ls : List (List ℕ)) → linesFault side k n ls .number ≡ 0 → startIn cells ls ≡ cells
+pub quiet : (side k n : ℕ) (cells : List ℕ) (ls : List (List ℕ)) → linesFault side k n ls .number ≡ 0 → startIn cells ls ≡ cells
 unfolding linesFault startIn
 quiet side k n cells [] h = refl
 quiet side k n cells (l ∷ []) h = quiet-last l side k cells h

@@ -12,3 +12,9 @@ pub mod Inits
 pub mod Heads
 pub mod Readings
 pub mod Stores
+pub mod Range
+pub mod ReadBack
+pub mod WriteBack
+pub mod OneText
+pub mod Cycle
+pub mod Unique

@@ -92,9 +92,13 @@ loop-less c = let e = end (c .before .before) in omega (arith, ends e, begin e .
 loop-again : tie.Need-loop-again Inv-loop μ-loop
 loop-again c =
     let h = c .before .before in
-    let p = sym (h .ends-here .ensures) ∙ c .before .if2 .left in
-    (omega (arith, ends (end h)), (rw (c .left-after .ensures) (left-some (h .before .is-counted .result) (end h .before .before .loop .left) (end h .before .before .loop .inv .1 .0) p),
-    rw (c .left-after .ensures) (whole h ∙ line-passed _ _ (this h) (others h) _ (h .before .is-counted .ensures) p)))
+    let p = sym (h .ends-here .ensures) ∙ c .before .if2 .left in (
+      omega (arith, ends (end h)),
+      (
+        rw (c .left-after .ensures) (left-some (h .before .is-counted .result) (end h .before .before .loop .left) (end h .before .before .loop .inv .1 .0) p),
+        rw (c .left-after .ensures) (whole h ∙ line-passed _ _ (this h) (others h) _ (h .before .is-counted .ensures) p),
+      ),
+    )
 
 returns-3 : tie.Need-returns-3 Inv-loop μ-loop
 returns-3 c =

@@ -1,0 +1,157 @@
+-- Rooms and texts in a cycle: what the writer makes of a room is read back into a room as the same events, and what a reading puts in a room
+-- is written as the same bytes. Both follow from one trace having one text, as six words are one event. Assumes nothing.
+use Prim.Native.Nat.{ℕ, zero, suc, _+_, _*_, _/_, _≤_, _<_}
+use mathlib.Core.Path.{_≡_, refl, ap}
+use mathlib.Core.Bool.{true}
+use mathlib.Core.List.{List, [], _∷_, _++_}
+use native.Mathlib.Omega.{arith}
+use lib.Dec.{ltb}
+use lib.ListN.{length, getD, take, drop, length-append}
+use lib.Seq.{append-snoc, getD-append-seam, getD-append-add, take-at}
+use borrow.Author.Tests.{ltb-false, le-ltb, lt-ltb, le-leb}
+use Rattle.laws.proofs.Cases.{cases, either, not-first, not-second}
+use Rattle.laws.proofs.Lists.{Each}
+use Rattle.event.specs.Answer.{answer, done}
+use Rattle.event.specs.Kind.{lawful}
+use Rattle.event.specs.Memory.{stepped}
+use Rattle.event.specs.Room.{words, flat, inRoom, eventFrom, eventAt, onward}
+use Rattle.event.specs.declared.Answer.{Answer}
+use Rattle.event.specs.declared.Event.{Event}
+use Rattle.event.specs.declared.memory.Memory.{Memory}
+use Rattle.event.proofs.Rooms.{flat-append, flat-length}
+use Rattle.trace.specs.Fault.{clashes, eventFault}
+use Rattle.trace.specs.Reading.{surveyOf, eventsOf, roomAfter}
+use Rattle.trace.specs.Writing.{countOf, roomEvents, layoutFault, traceText, roomFault, bytesOf, inOut, writeOf, outAfter}
+use Rattle.trace.proofs.OneText.{first-done, text-whole, written-read}
+use Rattle.trace.proofs.Range.{Fit, Valued, Fits}
+use Rattle.trace.proofs.ReadBack.{read-written}
+use Rattle.trace.proofs.Readings.{counts, read-done}
+
+-- that no event is at fault does not hang on the side, nor on where the counting starts
+fault-none : (side side′ k k′ : ℕ) (m : Memory) (before es : List Event) → eventFault side k m before es .number ≡ 0
+    → eventFault side′ k′ m before es ≡ done
+unfolding eventFault
+fault-none side side′ k k′ m before [] h = refl
+fault-none side side′ k k′ m before (e ∷ es) h =
+    let c = not-first (λ (x : Answer). x .number) (clashes before e) (answer 5 side k) _ (λ z. omega arith) h in
+    let r = not-second (λ (x : Answer). x .number) (stepped m e .right) _ (answer 6 side k) (λ z. omega arith) (c .1) in
+    rw (c .0, r .0) (fault-none side side′ (k + 1) (k′ + 1) (stepped m e .memory) (e ∷ before) es (r .1))
+
+-- 18 is not found exactly where each event is lawful
+layout-lawful : (k : ℕ) (es : List Event) → layoutFault k es .number ≡ 0 → Each (λ e. lawful e ≡ true) es
+unfolding layoutFault
+layout-lawful k [] h = tt
+layout-lawful k (e ∷ es) h =
+    let l = not-second (λ (x : Answer). x .number) (lawful e) (layoutFault (k + 1) es) (answer 18 0 k) (λ z. omega arith) h in
+    (l .0, layout-lawful (k + 1) es (l .1))
+
+layout-done : (k : ℕ) (es : List Event) → Each Fit es → layoutFault k es ≡ done
+unfolding layoutFault
+layout-done k [] h = refl
+layout-done k (e ∷ es) h = rw (h .0 .0) (layout-done (k + 1) es (h .1))
+
+-- the events of a room whose words are in range
+word-in : (l : List ℕ) (i : ℕ) → Valued l → getD l i 0 ≤ 4294967295
+word-in [] i h = omega arith
+word-in (a ∷ l) zero h = h .0
+word-in (a ∷ l) (suc i) h = word-in l i (h .1)
+
+event-in : (l : List ℕ) (i : ℕ) → Valued l → lawful (eventAt l i) ≡ true → Fit (eventAt l i)
+unfolding eventAt
+event-in l i h k =
+    cases (either (inRoom l i)) (λ e. (k, rw e (word-in l (i * 6 + 3) h, word-in l (i * 6 + 4) h))) (λ e. (k, rw e (omega arith, omega arith)))
+
+onward-in : (l : List ℕ) (i n : ℕ) → Valued l → Each (λ e. lawful e ≡ true) (onward l i n) → Each Fit (onward l i n)
+unfolding onward
+onward-in l i zero h k = tt
+onward-in l i (suc n) h k = (event-in l i h (k .0), onward-in l (i + 1) n h (k .1))
+
+onward-length : (l : List ℕ) (i n : ℕ) → length (onward l i n) ≡ n
+unfolding onward
+onward-length l i zero = refl
+onward-length l i (suc n) = ap suc (onward-length l (i + 1) n)
+
+-- Document 01, "Lent room": "The writer is handed a starting memory, whose cells hold lawful values, and a part of a room". What it then writes
+-- is read back, whatever the side, as that memory and the events of that part.
+module _ (m : Memory) (room out : List ℕ) (size : length (m .cells) ≡ 256) (values : Valued (m .cells)) (held : Valued room)
+    (h : writeOf m room out .number ≡ 0) where
+  no-fault : (countOf room ≤ 800) × ((layoutFault 1 (roomEvents room) .number ≡ 0) × (eventFault 0 1 m [] (roomEvents room) .number ≡ 0))
+  unfolding writeOf roomFault
+  no-fault =
+      let f = first-done (roomFault m room) (inOut (bytesOf m room) out) h in
+      let c = not-first (λ (x : Answer). x .number) (ltb 800 (countOf room)) (answer 3 0 801) _ (λ z. omega arith) (f .0) in
+      (ltb-false 800 (countOf room) (c .0), first-done (layoutFault 1 (roomEvents room)) (eventFault 0 1 m [] (roomEvents room)) (c .1))
+
+  written-fits : Fits m (roomEvents room)
+  written-fits = record {
+    size = size;
+    values = values;
+    few = omega (arith, no-fault .0, onward-length room 0 (countOf room));
+    events = onward-in room 0 (countOf room) held (layout-lawful 1 (roomEvents room) (no-fault .1 .0));
+  }
+
+  pub room-written : (side : ℕ) → (surveyOf side (traceText m (roomEvents room)) ≡ record { answer = done; events = countOf room; memory = m })
+      × (eventsOf (traceText m (roomEvents room)) ≡ roomEvents room)
+  room-written side =
+      rw (onward-length room 0 (countOf room)) at
+      (read-written side m (roomEvents room) written-fits (fault-none 0 side 1 1 m [] (roomEvents room) (no-fault .1 .1)))
+
+-- the events of the words of events are those events
+from-words : (F : List ℕ) (e : Event) (r : List ℕ) → eventFrom (F ++ (words e ++ r)) (length F) ≡ e
+from-words F e r =
+    rw (
+      getD-append-seam F (e .kind),
+      getD-append-add F (words e ++ r) 1,
+      getD-append-add F (words e ++ r) 2,
+      getD-append-add F (words e ++ r) 3,
+      getD-append-add F (words e ++ r) 4,
+      getD-append-add F (words e ++ r) 5,
+    )
+
+at-words : (x : List Event) (e : Event) (y : List Event) → eventAt (flat (x ++ e ∷ y)) (length x) ≡ e
+unfolding eventAt flat
+at-words x e y =
+    let n : length (flat (x ++ e ∷ y)) ≡ length (x ++ e ∷ y) * 6 = flat-length (x ++ e ∷ y) in
+    let i : length x < length (flat (x ++ e ∷ y)) / 6 = omega (arith, n, length-append x (e ∷ y)) in
+    rw (lt-ltb (length x) (length (flat (x ++ e ∷ y)) / 6) i, flat-append x (e ∷ y), ← flat-length x) (from-words (flat x) e (flat y))
+
+onward-words : (x y : List Event) → onward (flat (x ++ y)) (length x) (length y) ≡ y
+unfolding onward
+onward-words x [] = refl
+onward-words x (e ∷ y) =
+    let i : onward (flat (x ++ e ∷ y)) (length x + 1) (length y) ≡ y = simp (append-snoc, length-append) at (onward-words (x ++ (e ∷ [])) y) in
+    rw (at-words x e y, i)
+
+room-words : (es : List Event) → roomEvents (flat es) ≡ es
+room-words es =
+    let n : (length (flat es) + 5) / 6 ≡ length es = omega (arith, flat-length es) in
+    rw n (onward-words [] es)
+
+-- Document 01, "Lent room": "Otherwise the events (and entries, for the check) stand at the front of the rooms". Written from there, with the
+-- starting memory that the reading hands back, they are the bytes that were read.
+module _ (side : ℕ) (t room out : List ℕ) (h : surveyOf side t .answer .number ≡ 0) (fits : surveyOf side t .events ≤ length room / 6)
+    (long : length t ≤ length out) where
+  abbrev pub start : Memory
+  start = surveyOf side t .memory
+
+  part : take (surveyOf side t .events * 6) (roomAfter side t room) ≡ flat (eventsOf t)
+  part =
+      rw (read-done side t room h fits .1, counts side t .passed h)
+      (take-at (flat (eventsOf t)) (drop (length (eventsOf t) * 6) room) (length (eventsOf t) * 6) (flat-length (eventsOf t)))
+
+  no-refusal : roomFault start (flat (eventsOf t)) ≡ done
+  unfolding roomFault
+  no-refusal =
+      let w = text-whole side t h in
+      let n : (length (flat (eventsOf t)) + 5) / 6 ≤ 800 = omega (arith, flat-length (eventsOf t), w .fits .few) in
+      rw (le-ltb 800 ((length (flat (eventsOf t)) + 5) / 6) n, room-words (eventsOf t), layout-done 1 (eventsOf t) (w .fits .events))
+      (fault-none side 0 1 1 start [] (eventsOf t) (w .sound))
+
+  written : writeOf start (flat (eventsOf t)) out ≡ answer 0 0 (length t)
+  unfolding writeOf
+  written = rw (no-refusal, room-words (eventsOf t), written-read side t h, le-leb (length t) (length out) long)
+
+  pub room-read : (writeOf start (take (surveyOf side t .events * 6) (roomAfter side t room)) out ≡ answer 0 0 (length t))
+      × (outAfter start (take (surveyOf side t .events * 6) (roomAfter side t room)) out ≡ t ++ drop (length t) out)
+  unfolding outAfter
+  room-read = rw part (written, rw (written, room-words (eventsOf t), written-read side t h))
