@@ -1,2 +1,5 @@
 -- Laws that belong to no one function. Assumes nothing.
 pub mod Lines
+pub mod Answers
+pub mod Filled
+pub mod Demand3

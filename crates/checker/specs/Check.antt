@@ -1,8 +1,11 @@
 -- Document 01, "Numbers that come back", its order, and "Lent room": a check of three texts. Assumes nothing.
-use Prim.Native.Nat.{ℕ}
+use Prim.Native.Nat.{ℕ, _/_, _<_}
 use mathlib.Core.Bool.{cond}
 use mathlib.Core.List.{List}
+use mathlib.Core.Path.{_≡_}
 use lib.Dec.{eqb}
+use lib.ListN.{length}
+use Rattle.event.specs.Room.{eventAt, onward}
 use Rattle.event.specs.Answer.{first}
 use Rattle.event.specs.Memory.{empty}
 use Rattle.event.specs.declared.Answer.{Answer}
@@ -63,6 +66,22 @@ checkOf l =
     (record { answer = verdictOf l; source = heldOf (sourceRead l); target = heldOf (targetRead l); entries = entriesRead l .entries })
     (refused (readingAnswer l))
 
+-- Every event of a room has its place in range.
+abbrev pub Placed : List ℕ → Type 0
+Placed room = (i : ℕ) → i < length room / 6 → eventAt room i .place < 256
+
+-- What is handed back of two traces and a matching that were read, whose events and entries fill three rooms.
+unfoldable pub judgedOf : TraceRead → TraceRead → ℕ → List ℕ → List ℕ → List ℕ → Checked
+judgedOf s t n sourceRoom targetRoom entryRoom = record {
+  answer =
+      verdict view (s .memory .cells) (t .memory .cells) (onward sourceRoom 0 (length sourceRoom / 6))
+      (onward targetRoom 0 (length targetRoom / 6))
+      entryRoom;
+  source = heldOf s;
+  target = heldOf t;
+  entries = n;
+}
+
 -- A room afterwards: unchanged by a reading's refusal, of whichever text, else filled.
 abbrev pub unlessRefused : Lent → List ℕ → List ℕ → List ℕ
 unlessRefused l filled room = cond (eqb (readingAnswer l .number) 0) filled room
@@ -75,3 +94,14 @@ targetRoomAfter l = unlessRefused l (front (eventsOf (l .target)) (l .targetRoom
 
 unfoldable pub entryRoomAfter : Lent → List ℕ
 entryRoomAfter l = unlessRefused l (entryFront (entriesOf (l .matching)) (l .entryRoom)) (l .entryRoom)
+
+-- The texts and rooms at entry.
+abbrev pub lent : List ℕ → List ℕ → List ℕ → List ℕ → List ℕ → List ℕ → Lent
+lent s t m sr tr er = record { source = s; target = t; matching = m; sourceRoom = sr; targetRoom = tr; entryRoom = er }
+
+-- What a check is to hand back and to leave in the three rooms.
+pub record Checks (l : Lent) (r : Checked) (sourceRoom targetRoom entryRoom : List ℕ) : Type 0 where
+  pub result : r ≡ checkOf l
+  pub source : sourceRoom ≡ sourceRoomAfter l
+  pub target : targetRoom ≡ targetRoomAfter l
+  pub entries : entryRoom ≡ entryRoomAfter l

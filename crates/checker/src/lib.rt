@@ -2,11 +2,17 @@
 pub mod line;
 
 ghost use mathlib.Core.Path.{_≡_};
-ghost use Rattle.checker.specs.Check.{refused, checkOf, sourceRoomAfter, targetRoomAfter, entryRoomAfter};
+ghost use Prim.Native.Nat.{_*_, _≤_};
+ghost use lib.ListN.{length, take};
+ghost use Rattle.checker.specs.Check.{Checks, Placed, heldOf, judgedOf, lent, refused};
 use event::Answer;
 use event::WORDS;
 use event::Word;
 use event::memory::Memory;
+use rules::judge;
+use trace::reading::TraceRead;
+use trace::reading::store;
+use trace::reading::survey_in;
 
 // What is held of a trace that was read: the events in its room, and its starting memory.
 pub struct Held {
@@ -34,4 +40,81 @@ fn refusal(answer: Answer) -> Checked
         target,
         entries: 0,
     }
+}
+
+// The events and entries at the front of the rooms, judged.
+fn judged(
+    source: TraceRead,
+    target: TraceRead,
+    entries: usize,
+    source_room: &[Word],
+    target_room: &[Word],
+    entry_room: &[Word],
+) -> Checked
+    requires { ⌜ source .events * 6 ≤ length (now «source_room») ⌝ }
+    requires { ⌜ target .events * 6 ≤ length (now «target_room») ⌝ }
+    requires { ⌜ entries ≤ length (now «entry_room») ⌝ }
+    requires { ⌜ (source .events ≤ 800) × (target .events ≤ 800) ⌝ }
+    requires { ⌜ Placed (take (source .events * 6) (now «source_room»)) ⌝ }
+    requires { ⌜ Placed (take (target .events * 6) (now «target_room»)) ⌝ }
+    ensures { λ r. ⌜ r ≡ judgedOf source target entries (take (source .events * 6) (now («source_room» .entry))) (take (target .events * 6) (now («target_room» .entry))) (take entries (now («entry_room» .entry))) ⌝ }
+{
+    let source_words = source.events * WORDS;
+    let target_words = target.events * WORDS;
+    let answer = judge(
+        source.memory,
+        target.memory,
+        &source_room[0..source_words],
+        &target_room[0..target_words],
+        &entry_room[0..entries],
+    );
+    let held_source = hold(source);
+    let held_target = hold(target);
+    Checked {
+        answer,
+        source: held_source,
+        target: held_target,
+        entries,
+    }
+}
+
+// What is held of a trace that was read.
+fn hold(read: TraceRead) -> Held
+    ensures { λ r. ⌜ r ≡ heldOf read ⌝ }
+{
+    let events = read.events;
+    let memory = read.memory;
+    Held { events, memory }
+}
+
+// A check: the three texts are read and judged; a reading's refusal stores nothing in any room.
+pub fn check(
+    source: &[u8],
+    target: &[u8],
+    matching: &[u8],
+    source_room: &mut [Word],
+    target_room: &mut [Word],
+    entry_room: &mut [Word],
+) -> Checked
+    ensures { λ r. ⌜ Checks (lent (now (source .entry)) (now (target .entry)) (now (matching .entry)) (now («source_room» .entry)) (now («target_room» .entry)) (now («entry_room» .entry))) r (now («source_room» .exit)) (now («target_room» .exit)) (now («entry_room» .exit)) ⌝ }
+{
+    let s = survey_in(source, 1, source_room.len());
+    let source_answer = s.answer;
+    if source_answer.number != 0 {
+        return refusal(source_answer);
+    }
+    let t = survey_in(target, 2, target_room.len());
+    let target_answer = t.answer;
+    if target_answer.number != 0 {
+        return refusal(target_answer);
+    }
+    let m = matching::survey_in(matching, entry_room.len());
+    let matching_answer = m.answer;
+    if matching_answer.number != 0 {
+        return refusal(matching_answer);
+    }
+    store(source, source_room);
+    store(target, target_room);
+    matching::store(matching, entry_room);
+    judged(s, t, m.entries, source_room, target_room, entry_room)
 }

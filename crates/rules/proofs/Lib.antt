@@ -43,3 +43,9 @@ pub mod Cases
 pub mod Passes
 pub mod Cells
 pub mod Onward
+-- the judge's code
+pub mod Sight
+pub mod Events
+pub mod Arrays
+pub mod Closed
+pub mod Tallied

@@ -1,0 +1,90 @@
+-- Rooms that were filled hold the events and entries of their texts, which are lawful and few. Assumes nothing.
+use Prim.Native.Nat.{ℕ, _+_, _*_, _/_, _≤_, _<_}
+use mathlib.Core.Path.{_≡_, refl, sym, _∙_, ap}
+use mathlib.Core.List.{List, [], _∷_, _++_}
+use native.Mathlib.Omega.{arith}
+use lib.ListN.{length, take, drop, length-append}
+use lib.Seq.{take-at}
+use Rattle.laws.proofs.Lists.{Each, each-imp}
+use Rattle.event.specs.Room.{flat, eventAt, onward}
+use Rattle.event.specs.declared.Event.{Event}
+use Rattle.event.proofs.Rooms.{flat-length, onward-flat, each-event}
+use Rattle.event.proofs.Lawful.{place-below}
+use Rattle.trace.specs.Reading.{eventsOf, surveyOf, front, readOf}
+use Rattle.trace.proofs.Range.{Fit, Fits}
+use Rattle.trace.proofs.OneText.{text-whole}
+use Rattle.trace.proofs.Readings.{Counts, counts, read-passed}
+use Rattle.matching.specs.Reading.{entriesOf, surveyOf as entriesSurvey, front as entryFront, readOf as entriesRead}
+use Rattle.matching.proofs.Readings.{counts as entryCounts, read-passed as entries-passed}
+use Rattle.trace.specs.declared.reading.TraceRead.{TraceRead}
+use Rattle.matching.specs.declared.MatchingRead.{MatchingRead}
+use Rattle.checker.specs.Check.{Lent, sourceRead, targetRead, entriesRead as entriesReading, verdictOf, heldOf, Placed, judgedOf}
+
+-- what a filled room says of the trace that was read into it
+pub record Filled (t : List ℕ) (r : TraceRead) (room : List ℕ) : Type 0 where
+  pub inside : r .events * 6 ≤ length room
+  pub few : r .events ≤ 800
+  pub front : take (r .events * 6) room ≡ flat (eventsOf t)
+  pub placed : Placed (take (r .events * 6) room)
+
+module _ (side : ℕ) (t room : List ℕ) (z : readOf side t room .answer .number ≡ 0) where
+  passed : surveyOf side t .answer .number ≡ 0
+  passed = rw (read-passed side t room z) at z
+
+  fits : Fits (surveyOf side t .memory) (eventsOf t)
+  fits = text-whole side t passed .fits
+
+  counted : readOf side t room .events ≡ length (eventsOf t)
+  counted = rw (read-passed side t room z) (counts side t .passed passed)
+
+  at-front : take (readOf side t room .events * 6) (front (eventsOf t) room) ≡ flat (eventsOf t)
+  at-front = rw counted (take-at (flat (eventsOf t)) (drop (length (eventsOf t) * 6) room) (length (eventsOf t) * 6) (flat-length (eventsOf t)))
+
+  in-place : Placed (flat (eventsOf t))
+  in-place i h =
+      each-event (λ e. e .place < 256) (eventsOf t) (each-imp Fit (λ e. e .place < 256) (λ e f. place-below e (f .0)) (eventsOf t) (fits .events)) i
+      (omega (arith, flat-length (eventsOf t)))
+
+  filled-front : Filled t (readOf side t room) (front (eventsOf t) room)
+  filled-front = record {
+    inside = omega (arith, counted, flat-length (eventsOf t), length-append (flat (eventsOf t)) (drop (length (eventsOf t) * 6) room));
+    few = omega (arith, counted, fits .few);
+    front = at-front;
+    placed = rw at-front in-place;
+  }
+
+  pub filled : (r : TraceRead) → readOf side t room ≡ r → (room′ : List ℕ) → room′ ≡ front (eventsOf t) room → Filled t r room′
+  filled r e room′ f = rw (← e, f) filled-front
+
+-- the events of a room that holds just their words
+held : (es : List Event) → onward (flat es) 0 (length (flat es) / 6) ≡ es
+held es =
+    let n : length (flat es) / 6 ≡ length es = omega (arith, flat-length es) in
+    rw n (onward-flat es)
+
+-- what a filled room says of the matching that was read into it
+pub record Entered (t : List ℕ) (r : MatchingRead) (room : List ℕ) : Type 0 where
+  pub inside : r .entries ≤ length room
+  pub front : take (r .entries) room ≡ entriesOf t
+
+module _ (t room : List ℕ) (z : entriesRead t room .answer .number ≡ 0) where
+  entries-counted : entriesRead t room .entries ≡ length (entriesOf t)
+  entries-counted = rw (entries-passed t room z) (entryCounts t .passed (rw (entries-passed t room z) at z))
+
+  entered-front : Entered t (entriesRead t room) (entryFront (entriesOf t) room)
+  entered-front = record {
+    inside = omega (arith, entries-counted, length-append (entriesOf t) (drop (length (entriesOf t)) room));
+    front = rw entries-counted (take-at (entriesOf t) (drop (length (entriesOf t)) room) (length (entriesOf t)) refl);
+  }
+
+  pub entered : (r : MatchingRead) → entriesRead t room ≡ r → (room′ : List ℕ) → room′ ≡ entryFront (entriesOf t) room → Entered t r room′
+  entered r e room′ f = rw (← e, f) entered-front
+
+-- filled rooms are judged as their texts are
+pub judged-is : (l : Lent) (s t : TraceRead) (m : MatchingRead) (sr tr er : List ℕ) → sourceRead l ≡ s → targetRead l ≡ t → entriesReading l ≡ m
+    → Filled (l .source) s sr → Filled (l .target) t tr → Entered (l .matching) m er
+    → judgedOf s t (m .entries) (take (s .events * 6) sr) (take (t .events * 6) tr) (take (m .entries) er)
+    ≡ record { answer = verdictOf l; source = heldOf (sourceRead l); target = heldOf (targetRead l); entries = entriesReading l .entries }
+unfolding judgedOf verdictOf
+judged-is l s t m sr tr er p q k f g e =
+    rw (p, q, k, f .front, g .front, e .front, held (eventsOf (l .source)), held (eventsOf (l .target)))

@@ -1,0 +1,185 @@
+-- The readings decide one after the other, before anything is stored; then the filled rooms are judged. Assumes nothing.
+use Prim.Native.Nat.{ℕ, _≤_, _*_}
+use mathlib.Core.List.{List}
+use mathlib.Core.Path.{_≡_, sym, _∙_, ap}
+use native.Mathlib.Omega.{arith}
+use borrow.Author.Needs.{needs}
+use lib.ListN.{length}
+use Rattle.event.specs.declared.Answer.{Answer}
+use Rattle.trace.specs.Reading.{readOf}
+use Rattle.trace.specs.declared.reading.TraceRead.{TraceRead}
+use Rattle.trace.proofs.Readings.{read-fits}
+use Rattle.matching.specs.Reading.{readOf as matchingRead}
+use Rattle.matching.specs.declared.MatchingRead.{MatchingRead}
+use Rattle.matching.proofs.Readings.{read-fits as entries-fit}
+use Rattle.checker.specs.Check.{Lent, lent, sourceRead, targetRead, entriesRead, readingAnswer, refused, verdictOf, judgedOf}
+use Rattle.checker.proofs.Answers.{by-source, by-target, by-entries, refuses, checks-judged}
+use Rattle.checker.proofs.Filled.{Filled, Entered, filled, entered, judged-is}
+use Rattle.checker.proofs.check.Statement.{statement}
+use Rattle.checker.proofs.check.Tie as tie
+
+-- what is lent, and the three readings
+abbrev given : tie.After-survey-in → Lent
+given c =
+    let a = c .before .before .before .before .before .before .before .args in
+    lent (a .source .now) (a .target .now) (a .matching .now) (a .source-room .now) (a .target-room .now) (a .entry-room .now)
+
+source-is : (c : tie.After-survey-in) → sourceRead (given c) ≡ c .survey-in .result
+unfolding readOf
+source-is c = sym (c .survey-in .ensures)
+
+abbrev first-of : tie.Else1 → tie.After-survey-in
+first-of c = c .before .before .before
+
+source-passes : (c : tie.Else1) → sourceRead (given (first-of c)) .answer .number ≡ 0
+source-passes c = ap (λ (r : TraceRead). r .answer .number) (source-is (first-of c)) ∙ c .if1 .left
+
+target-is : (c : tie.After-survey-in2) → targetRead (given (first-of (c .before))) ≡ c .survey-in2 .result
+unfolding readOf
+target-is c = sym (c .survey-in2 .ensures)
+
+abbrev second-of : tie.Else2 → tie.After-survey-in2
+second-of c = c .before .before .before
+
+target-passes : (c : tie.Else2) → targetRead (given (first-of (second-of c .before))) .answer .number ≡ 0
+target-passes c = ap (λ (r : TraceRead). r .answer .number) (target-is (second-of c)) ∙ c .if2 .left
+
+abbrev of-entries : tie.After-survey-in3 → tie.After-survey-in
+of-entries c = first-of (second-of (c .before) .before)
+
+entries-are : (c : tie.After-survey-in3) → entriesRead (given (of-entries c)) ≡ c .survey-in3 .result
+unfolding matchingRead
+entries-are c = sym (c .survey-in3 .ensures)
+
+abbrev third-of : tie.Else3 → tie.After-survey-in3
+third-of c = c .before .before .before
+
+abbrev all-given : tie.Else3 → Lent
+all-given c = given (of-entries (third-of c))
+
+source-passed : (c : tie.Else3) → sourceRead (all-given c) .answer .number ≡ 0
+source-passed c = source-passes (second-of (third-of c .before) .before)
+
+target-passed : (c : tie.Else3) → targetRead (all-given c) .answer .number ≡ 0
+target-passed c = target-passes (third-of c .before)
+
+entries-passed : (c : tie.Else3) → entriesRead (all-given c) .answer .number ≡ 0
+entries-passed c = ap (λ (r : MatchingRead). r .answer .number) (entries-are (third-of c)) ∙ c .if3 .left
+
+-- the rooms, filled one after the other
+abbrev passed₁ : tie.After-store → tie.Else3
+passed₁ c = c .before .before
+
+source-filled : (c : tie.After-store)
+    → Filled (all-given (passed₁ c) .source) (of-entries (third-of (passed₁ c)) .survey-in .result) (c .store .last .1 .0)
+source-filled c = filled 1 _ _ (source-passed (passed₁ c)) _ (source-is (of-entries (third-of (passed₁ c)))) _ (c .store .ensures)
+
+abbrev passed₂ : tie.After-store2 → tie.Else3
+passed₂ c = passed₁ (c .before .before .before .before)
+
+target-filled : (c : tie.After-store2)
+    → Filled (all-given (passed₂ c) .target) (second-of (third-of (passed₂ c) .before) .survey-in2 .result) (c .store2 .last .1 .0)
+target-filled c = filled 2 _ _ (target-passed (passed₂ c)) _ (target-is (second-of (third-of (passed₂ c) .before))) _ (c .store2 .ensures)
+
+abbrev passed₃ : tie.After-store3 → tie.Else3
+passed₃ c = passed₂ (c .before .before .before .before)
+
+entries-filled : (c : tie.After-store3) → Entered (all-given (passed₃ c) .matching) (third-of (passed₃ c) .survey-in3 .result) (c .store3 .last .1 .0)
+entries-filled c = entered _ _ (entries-passed (passed₃ c)) _ (entries-are (third-of (passed₃ c))) _ (c .store3 .ensures)
+
+survey-in-requires : tie.Need-survey-in-requires
+survey-in-requires c κs = search needs
+
+refusal-requires : tie.Need-refusal-requires
+refusal-requires c κs = search needs
+
+returns : tie.Need-returns
+returns c =
+    let v = c .before .before .before .before in
+    refuses (given v) _ _ (by-source (given v) (rw (source-is v) (c .before .if1 .taken)) ∙ ap (λ (r : TraceRead). r .answer) (source-is v))
+    (c .before .if1 .taken) (c .refusal .ensures)
+
+survey-in-requires-2 : tie.Need-survey-in-requires-2
+survey-in-requires-2 c κs = search needs
+
+refusal-requires-2 : tie.Need-refusal-requires-2
+refusal-requires-2 c κs = search needs
+
+returns-2 : tie.Need-returns-2
+returns-2 c =
+    let w = c .before .before .before .before in
+    let l = given (first-of (w .before)) in
+    refuses l _ _ (by-target l (source-passes (w .before)) (rw (target-is w) (c .before .if2 .taken)) ∙ ap (λ (r : TraceRead). r .answer) (target-is w))
+    (c .before .if2 .taken) (c .refusal2 .ensures)
+
+survey-in-requires-3 : tie.Need-survey-in-requires-3
+survey-in-requires-3 c κs = search needs
+
+refusal-requires-3 : tie.Need-refusal-requires-3
+refusal-requires-3 c κs = search needs
+
+returns-3 : tie.Need-returns-3
+returns-3 c =
+    let x = c .before .before .before .before in
+    let l = given (of-entries x) in
+    refuses l _ _ (by-entries l (source-passes (second-of (x .before) .before)) (target-passes (x .before)) ∙ ap (λ (r : MatchingRead). r .answer) (entries-are x))
+    (c .before .if3 .taken) (c .refusal3 .ensures)
+
+store-requires : tie.Need-store-requires
+store-requires c κs = read-fits 1 _ _ (source-passed (c .before))
+
+store-requires-2 : tie.Need-store-requires-2
+store-requires-2 c κs = read-fits 2 _ _ (target-passed (c .before .before .before .before .before))
+
+store-requires-3 : tie.Need-store-requires-3
+store-requires-3 c κs = entries-fit _ _ (entries-passed (c .before .before .before .before .before .before .before .before .before))
+
+judged-requires : tie.Need-judged-requires
+judged-requires c κs =
+    let e = c .before .before .before .before .before in
+    let f = source-filled (e .before .before .before .before .before .before .before .before) in
+    let g = target-filled (e .before .before .before .before) in
+    (f .inside, (g .inside, (entries-filled e .inside, ((f .few, g .few), (f .placed, g .placed)))))
+
+same-length : tie.Need-same-length
+same-length c = search needs
+
+same-length-2 : tie.Need-same-length-2
+same-length-2 c = search needs
+
+same-length-3 : tie.Need-same-length-3
+same-length-3 c = search needs
+
+returns-4 : tie.Need-returns-4
+returns-4 c =
+    let e = c .before .before .before .before .before .before in
+    let g = e .before .before .before .before in
+    let f = g .before .before .before .before in
+    let p = passed₁ f in
+    let l = all-given p in
+    checks-judged l _ _ _ _ (ap (λ (a : Answer). a .number) (by-entries l (source-passed p) (target-passed p)) ∙ entries-passed p)
+    (c .judged .ensures ∙ judged-is l _ _ _ _ _ _ (source-is (of-entries (third-of p))) (target-is (second-of (third-of p .before))) (entries-are (third-of p))
+    (source-filled f) (target-filled g) (entries-filled e))
+    (f .store .ensures) (g .store2 .ensures) (e .store3 .ensures)
+
+pub check-spec : {M : Type 1} → statement M
+check-spec =
+    tie.close
+    (tie.spec
+    survey-in-requires
+    refusal-requires
+    returns
+    survey-in-requires-2
+    refusal-requires-2
+    returns-2
+    survey-in-requires-3
+    refusal-requires-3
+    returns-3
+    store-requires
+    store-requires-2
+    store-requires-3
+    judged-requires
+    same-length
+    same-length-2
+    same-length-3
+    returns-4)

@@ -1,0 +1,197 @@
+-- From each entry on the answer is that from the next entry on, until an entry is refused or none is left; the marks say which numbers the
+-- entries so far name. Assumes nothing.
+use Prim.Native.Nat.{ℕ, _+_, _-_, _≤_, _<_}
+use mathlib.Core.Bool.{Bool, true, false, not, _&&_, _||_, or-false}
+use mathlib.Core.List.{List, [], _∷_}
+use mathlib.Core.Path.{_≡_, refl, sym, _∙_, ap}
+use native.Mathlib.Numerals.{add-one}
+use native.Mathlib.Omega.{arith}
+use lib.Dec.{eqb, ltb}
+use lib.ListN.{length, drop, length-set}
+use lib.Seq.{drop-length}
+use borrow.Author.Tests.{lt-ltb, le-ltb, ne-eqb}
+use Rattle.event.specs.Answer.{answer, done}
+use Rattle.event.specs.declared.Answer.{Answer}
+use Rattle.event.specs.Kind.{has}
+use Rattle.rules.specs.Verdict.{entryAnswer}
+use Rattle.rules.specs.Pass.{Marked, usedTwice}
+use Rattle.rules.proofs.Events.{drop-next}
+use Rattle.rules.proofs.Onward.{entry-goes, entry-stops}
+use Rattle.rules.proofs.Arrays.{marked-start, marked-next}
+use Rattle.rules.proofs.numbers.entry_answer.Statement.{statement}
+use Rattle.rules.proofs.numbers.entry_answer.Tie as tie
+
+abbrev Inv-loop : tie.InvT-loop
+Inv-loop entries targets marks₀ i₀ marks i =
+    (i ≤ length entries) × ((length marks ≡ 801) × ((b : List ℕ) × (Marked marks b
+    × (((k : ℕ) → has k entries ≡ (has k b || has k (drop i entries)))
+    × (entryAnswer targets 1 [] entries ≡ entryAnswer targets (i + 1) b (drop i entries))))))
+
+abbrev μ-loop : tie.MeasureT-loop
+μ-loop entries targets marks₀ i₀ marks i = length entries - i
+
+-- the test of an entry
+beyond : (n k : ℕ) (h : Bool) → n < k → (not (eqb k 0) && (ltb n k || h)) ≡ true
+beyond n k h p = let z : k ≡ 0 → ⊥ = λ e. omega arith in rw (ne-eqb k 0 z, lt-ltb n k p)
+
+within : (n k : ℕ) {h m r : Bool} → k ≤ n → m ≡ h → r ≡ usedTwice k m → (not (eqb k 0) && (ltb n k || h)) ≡ r
+within n k p e u = rw (le-ltb n k p, ← e) (sym u)
+
+none-left : (n i : ℕ) (b l : List ℕ) (j : ℕ) → j ≡ length l → entryAnswer n i b (drop j l) ≡ done
+unfolding entryAnswer
+none-left n i b l j e = rw (e, drop-length l)
+
+-- the loop's entry, those before it and those after it
+abbrev turn : tie.After-index-of Inv-loop μ-loop → tie.At-loop Inv-loop μ-loop
+turn c = c .before .before .before
+
+abbrev entries : tie.After-index-of Inv-loop μ-loop → List ℕ
+entries c = turn c .before .before .args .entries .now
+
+abbrev targets : tie.After-index-of Inv-loop μ-loop → ℕ
+targets c = turn c .before .before .args .targets
+
+abbrev behind : tie.After-index-of Inv-loop μ-loop → List ℕ
+behind c = turn c .loop .inv .1 .1 .0
+
+abbrev rest : tie.After-index-of Inv-loop μ-loop → List ℕ
+rest c = drop (turn c .loop .i + 1) (entries c)
+
+parts : (c : tie.After-index-of Inv-loop μ-loop) → drop (turn c .loop .i) (entries c) ≡ c .index-of .result ∷ rest c
+parts c = drop-next (entries c) (turn c .loop .i) (c .index-of .result) (omega arith) (c .index-of .ensures)
+
+from-here : (c : tie.After-index-of Inv-loop μ-loop)
+    → entryAnswer (targets c) 1 [] (entries c) ≡ entryAnswer (targets c) (turn c .loop .i + 1) (behind c) (c .index-of .result ∷ rest c)
+from-here c = turn c .loop .inv .1 .1 .1 .1 .1 ∙ rw (parts c)
+
+-- an entry that is refused
+refused : (c : tie.After-index-of Inv-loop μ-loop) {a : Answer} → a ≡ answer 9 3 (turn c .loop .i + 1)
+    → (not (eqb (c .index-of .result) 0) && (ltb (targets c) (c .index-of .result) || has (c .index-of .result) (behind c))) ≡ true
+    → (a ≡ entryAnswer (targets c) 1 [] (entries c)) × (a .number ≡ 0 → Marked (turn c .loop .marks) (entries c))
+refused c e t = (
+  e ∙ sym (from-here c ∙ entry-stops _ _ _ _ _ t),
+  λ z. let n : _≡_ {A = ℕ} 9 0 = ap (λ (a : Answer). a .number) (sym e) ∙ z in absurd (omega arith),
+)
+
+-- an entry that is not
+test-is : (c : tie.After-is-used-twice Inv-loop μ-loop)
+    → (not (eqb (c .before .before .index-of .result) 0)
+    && (ltb (targets (c .before .before)) (c .before .before .index-of .result) || has (c .before .before .index-of .result) (behind (c .before .before))))
+    ≡ c .is-used-twice .result
+test-is c =
+    let t = c .before .before in
+    within (targets t) (t .index-of .result) (c .before .if1 .left)
+    (turn t .loop .inv .1 .1 .1 .0 (t .index-of .result) (omega arith)) (c .is-used-twice .ensures)
+
+join : (x y z : Bool) → (x || (y || z)) ≡ ((y || x) || z)
+join true true z = refl
+join true false z = refl
+join false true z = refl
+join false false z = refl
+
+named : (c : tie.After-index-of Inv-loop μ-loop) (k : ℕ)
+    → has k (entries c) ≡ (has k (c .index-of .result ∷ behind c) || has k (rest c))
+named c k =
+    turn c .loop .inv .1 .1 .1 .1 .0 k
+    ∙ (rw (parts c) (join (has k (behind c)) (eqb k (c .index-of .result)) (has k (rest c))))
+
+loop-holds : tie.Need-loop-holds Inv-loop μ-loop
+loop-holds c = (omega arith, (refl, ([], (marked-start, ((λ k. refl), refl)))))
+
+mul-index-of : tie.Need-mul-index-of Inv-loop μ-loop
+mul-index-of c = omega arith
+
+shared-slice-read-index-of : tie.Need-shared-slice-read-index-of Inv-loop μ-loop
+shared-slice-read-index-of c = omega arith
+
+index-of-requires : tie.Need-index-of-requires Inv-loop μ-loop
+index-of-requires c κs = tt
+
+add-new : tie.Need-add-new Inv-loop μ-loop
+add-new c = omega arith
+
+new-requires : tie.Need-new-requires Inv-loop μ-loop
+new-requires c κs = tt
+
+returns : tie.Need-returns Inv-loop μ-loop
+returns c = refused (c .before .before) (c .new .ensures) (beyond _ _ _ (c .before .if1 .taken))
+
+array-read-is-used-twice : tie.Need-array-read-is-used-twice Inv-loop μ-loop
+array-read-is-used-twice c = omega arith
+
+is-used-twice-requires : tie.Need-is-used-twice-requires Inv-loop μ-loop
+is-used-twice-requires c κs = tt
+
+add-new-2 : tie.Need-add-new-2 Inv-loop μ-loop
+add-new-2 c = omega arith
+
+new-requires-2 : tie.Need-new-requires-2 Inv-loop μ-loop
+new-requires-2 c κs = tt
+
+returns-2 : tie.Need-returns-2 Inv-loop μ-loop
+returns-2 c = refused (c .before .before .before .before) (c .new2 .ensures) (test-is (c .before .before) ∙ c .before .if2 .taken)
+
+array-write-marks : tie.Need-array-write-marks Inv-loop μ-loop
+array-write-marks c = omega arith
+
+add-i : tie.Need-add-i Inv-loop μ-loop
+add-i c = omega arith
+
+loop-less : tie.Need-loop-less Inv-loop μ-loop
+loop-less c = omega arith
+
+loop-again : tie.Need-loop-again Inv-loop μ-loop
+loop-again c =
+    let t = c .before .before .before in
+    let k : t .index-of .result < 801 = omega arith in
+    let size = turn t .loop .inv .1 .0 in (
+      omega arith,
+      (
+        simp length-set size,
+        (
+          t .index-of .result ∷ behind t,
+          (
+            marked-next (turn t .loop .marks) (behind t) _ k size (turn t .loop .inv .1 .1 .1 .0),
+            (
+              named t,
+              from-here t ∙ (entry-goes _ _ _ _ _ (test-is (c .before) ∙ c .if2 .left) ∙ rw (← add-one (turn t .loop .i + 1))),
+            ),
+          ),
+        ),
+      ),
+    )
+
+new-requires-3 : tie.Need-new-requires-3 Inv-loop μ-loop
+new-requires-3 c κs = tt
+
+returns-3 : tie.Need-returns-3 Inv-loop μ-loop
+returns-3 c =
+    let l = c .before .before .before .before .args .entries .now in
+    let e : c .before .before .loop .i ≡ length l = omega arith in
+    let inv = c .before .before .loop .inv .1 .1 in
+    (c .new3 .ensures ∙ sym (inv .1 .1 .1 ∙ none-left _ _ _ l _ e), λ z k h. inv .1 .0 k h ∙ sym (inv .1 .1 .0 k ∙ rw (e, drop-length l, or-false)))
+
+pub entry-answer-spec : {M : Type 1} → statement M
+entry-answer-spec =
+    tie.close
+    (tie.spec
+    Inv-loop
+    μ-loop
+    loop-holds
+    mul-index-of
+    shared-slice-read-index-of
+    index-of-requires
+    add-new
+    new-requires
+    returns
+    array-read-is-used-twice
+    is-used-twice-requires
+    add-new-2
+    new-requires-2
+    returns-2
+    array-write-marks
+    add-i
+    loop-less
+    loop-again
+    new-requires-3
+    returns-3)
