@@ -35,9 +35,3 @@ module _ (room : List ℕ) (at : ℕ) (v : List ℕ) (h : at + length v ≤ leng
       sym (drop-drop (length w) e (wrote room at v)) ∙ rw drop-wrote (drop-drop (length w) e room) in
       let n : at + length (v ++ w) ≡ e + length w = omega (arith, length-append v w) in
       rw (take-wrote, d, n, append-assoc (take at room) v w)
-
--- two words put one after the other: what comes back, and the room, are as if both were put as one
-pub put-then : {r r₂ : ℕ} {room₁ room₂ : List ℕ} (room : List ℕ) (at : ℕ) (v w : List ℕ) → at + length v ≤ length room
-    → (r ≡ at + length v) × (room₁ ≡ wrote room at v) → (r₂ ≡ r + length w) × (room₂ ≡ wrote room₁ r w)
-    → (r₂ ≡ at + length (v ++ w)) × (room₂ ≡ wrote room at (v ++ w))
-put-then room at v w h e f = (omega (arith, length-append v w), f .1 ∙ rw (e .1, e .0) (wrote-next room at v h w))

@@ -18,3 +18,9 @@ pub mod WriteBack
 pub mod OneText
 pub mod Cycle
 pub mod Unique
+pub mod Puts
+pub mod Judged
+pub mod Texts
+pub mod Sizes
+pub mod Cells
+pub mod Written

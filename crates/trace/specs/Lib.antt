@@ -7,4 +7,5 @@ pub mod Way
 pub mod Fault
 pub mod Reading
 pub mod Survey
+pub mod Put
 pub mod Writing

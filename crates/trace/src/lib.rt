@@ -3,13 +3,21 @@ pub mod fault;
 pub mod reading;
 pub mod record;
 pub mod word;
+pub mod writing;
 
 ghost use mathlib.Core.Path.{_≡_};
 ghost use Rattle.trace.specs.Reading.{readOf, roomAfter};
+ghost use Rattle.trace.specs.Writing.{writeOf, outAfter};
+use event::Answer;
 use event::Word;
+use event::memory::Memory;
 use reading::TraceRead;
 use reading::store;
 use reading::survey_in;
+use writing::count_of;
+use writing::put_text;
+use writing::room_fault;
+use writing::size_of;
 
 // A trace text read alone, side 1: its events at the front of the room, or a refusal, which changes nothing.
 pub fn read(text: &[u8], room: &mut [Word]) -> TraceRead
@@ -22,4 +30,21 @@ pub fn read(text: &[u8], room: &mut [Word]) -> TraceRead
     }
     store(text, room);
     surveyed
+}
+
+// A starting memory and the events of a part of a room, written as a text at the front of the lent bytes; a refusal, with side 0, changes nothing.
+pub fn write(memory: Memory, room: &[Word], out: &mut [u8]) -> Answer
+    ensures { λ r. ⌜ (r ≡ writeOf memory (now (room .entry)) (now (out .entry))) × (now (out .exit) ≡ outAfter memory (now (room .entry)) (now (out .entry))) ⌝ }
+{
+    let fault = room_fault(memory, room);
+    if fault.number != 0 {
+        return fault;
+    }
+    let n = count_of(room);
+    let size = size_of(memory, room, n);
+    if out.len() < size {
+        return Answer::new(17, 0, size);
+    }
+    put_text(out, memory, room, n);
+    Answer::new(0, 0, size)
 }

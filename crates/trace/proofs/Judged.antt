@@ -1,0 +1,69 @@
+-- The events of a room one by one: the first of those that are left, what 18 says of it, and what 5 and 6 say of it. Assumes nothing.
+use Prim.Native.Nat.{ℕ, suc, _+_, _-_, _≤_, _<_}
+use mathlib.Core.Bool.{Bool, true, false}
+use mathlib.Core.Path.{_≡_, refl, sym}
+use mathlib.Core.List.{List, [], _∷_}
+use native.Mathlib.Omega.{arith}
+use lib.ListN.{getD, set}
+use Rattle.laws.proofs.Cases.{cases, either}
+use Rattle.event.specs.Answer.{answer, done}
+use Rattle.event.specs.Kind.{lawful}
+use Rattle.event.specs.Memory.{stepped}
+use Rattle.event.specs.Room.{eventAt, onward}
+use Rattle.event.specs.declared.Event.{Event}
+use Rattle.event.specs.declared.memory.Memory.{Memory}
+use Rattle.trace.specs.Fault.{clashes, eventFault}
+use Rattle.trace.specs.Way.{opposed, joined}
+use Rattle.trace.specs.Writing.{layoutFault}
+use Rattle.trace.proofs.Ways.{Marks}
+
+module _ (room : List ℕ) (i n : ℕ) where
+  pub onward-next : i < n → onward room i (n - i) ≡ eventAt room i ∷ onward room (i + 1) (n - (i + 1))
+  unfolding onward
+  onward-next h = let k : n - i ≡ suc (n - (i + 1)) = omega arith in rw k
+
+  pub event-next : {e : Event} → e ≡ eventAt room i → i < n → onward room i (n - i) ≡ e ∷ onward room (i + 1) (n - (i + 1))
+  event-next q h = rw q (onward-next h)
+
+  pub onward-end : n ≤ i → onward room i (n - i) ≡ []
+  unfolding onward
+  onward-end h = let k : n - i ≡ 0 = omega arith in rw k
+
+pub onward-all : (room : List ℕ) (n : ℕ) → onward room 0 (n - 0) ≡ onward room 0 n
+onward-all room n = let k : n - 0 ≡ n = omega arith in rw k
+
+module _ (k : ℕ) (e : Event) (es : List Event) where
+  pub layout-go : lawful e ≡ true → layoutFault k (e ∷ es) ≡ layoutFault (k + 1) es
+  unfolding layoutFault
+  layout-go h = rw h
+
+  pub layout-bad : lawful e ≡ false → layoutFault k (e ∷ es) ≡ answer 18 0 k
+  unfolding layoutFault
+  layout-bad h = rw h
+
+  -- no 18 there: the first event is lawful, and there is none in the others
+  pub layout-first : layoutFault k (e ∷ es) .number ≡ 0 → (lawful e ≡ true) × (layoutFault (k + 1) es .number ≡ 0)
+  layout-first h =
+      cases (either (lawful e)) (λ y. (y, rw (layout-go y) at h)) (λ y. let z : _≡_ {A = ℕ} 18 0 = rw (layout-bad y) at h in absurd (omega arith))
+
+pub layout-end : (k : ℕ) → layoutFault k [] ≡ done
+unfolding layoutFault
+layout-end k = refl
+
+-- the first event neither clashes nor has another value than the latest
+pub fault-go : (side k : ℕ) (m : Memory) (before : List Event) (e : Event) (es : List Event) → clashes before e ≡ false
+    → stepped m e .right ≡ true → eventFault side k m before (e ∷ es) ≡ eventFault side (k + 1) (stepped m e .memory) (e ∷ before) es
+unfolding eventFault
+fault-go side k m before e es q r = rw (q, r)
+
+pub fault-end : (side k : ℕ) (m : Memory) (before : List Event) → eventFault side k m before [] ≡ done
+unfolding eventFault
+fault-end side k m before = refl
+
+-- what the calls of a turn tell: how the location i was used, and the way v of this event
+pub opposed-told : (l : List ℕ) {i j v w : ℕ} {r : Bool} → i ≡ j → v ≡ w → r ≡ opposed (getD l i 0) v → opposed (getD l j 0) w ≡ r
+opposed-told l p q h = rw (← p, ← q) (sym h)
+
+pub marks-told : (l : List ℕ) (es : List Event) {i j v w r : ℕ} → i ≡ j → v ≡ w → r ≡ joined (getD l i 0) v
+    → Marks (set l j (joined (getD l j 0) w)) es → Marks (set l i r) es
+marks-told l es p q h m = rw (h, p, q) m

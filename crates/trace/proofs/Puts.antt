@@ -1,0 +1,82 @@
+-- Laws of bytes put from a place on: one part after another, and what is left of a whole while its parts are put. Assumes nothing.
+use Prim.Native.Nat.{ℕ, zero, suc, _+_, _≤_}
+use mathlib.Core.Path.{_≡_, refl, sym, _∙_, ap}
+use mathlib.Core.List.{List, [], _∷_, _++_, append-assoc}
+use native.Mathlib.Omega.{arith}
+use lib.ListN.{length, set, take, length-append}
+use lib.Seq.{sets, length-sets}
+use Rattle.text.specs.Write.{wrote}
+use Rattle.text.proofs.Writes.{length-wrote, take-wrote}
+use Rattle.trace.specs.Put.{Put, Small}
+
+-- a byte stored beyond the end changes nothing
+pub set-beyond : (l : List ℕ) (i b : ℕ) → length l ≤ i → set l i b ≡ l
+set-beyond [] i b h = refl
+set-beyond (a ∷ l) zero b h = absurd (omega arith)
+set-beyond (a ∷ l) (suc i) b h = ap (λ (m : List ℕ). a ∷ m) (set-beyond l i b (omega arith))
+
+sets-append : (room : List ℕ) (at : ℕ) (v w : List ℕ) → sets room at (v ++ w) ≡ sets (sets room at v) (at + length v) w
+sets-append room at [] w = let z : at + 0 ≡ at = omega arith in rw z
+sets-append room at (b ∷ v) w =
+    let z : at + suc (length v) ≡ suc at + length v = omega arith in
+    rw z (sets-append (set room at b) (suc at) v w)
+
+-- nothing put
+pub put-none : (room : List ℕ) (at : ℕ) → Put room at [] room at
+put-none room at = record { counted = omega arith; stored = refl }
+
+-- two parts put one after the other
+pub then : {room room₁ room₂ v w : List ℕ} {at at₁ at₂ : ℕ} → Put room at v room₁ at₁ → Put room₁ at₁ w room₂ at₂ → Put room at (v ++ w) room₂ at₂
+then {room} {v = v} {w} {at} p q = record {
+  counted = omega (arith, length-append v w, p .counted, q .counted);
+  stored = q .stored ∙ rw (p .stored, p .counted, sets-append room at v w);
+}
+
+-- the room stays as long as it was
+pub put-length : {room room₁ v : List ℕ} {at at₁ : ℕ} → Put room at v room₁ at₁ → length room₁ ≡ length room
+put-length {room} {v = v} {at} p = ap length (p .stored) ∙ length-sets room at v
+
+-- parts one after the other
+abbrev pub all : List (List ℕ) → List ℕ
+all [] = []
+all (p ∷ ps) = p ++ all ps
+
+-- while a whole is put from `at`: the parts that are left, put from `here`, bring what the whole brings
+pub record Left (room : List ℕ) (at : ℕ) (whole now : List ℕ) (here : ℕ) (parts : List (List ℕ)) : Type 0 where
+  pub counts : here + length (all parts) ≡ at + length whole
+  pub stores : sets now here (all parts) ≡ sets room at whole
+
+pub left-all : (room : List ℕ) (at : ℕ) {whole : List ℕ} {ps : List (List ℕ)} → whole ≡ all ps → Left room at whole room at ps
+left-all room at e = rw e (record { counts = refl; stores = refl })
+
+module _ {room whole now : List ℕ} {at here : ℕ} where
+  pub left-next : {now₁ v : List ℕ} {ps : List (List ℕ)} {here₁ : ℕ} → Left room at whole now here (v ∷ ps) → Put now here v now₁ here₁
+      → Left room at whole now₁ here₁ ps
+  left-next {v = v} {ps} l p = record {
+    counts = omega (arith, length-append v (all ps), p .counted, l .counts);
+    stores = rw (p .stored, p .counted) (sym (sets-append now here v (all ps)) ∙ l .stores);
+  }
+
+  pub left-none : Left room at whole now here [] → Put room at whole now here
+  left-none l = record { counted = omega (arith, l .counts); stored = l .stores }
+
+  -- the place after the next part is small where that after the whole is
+  pub left-small : {v : List ℕ} {ps : List (List ℕ)} → Left room at whole now here (v ∷ ps) → Small at whole → Small here v
+  left-small {v} {ps} l h = omega (arith, length-append v (all ps), l .counts)
+
+  -- what is left, cut in two; nothing left
+  pub left-cut : {rest v w : List ℕ} → rest ≡ v ++ w → Left room at whole now here (rest ∷ []) → Left room at whole now here (v ∷ w ∷ [])
+  left-cut {v = v} {w} e l =
+      let d : all ((v ++ w) ∷ []) ≡ all (v ∷ w ∷ []) = append-assoc v w [] in
+      let m = rw e at l in
+      record { counts = rw (← d) (m .counts); stores = rw (← d) (m .stores) }
+
+  pub left-end : {rest : List ℕ} → rest ≡ [] → Left room at whole now here (rest ∷ []) → Put room at whole now here
+  left-end e l = let m = rw e at l in record { counted = omega (arith, m .counts); stored = m .stores }
+
+-- what was written at the front of a room, read back
+pub front-put : {r : ℕ} {after : List ℕ} (room v : List ℕ) → length v ≤ length room → (r ≡ 0 + length v) × (after ≡ wrote room 0 v)
+    → (r ≤ length after) × (take r after ≡ v)
+front-put room v h p =
+    let l : 0 + length v ≤ length room = omega arith in
+    rw (p .1, p .0) (omega (arith, length-wrote room 0 v l), take-wrote room 0 v l)

@@ -1,0 +1,126 @@
+-- A line as its parts, each field with the TAB before it, and a text as its lines. Assumes nothing.
+use Prim.Native.Nat.{ℕ, zero, suc, _+_, _-_, _≤_, _<_}
+use mathlib.Core.Bool.{Bool, true, false}
+use mathlib.Core.Path.{_≡_, refl, sym, _∙_}
+use mathlib.Core.List.{List, [], _∷_, _++_, map, append-assoc, append-nil}
+use native.Mathlib.Omega.{arith}
+use native.Mathlib.Numerals.{add-one}
+use lib.Dec.{eqb, leb}
+use lib.ListN.{length, getD, drop, drop-of-length-le, List·getD-eq-default}
+use lib.Seq.{drop-cons}
+use Rattle.laws.proofs.Cases.{cases, either, side}
+use Rattle.event.specs.Kind.{row}
+use Rattle.event.specs.Room.{eventAt, onward}
+use Rattle.event.specs.declared.Event.{Event}
+use Rattle.event.specs.declared.memory.Memory.{Memory}
+use Rattle.text.specs.Cut.{glue}
+use Rattle.text.specs.Field.{join}
+use Rattle.text.specs.Number.{decimal}
+use Rattle.trace.specs.Layout.{kindWords, orderWords, wordAt, header, initWord, hasPlace, hasOrder, hasMark, fieldIf, eventFields, eventLine, initLine}
+use Rattle.trace.specs.Put.{Named, tabIf, initPart}
+use Rattle.trace.specs.Writing.{textOf, initLines, traceText}
+use Rattle.trace.proofs.Puts.{all}
+use Rattle.trace.proofs.Judged.{onward-next, onward-end}
+
+-- fields, each with a TAB before it
+abbrev tails : List (List ℕ) → List ℕ
+tails [] = []
+tails (f ∷ fs) = (9 ∷ f) ++ tails fs
+
+join-tails : (w : List ℕ) (fs : List (List ℕ)) → join (w ∷ fs) ≡ w ++ tails fs
+unfolding glue
+join-tails w [] = sym (append-nil w)
+join-tails w (f ∷ fs) = rw (join-tails f fs)
+
+tails-if : (b : Bool) (f : List ℕ) (fs : List (List ℕ)) → tails (fieldIf b f fs) ≡ tabIf b f ++ tails fs
+tails-if true f fs = refl
+tails-if false f fs = refl
+
+-- the parts of an event's line
+abbrev pub placeIn : Event → List ℕ
+placeIn e = tabIf (hasPlace (row (e .kind) .place)) (decimal (e .place))
+
+abbrev pub orderIn : Event → List ℕ
+orderIn e = tabIf (hasOrder (row (e .kind) .orders)) (wordAt orderWords (e .order))
+
+abbrev pub firstIn : Event → List ℕ
+firstIn e = tabIf (leb 1 (row (e .kind) .values)) (decimal (e .first))
+
+abbrev pub secondIn : Event → List ℕ
+secondIn e = tabIf (leb 2 (row (e .kind) .values)) (decimal (e .second))
+
+abbrev pub markIn : Event → List ℕ
+markIn e = tabIf (hasMark (row (e .kind) .orders)) (wordAt orderWords (e .order))
+
+abbrev pub partsOf : Event → List (List ℕ)
+partsOf e = wordAt kindWords (e .kind) ∷ placeIn e ∷ orderIn e ∷ firstIn e ∷ secondIn e ∷ markIn e ∷ (10 ∷ []) ∷ []
+
+pub event-parts : (e : Event) → eventLine e ++ 10 ∷ [] ≡ all (partsOf e)
+unfolding eventLine eventFields
+event-parts e = simp (join-tails, tails-if, append-nil, append-assoc)
+
+-- those of an `init` line
+abbrev pub initParts : ℕ → ℕ → List (List ℕ)
+initParts place value = initWord ∷ tabIf true (decimal place) ∷ tabIf true (decimal value) ∷ (10 ∷ []) ∷ []
+
+pub init-parts : (place value : ℕ) → initLine place value ++ 10 ∷ [] ≡ all (initParts place value)
+unfolding initLine
+init-parts place value =
+    rw (join-tails initWord (decimal place ∷ decimal value ∷ []), append-nil (decimal value), append-assoc (decimal place) (9 ∷ decimal value) (10 ∷ []))
+
+pub text-cons : (l : List ℕ) (ls : List (List ℕ)) → textOf (l ∷ ls) ≡ (l ++ 10 ∷ []) ++ textOf ls
+unfolding textOf
+text-cons l ls = sym (append-assoc l (10 ∷ []) (textOf ls))
+
+pub text-append : (ls ms : List (List ℕ)) → textOf (ls ++ ms) ≡ textOf ls ++ textOf ms
+unfolding textOf
+text-append [] ms = refl
+text-append (l ∷ ls) ms = rw (text-append ls ms) (sym (append-assoc l (10 ∷ textOf ls) (textOf ms)))
+
+-- the header, the `init` lines, the events' lines
+abbrev pub traceParts : Memory → List Event → List (List ℕ)
+traceParts m es = (header ++ 10 ∷ []) ∷ textOf (initLines 0 (m .cells)) ∷ textOf (map eventLine es) ∷ []
+
+pub trace-parts : (m : Memory) (es : List Event) → traceText m es ≡ all (traceParts m es)
+unfolding traceText
+trace-parts m es =
+    text-cons header (initLines 0 (m .cells) ++ map eventLine es)
+    ∙ rw (text-append (initLines 0 (m .cells)) (map eventLine es), append-nil (textOf (map eventLine es)))
+
+-- the `init` lines from a location on
+pub init-cons : (l v : ℕ) (vs : List ℕ) → textOf (initLines l (v ∷ vs)) ≡ initPart l v ++ textOf (initLines (l + 1) vs)
+unfolding initLines
+init-cons l v vs =
+    cases (either (eqb v 0)) (λ z. rw z) (λ z. rw z (text-cons (initLine l v) (initLines (l + 1) vs)))
+
+module _ (cells : List ℕ) (i : ℕ) where
+  pub inits-next : i < length cells
+      → textOf (initLines i (drop i cells)) ≡ initPart i (getD cells i 0) ++ textOf (initLines (i + 1) (drop (i + 1) cells))
+  inits-next h = rw (add-one i, drop-cons cells i 0 h, ← add-one i) (init-cons i (getD cells i 0) (drop (i + 1) cells))
+
+  pub inits-end : length cells ≤ i → textOf (initLines i (drop i cells)) ≡ []
+  unfolding textOf initLines
+  inits-end h = rw (drop-of-length-le cells h)
+
+-- the lines of the events from an index on
+module _ (room : List ℕ) (i n : ℕ) where
+  pub events-next : i < n → textOf (map eventLine (onward room i (n - i)))
+      ≡ (eventLine (eventAt room i) ++ 10 ∷ []) ++ textOf (map eventLine (onward room (i + 1) (n - (i + 1))))
+  events-next h = rw (onward-next room i n h) (text-cons (eventLine (eventAt room i)) (map eventLine (onward room (i + 1) (n - (i + 1)))))
+
+  pub events-end : n ≤ i → textOf (map eventLine (onward room i (n - i))) ≡ []
+  unfolding textOf
+  events-end h = rw (onward-end room i n h)
+
+-- a number that is 0 or past the end of a table has no word there
+pub no-word : (ws : List (List ℕ)) (k : ℕ) → (1 ≤ k → length ws < k) → wordAt ws k ≡ []
+no-word ws k h =
+    cases (side k 1) (λ a. let z : k ≡ zero = omega arith in rw z) (λ a. List·getD-eq-default {A = List ℕ} ([] ∷ ws) [] (h a))
+
+-- one number more that k is not
+pub up : {n k : ℕ} → n ≤ k → (k ≡ n → ⊥) → suc n ≤ k
+up h e = omega arith
+
+-- a word, by the bytes and the size that were handed over
+pub named-as : {b c w : List ℕ} {s t : ℕ} → (b ≡ c) × (s ≡ t) → Named c t w → Named b s w
+named-as p n = rw (p .0, p .1) n

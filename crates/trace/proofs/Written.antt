@@ -1,0 +1,68 @@
+-- The writer's answers in their order, by the first refusal and by the bytes needed. Assumes nothing.
+use Prim.Native.Nat.{ℕ, _+_, _≤_, _<_}
+use mathlib.Core.Bool.{false}
+use mathlib.Core.Path.{_≡_, refl, sym, _∙_, ap}
+use mathlib.Core.List.{List, []}
+use native.Mathlib.Omega.{arith}
+use lib.Dec.{eqb, ltb}
+use lib.ListN.{length}
+use lib.Seq.{sets-eq}
+use borrow.Author.Tests.{eqb-true, eqb-false, ltb-true, ltb-false, ne-eqb, lt-ltb, le-ltb, le-leb, lt-leb}
+use Rattle.laws.proofs.Cases.{cases, either}
+use Rattle.event.specs.Answer.{answer}
+use Rattle.event.specs.Room.{onward}
+use Rattle.event.specs.declared.Answer.{Answer}
+use Rattle.event.specs.declared.memory.Memory.{Memory}
+use Rattle.trace.specs.Fault.{eventFault}
+use Rattle.trace.specs.Put.{Put}
+use Rattle.trace.specs.Writing.{countOf, layoutFault, roomFault, traceText, writeOf, outAfter}
+
+module _ (m : Memory) (room : List ℕ) {n : ℕ} (c : n ≡ countOf room) where
+  pub room-full : 800 < n → roomFault m room ≡ answer 3 0 801
+  unfolding roomFault
+  room-full h = rw (← c, lt-ltb 800 n h)
+
+  pub room-layout : n ≤ 800 → (layoutFault 1 (onward room 0 n) .number ≡ 0 → ⊥) → roomFault m room ≡ layoutFault 1 (onward room 0 n)
+  unfolding roomFault
+  room-layout h x = rw (← c, le-ltb 800 n h, ne-eqb (layoutFault 1 (onward room 0 n) .number) 0 x)
+
+  pub room-events : n ≤ 800 → layoutFault 1 (onward room 0 n) .number ≡ 0 → roomFault m room ≡ eventFault 0 1 m [] (onward room 0 n)
+  unfolding roomFault
+  room-events h x = rw (← c, le-ltb 800 n h, x)
+
+  -- no refusal so far: the events are few, and all are lawful
+  pub room-sound : roomFault m room .number ≡ 0 → (n ≤ 800) × (layoutFault 1 (onward room 0 n) .number ≡ 0)
+  room-sound z =
+      cases (either (ltb 800 n))
+      (λ y. let d : _≡_ {A = ℕ} 3 0 = rw (room-full (ltb-true 800 n y)) at z in absurd (omega arith))
+      (λ y. let h : n ≤ 800 = ltb-false 800 n y in (
+        h,
+        cases (either (eqb (layoutFault 1 (onward room 0 n) .number) 0)) (λ e. eqb-true _ _ e)
+            (λ e. absurd (eqb-false _ _ e (rw (room-layout h (eqb-false _ _ e)) at z))),
+      ))
+
+-- what `write` hands back, and the lent bytes afterwards
+module _ (m : Memory) (room out : List ℕ) where
+  pub refused : {r : Answer} → r ≡ roomFault m room → (r .number ≡ 0 → ⊥) → (r ≡ writeOf m room out) × (out ≡ outAfter m room out)
+  unfolding writeOf outAfter
+  refused q x =
+      let e : eqb (roomFault m room .number) 0 ≡ false = ne-eqb _ _ (λ z. x (ap (λ (a : Answer). a .number) q ∙ z)) in
+      rw (e, e) (q, refl)
+
+  module _ {n size : ℕ} {r : Answer} (c : n ≡ countOf room) (z : roomFault m room .number ≡ 0) (s : size ≡ length (traceText m (onward room 0 n))) where
+    pub short : length out < size → r ≡ answer 17 0 size → (r ≡ writeOf m room out) × (out ≡ outAfter m room out)
+    unfolding writeOf outAfter
+    short h q = rw (z, ← c, ← s, lt-leb size (length out) h) (q, refl)
+
+    pub written : {out₁ : List ℕ} {next : ℕ} → size ≤ length out → r ≡ answer 0 0 size → Put out 0 (traceText m (onward room 0 n)) out₁ next
+        → (r ≡ writeOf m room out) × (out₁ ≡ outAfter m room out)
+    unfolding writeOf outAfter
+    written h q p =
+        let o : 0 + length (traceText m (onward room 0 n)) ≡ length (traceText m (onward room 0 n)) = omega arith in
+        rw (z, ← c, ← s, le-leb size (length out) h)
+        (q, p .stored ∙ sets-eq (traceText m (onward room 0 n)) out 0 (omega arith) ∙ rw (s, o))
+
+  -- two answers that meet the contract are equal
+  pub write-unique : {r s : Answer} {out₁ out₂ : List ℕ} → (r ≡ writeOf m room out) × (out₁ ≡ outAfter m room out)
+      → (s ≡ writeOf m room out) × (out₂ ≡ outAfter m room out) → (r ≡ s) × (out₁ ≡ out₂)
+  write-unique p q = (p .0 ∙ sym (q .0), p .1 ∙ sym (q .1))

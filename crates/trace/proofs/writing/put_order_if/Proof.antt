@@ -1,0 +1,57 @@
+-- Nothing, or a TAB and the word after it. Assumes nothing.
+use Prim.Native.Nat.{_+_, _<_}
+use mathlib.Core.Bool.{true}
+use mathlib.Core.Path.{_≡_, refl, _∙_}
+use native.Mathlib.Omega.{arith}
+use borrow.Author.Tests.{not-true, not-false}
+use lib.ListN.{length}
+use Rattle.trace.specs.Layout.{orderWords, wordAt}
+use Rattle.trace.proofs.Puts.{put-none, then}
+use Rattle.trace.proofs.writing.put_order_if.Statement.{statement}
+use Rattle.trace.proofs.writing.put_order_if.Tie as tie
+
+-- where the line is to have the word
+wanted : (c : tie.Else1) → c .before .before .args .wanted ≡ true
+wanted c = not-false _ (c .if1 .left)
+
+small : (c : tie.Else1) → c .before .before .args .at + (length (wordAt orderWords (c .before .before .args .order)) + 1) < 4294967296
+small c = omega (arith, rw (wanted c) at (c .before .before .pre))
+
+returns : tie.Need-returns
+returns c = rw (not-true (c .before .before .args .wanted) (c .if1 .taken)) (put-none _ _)
+
+slice-aggregate-put : tie.Need-slice-aggregate-put
+slice-aggregate-put c = refl
+
+put-requires : tie.Need-put-requires
+put-requires c κs = omega (arith, small (c .before .before))
+
+order-name-requires : tie.Need-order-name-requires
+order-name-requires c κs = tt
+
+put-name-requires : tie.Need-put-name-requires
+put-name-requires c κs =
+    let n = c .order-name .ensures in
+    let p = c .before .before .before .before in
+    (n .0, rw (n .1) (omega (arith, p .put .ensures .counted, small (p .before .before .before))))
+
+same-length : tie.Need-same-length
+same-length c = c .before .before .put-name .kept .0 ∙ c .before .before .before .before .before .before .before .put .kept .0
+
+returns-2 : tie.Need-returns-2
+returns-2 c =
+    let p = c .before .before in
+    let q = p .before .before .before .before .before in
+    rw (wanted (q .before .before .before)) (then (q .put .ensures) (rw (p .before .order-name .ensures .1) at (p .put-name .ensures)))
+
+pub put-order-if-spec : {M : Type 1} → statement M
+put-order-if-spec =
+    tie.close
+    (tie.spec
+    returns
+    slice-aggregate-put
+    put-requires
+    order-name-requires
+    put-name-requires
+    same-length
+    returns-2)

@@ -1,0 +1,31 @@
+-- Document 01, "Lent room": bytes put from a place on. What lies beyond the end of the room is counted and not stored. Assumes nothing.
+use Prim.Native.Nat.{ℕ, _+_, _<_, _≤_}
+use mathlib.Core.Bool.{Bool, true, false, cond}
+use mathlib.Core.Path.{_≡_}
+use mathlib.Core.List.{List, [], _∷_, _++_}
+use lib.Dec.{eqb}
+use lib.ListN.{length, take}
+use lib.Seq.{sets}
+use Rattle.trace.specs.Layout.{initLine}
+
+-- Of a room, a place and bytes: the room after them, and the place after them.
+pub record Put (room : List ℕ) (at : ℕ) (bytes : List ℕ) (after : List ℕ) (next : ℕ) : Type 0 where
+  pub counted : next ≡ at + length bytes
+  pub stored : after ≡ sets room at bytes
+
+-- The place after the bytes is a small number.
+abbrev pub Small : ℕ → List ℕ → Type 0
+Small at bytes = at + length bytes < 4294967296
+
+-- A word is the first so many bytes.
+abbrev pub Named : List ℕ → ℕ → List ℕ → Type 0
+Named bytes size word = (size ≤ length bytes) × (take size bytes ≡ word)
+
+-- A field with the TAB before it, that is there or not.
+abbrev pub tabIf : Bool → List ℕ → List ℕ
+tabIf true f = 9 ∷ f
+tabIf false f = []
+
+-- The `init` line of a location with its LF; none for the value 0.
+abbrev pub initPart : ℕ → ℕ → List ℕ
+initPart place value = cond (eqb value 0) [] (initLine place value ++ 10 ∷ [])

@@ -1,0 +1,294 @@
+// The writing of a trace text: the events are judged, then the text is counted, then it is stored. One walk counts and stores: bytes
+// beyond the end of the room are counted and not stored, so that it counts where there is no room at all.
+ghost use mathlib.Core.Path.{_≡_};
+ghost use mathlib.Core.List.{[], _∷_, _++_, map};
+ghost use Prim.Native.Nat.{_≤_};
+ghost use lib.ListN.{length, set, take};
+ghost use Rattle.event.specs.Room.{onward};
+ghost use Rattle.trace.specs.Fault.{eventFault};
+ghost use Rattle.trace.specs.Layout.{kindWords, orderWords, wordAt, eventLine};
+ghost use Rattle.text.specs.Number.{decimal};
+ghost use Rattle.trace.specs.Put.{Put, Small, Named, tabIf, initPart};
+ghost use Rattle.trace.specs.Writing.{countOf, layoutFault, textOf, initLines, traceText, roomFault};
+use crate::fault::are_opposed;
+use crate::fault::joined_way;
+use crate::fault::way_of;
+use crate::reading::EVENT_LIMIT;
+use crate::word::has_mark;
+use crate::word::has_order;
+use crate::word::has_place;
+use event::Answer;
+use event::Event;
+use event::WORDS;
+use event::Word;
+use event::index_of;
+use event::kind::is_lawful;
+use event::kind::row_of;
+use event::memory::Memory;
+use event::room::get;
+use text::write::put_number;
+
+// How many events a part of a room has: one that is cut short at its end counts.
+pub fn count_of(room: &[Word]) -> usize
+    ensures { λ r. ⌜ r ≡ countOf (now (room .entry)) ⌝ }
+{
+    let whole = room.len() / WORDS;
+    if room.len() % WORDS == 0 {
+        return whole;
+    }
+    whole + 1
+}
+
+// 18: the first event that is outside the layout.
+fn layout_fault(room: &[Word], n: usize) -> Answer
+    requires { ⌜ n ≤ 800 ⌝ }
+    ensures { λ r. ⌜ r ≡ layoutFault 1 (onward (now (room .entry)) 0 n) ⌝ }
+{
+    let mut i: usize = 0;
+    while i < n {
+        if !is_lawful(get(room, i)) {
+            return Answer::new(18, 0, i + 1);
+        }
+        i += 1;
+    }
+    Answer::new(0, 0, 0)
+}
+
+// 5 and 6, event by event.
+fn event_fault(start: Memory, room: &[Word], n: usize) -> Answer
+    requires { ⌜ n ≤ 800 ⌝ }
+    requires { ⌜ layoutFault 1 (onward (now room) 0 n) .number ≡ 0 ⌝ }
+    ensures { λ r. ⌜ r ≡ eventFault 0 1 start [] (onward (now (room .entry)) 0 n) ⌝ }
+{
+    let mut memory = start;
+    let mut ways: [Word; 256] = [0; 256];
+    let mut i: usize = 0;
+    while i < n {
+        let e = get(room, i);
+        let place = index_of(e.place);
+        let way = way_of(e.kind);
+        let was = ways[place];
+        if are_opposed(was, way) {
+            return Answer::new(5, 0, i + 1);
+        }
+        ways[place] = joined_way(was, way);
+        let stepped = memory.step(e);
+        if !stepped.right {
+            return Answer::new(6, 0, i + 1);
+        }
+        memory = stepped.memory;
+        i += 1;
+    }
+    Answer::new(0, 0, 0)
+}
+
+// Answers 3, 18, 5 and 6, in this order.
+pub fn room_fault(memory: Memory, room: &[Word]) -> Answer
+    ensures { λ r. ⌜ r ≡ roomFault memory (now (room .entry)) ⌝ }
+{
+    let n = count_of(room);
+    if EVENT_LIMIT < n {
+        return Answer::new(3, 0, EVENT_LIMIT + 1);
+    }
+    let found = layout_fault(room, n);
+    if found.number != 0 {
+        return found;
+    }
+    event_fault(memory, room, n)
+}
+
+// A byte at a place; none beyond the end.
+fn store_byte(out: &mut [u8], at: usize, b: u8)
+    ensures { λ _. ⌜ now (out .exit) ≡ set (now (out .entry)) at b ⌝ }
+{
+    if at < out.len() {
+        out[at] = b;
+    }
+}
+
+// Bytes from a place on; what comes back is the place after them.
+fn put(out: &mut [u8], at: usize, bytes: &[u8]) -> usize
+    requires { ⌜ Small at (now bytes) ⌝ }
+    ensures { λ r. ⌜ Put (now (out .entry)) at (now (bytes .entry)) (now (out .exit)) r ⌝ }
+{
+    let mut i: usize = 0;
+    while i < bytes.len() {
+        store_byte(out, at + i, bytes[i]);
+        i += 1;
+    }
+    at + i
+}
+
+// A word of at most six bytes: those that it has, and how many of them count.
+struct Name {
+    bytes: [u8; 6],
+    size: usize,
+}
+
+// The first so many of six bytes.
+fn name_of(bytes: [u8; 6], size: usize) -> Name
+    ensures { λ r. ⌜ (r .bytes ≡ bytes) × (r .size ≡ size) ⌝ }
+{
+    Name { bytes, size }
+}
+
+// A kind's word.
+fn kind_name(kind: Word) -> Name
+    ensures { λ r. ⌜ Named (r .bytes) (r .size) (wordAt kindWords kind) ⌝ }
+{
+    match kind {
+        1 => name_of(*b"load  ", 4),
+        2 => name_of(*b"store ", 5),
+        3 => name_of(*b"aload ", 5),
+        4 => name_of(*b"astore", 6),
+        5 => name_of(*b"rmw   ", 3),
+        6 => name_of(*b"add   ", 3),
+        7 => name_of(*b"fence ", 5),
+        8 => name_of(*b"lock  ", 4),
+        9 => name_of(*b"unlock", 6),
+        _ => name_of(*b"      ", 0),
+    }
+}
+
+// An order's or a mark's word.
+fn order_name(order: Word) -> Name
+    ensures { λ r. ⌜ Named (r .bytes) (r .size) (wordAt orderWords order) ⌝ }
+{
+    match order {
+        1 => name_of(*b"rlx   ", 3),
+        2 => name_of(*b"acq   ", 3),
+        3 => name_of(*b"rel   ", 3),
+        4 => name_of(*b"ar    ", 2),
+        5 => name_of(*b"sc    ", 2),
+        6 => name_of(*b"used  ", 4),
+        7 => name_of(*b"unused", 6),
+        _ => name_of(*b"      ", 0),
+    }
+}
+
+// The bytes of a word that count.
+fn put_name(out: &mut [u8], at: usize, name: Name) -> usize
+    requires { ⌜ name .size ≤ length (name .bytes) ⌝ }
+    requires { ⌜ Small at (take (name .size) (name .bytes)) ⌝ }
+    ensures { λ r. ⌜ Put (now (out .entry)) at (take (name .size) (name .bytes)) (now (out .exit)) r ⌝ }
+{
+    let bytes = name.bytes;
+    let size = name.size;
+    put(out, at, &bytes[..size])
+}
+
+// A TAB and an order or a mark, if the line is to have it.
+fn put_order_if(wanted: bool, out: &mut [u8], at: usize, order: Word) -> usize
+    requires { ⌜ Small at (tabIf wanted (wordAt orderWords order)) ⌝ }
+    ensures { λ r. ⌜ Put (now (out .entry)) at (tabIf wanted (wordAt orderWords order)) (now (out .exit)) r ⌝ }
+{
+    if !wanted {
+        return at;
+    }
+    let next = put(out, at, b"\t");
+    put_name(out, next, order_name(order))
+}
+
+// The most digits of a number.
+const DIGITS: usize = 20;
+
+// A TAB and a number, if the line is to have it.
+fn put_number_if(wanted: bool, out: &mut [u8], at: usize, n: u64) -> usize
+    requires { ⌜ Small at (tabIf wanted (decimal n)) ⌝ }
+    ensures { λ r. ⌜ Put (now (out .entry)) at (tabIf wanted (decimal n)) (now (out .exit)) r ⌝ }
+{
+    if !wanted {
+        return at;
+    }
+    let mut digits: [u8; DIGITS] = [0; DIGITS];
+    let size = put_number(&mut digits, 0, n);
+    let next = put(out, at, b"\t");
+    put(out, next, &digits[..size])
+}
+
+// A word as a number to be written.
+fn wide(w: Word) -> u64
+    ensures { λ r. ⌜ r ≡ w ⌝ }
+{
+    w as u64
+}
+
+// An event's line, with its LF.
+fn put_event(out: &mut [u8], at: usize, e: Event) -> usize
+    requires { ⌜ Small at (eventLine e ++ 10 ∷ []) ⌝ }
+    ensures { λ r. ⌜ Put (now (out .entry)) at (eventLine e ++ 10 ∷ []) (now (out .exit)) r ⌝ }
+{
+    let row = row_of(e.kind);
+    let orders = row.orders;
+    let located = row.place;
+    let values = row.values;
+    let after_kind = put_name(out, at, kind_name(e.kind));
+    let after_place = put_number_if(has_place(located), out, after_kind, wide(e.place));
+    let after_order = put_order_if(has_order(orders), out, after_place, e.order);
+    let after_first = put_number_if(1 <= values, out, after_order, wide(e.first));
+    let after_second = put_number_if(2 <= values, out, after_first, wide(e.second));
+    let after_mark = put_order_if(has_mark(orders), out, after_second, e.order);
+    put(out, after_mark, b"\n")
+}
+
+// The `init` line of a location, with its LF; none for the value 0.
+fn put_init(out: &mut [u8], at: usize, place: u64, value: u64) -> usize
+    requires { ⌜ Small at (initPart place value) ⌝ }
+    ensures { λ r. ⌜ Put (now (out .entry)) at (initPart place value) (now (out .exit)) r ⌝ }
+{
+    if value == 0 {
+        return at;
+    }
+    let after_word = put(out, at, b"init");
+    let after_place = put_number_if(true, out, after_word, place);
+    let after_value = put_number_if(true, out, after_place, value);
+    put(out, after_value, b"\n")
+}
+
+// The `init` lines of cells.
+fn put_inits(out: &mut [u8], at: usize, cells: &[Word]) -> usize
+    requires { ⌜ Small at (textOf (initLines 0 (now cells))) ⌝ }
+    ensures { λ r. ⌜ Put (now (out .entry)) at (textOf (initLines 0 (now (cells .entry)))) (now (out .exit)) r ⌝ }
+{
+    let mut next = at;
+    let mut i: usize = 0;
+    while i < cells.len() {
+        next = put_init(out, next, i as u64, wide(cells[i]));
+        i += 1;
+    }
+    next
+}
+
+// The lines of the first n events of a room.
+fn put_events(out: &mut [u8], at: usize, room: &[Word], n: usize) -> usize
+    requires { ⌜ Small at (textOf (map eventLine (onward (now room) 0 n))) ⌝ }
+    ensures { λ r. ⌜ Put (now (out .entry)) at (textOf (map eventLine (onward (now (room .entry)) 0 n))) (now (out .exit)) r ⌝ }
+{
+    let mut next = at;
+    let mut i: usize = 0;
+    while i < n {
+        next = put_event(out, next, get(room, i));
+        i += 1;
+    }
+    next
+}
+
+// The whole text.
+pub fn put_text(out: &mut [u8], memory: Memory, room: &[Word], n: usize) -> usize
+    requires { ⌜ Small 0 (traceText memory (onward (now room) 0 n)) ⌝ }
+    ensures { λ r. ⌜ Put (now (out .entry)) 0 (traceText memory (onward (now (room .entry)) 0 n)) (now (out .exit)) r ⌝ }
+{
+    let cells = memory.cells;
+    let after_header = put(out, 0, b"trace\t1\n");
+    let after_inits = put_inits(out, after_header, &cells);
+    put_events(out, after_inits, room, n)
+}
+
+// How many bytes the text has.
+pub fn size_of(memory: Memory, room: &[Word], n: usize) -> usize
+    requires { ⌜ Small 0 (traceText memory (onward (now room) 0 n)) ⌝ }
+    ensures { λ r. ⌜ r ≡ length (traceText memory (onward (now (room .entry)) 0 n)) ⌝ }
+{
+    let mut none: [u8; 0] = [];
+    put_text(&mut none, memory, room, n)
+}
