@@ -47,14 +47,14 @@ fn closing_flags(source: &[Word], entries: &[Word]) -> [bool; 800]
     while 0 < i {
         i -= 1;
         let e = get(source, i);
-        let at = index_of(e.place);
-        let was = closing[at];
+        let place = index_of(e.place);
+        let was = closing[place];
         flags[i] = was;
         if is_wall(e) {
             closing = [true; 256];
             continue;
         }
-        closing[at] = closing_after(is_load(e), entries[i], was);
+        closing[place] = closing_after(is_load(e), entries[i], was);
     }
     flags
 }
