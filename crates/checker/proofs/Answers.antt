@@ -38,5 +38,6 @@ module _ (l : Lent) where
   checks-judged r s t e z h p q k = record { result = rw z h; source = rw z p; target = rw z q; entries = rw z k }
 
   -- a refusal that is handed back
-  pub refuses : (r : Checked) (a : Answer) → readingAnswer l ≡ a → (a .number ≡ 0 → ⊥) → r ≡ refused a → Checks l r (l .sourceRoom) (l .targetRoom) (l .entryRoom)
+  pub refuses : (r : Checked) (a : Answer) → readingAnswer l ≡ a → (a .number ≡ 0 → ⊥) → r ≡ refused a
+      → Checks l r (l .sourceRoom) (l .targetRoom) (l .entryRoom)
   refuses r a e h p = checks-refused r (λ z. h (rw e at z)) (p ∙ ap refused (sym e))

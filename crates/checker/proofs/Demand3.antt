@@ -75,6 +75,7 @@ judged l z = rw z
 
 -- "A matching that passes answers 1 to 9 and 17 is accepted exactly when some finite run of allowed removals and swaps, then allowed insertions
 -- and swaps, turns the source into the target (load marks apart), keeps what it keeps, each at its target number, and removes what it calls gone."
-pub accepted-exactly : (l : Lent) → Admitted l → (checkOf l .answer ≡ done) ↔ Realises view (eventsOf (l .source)) (eventsOf (l .target)) (entriesOf (l .matching))
+pub accepted-exactly : (l : Lent) → Admitted l → (checkOf l .answer
+    ≡ done) ↔ Realises view (eventsOf (l .source)) (eventsOf (l .target)) (entriesOf (l .matching))
 unfolding verdictOf
 accepted-exactly l a = rw (judged l (a .reading)) (demand-3 _ _ _ _ _ (passes l a))

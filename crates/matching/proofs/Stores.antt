@@ -44,7 +44,8 @@ module _ (E room₀ : List ℕ) where
       next-held =
           let k : i < length room₀ = omega (arith, below) in
           rw (s .held, next-take, drop-cons room₀ i 0 k, add-one i)
-          (set-at (take i E) (getD room₀ i 0) (drop (suc i) room₀) e i (length-take-le i E (s .few)) ∙ sym (append-assoc (take i E) (e ∷ []) (drop (suc i) room₀)))
+          (set-at (take i E) (getD room₀ i 0) (drop (suc i) room₀) e i (length-take-le i E (s .few))
+          ∙ sym (append-assoc (take i E) (e ∷ []) (drop (suc i) room₀)))
 
       stored-entry : Stored (i + 1) (set room i e) es
       stored-entry = record {

@@ -54,7 +54,8 @@ unfolding surveyOf eventsOf
 counts side t = counts-if (ltb textLimit (length t)) _ _ _ (counts-refused _ (answer 1 side 0) (λ z. omega arith)) (counts-parts side (split t))
 
 -- a reading that does not refuse has room for the events
-fits-if : (b : Bool) (side n : ℕ) (r : TraceRead) → Counts n r → cond b r (refused (answer 17 side (r .events))) .answer .number ≡ 0 → (b ≡ true) × (r .events ≡ n)
+fits-if : (b : Bool) (side n : ℕ) (r : TraceRead) → Counts n r → cond b r (refused (answer 17 side (r .events))) .answer .number ≡ 0
+    → (b ≡ true) × (r .events ≡ n)
 fits-if true side n r c z = (refl, c .passed z)
 fits-if false side n r c z = absurd (omega arith)
 

@@ -122,7 +122,8 @@ returns-3 : tie.Need-returns-3
 returns-3 c =
     let x = c .before .before .before .before in
     let l = given (of-entries x) in
-    refuses l _ _ (by-entries l (source-passes (second-of (x .before) .before)) (target-passes (x .before)) ∙ ap (λ (r : MatchingRead). r .answer) (entries-are x))
+    refuses l _ _ (by-entries l (source-passes (second-of (x .before) .before)) (target-passes (x .before))
+    ∙ ap (λ (r : MatchingRead). r .answer) (entries-are x))
     (c .before .if3 .taken) (c .refusal3 .ensures)
 
 store-requires : tie.Need-store-requires

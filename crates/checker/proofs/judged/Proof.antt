@@ -56,8 +56,17 @@ judge-requires c κs =
     let a = b .args in
     let s = a .source .events * 6 in
     let t = a .target .events * 6 in
-    rw (whole s, whole t)
-    (few (a .source .events) _ (b .pre .0) (b .pre .1 .1 .1 .0 .0), (b .pre .1 .1 .1 .1 .0, (few (a .target .events) _ (b .pre .1 .0) (b .pre .1 .1 .1 .0 .1), b .pre .1 .1 .1 .1 .1)))
+    rw (whole s, whole t) (
+      few (a .source .events) _ (b .pre .0) (b .pre .1 .1 .1 .0 .0),
+      (
+        b .pre .1 .1 .1 .1 .0,
+        (
+          few (a .target .events) _ (b .pre .1 .0)
+              (b .pre .1 .1 .1 .0 .1),
+          b .pre .1 .1 .1 .1 .1,
+        ),
+      ),
+    )
 
 hold-requires : tie.Need-hold-requires
 hold-requires c κs = search needs

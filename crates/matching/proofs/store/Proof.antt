@@ -35,7 +35,8 @@ abbrev end : tie.After-put-entry Inv-loop μ-loop → tie.After-line-end2 Inv-lo
 end c = c .before .before .before .before
 
 stored : (c : tie.After-put-entry Inv-loop μ-loop)
-    → Stored (entriesOf (text (end c))) (begin (end c) .args .room .now) (c .put-entry .result) (c .put-entry .last .0) (entriesIn (splitFrom (text (end c)) (end c .line-end2 .result + 1)))
+    → Stored (entriesOf (text (end c))) (begin (end c) .args .room .now) (c .put-entry .result) (c .put-entry .last .0) (entriesIn (splitFrom (text
+    (end c)) (end c .line-end2 .result + 1)))
 stored c =
     let e = end c in
     stored-step (entriesOf (text e)) (begin e .args .room .now) (begin e .pre) (text e) (at e) (e .line-end2 .result) (omega arith) (e .line-end2 .ensures)

@@ -54,7 +54,11 @@ unfolding surveyOf
 returns-3 c =
     let h = c .before .before in
     let l = h .before .before .before .before in
-    rw (le-ltb _ _ (l .before .if1 .left), head-other _ (l .line-end .result) (l .line-end .ensures) (sym (h .same-bytes .ensures) ∙ not-true _ (c .before .if3 .taken)))
+    rw (
+      le-ltb _ _ (l .before .if1 .left),
+      head-other _ (l .line-end .result) (l .line-end .ensures) (sym (h .same-bytes .ensures)
+          ∙ not-true _ (c .before .if3 .taken)),
+    )
     (c .refusal3 .ensures)
 
 add-survey-lines : tie.Need-add-survey-lines
@@ -73,7 +77,11 @@ unfolding surveyOf
 returns-4 c =
     let h = c .before .before in
     let l = h .before .before .before .before in
-    rw (le-ltb _ _ (l .before .if1 .left), head-right _ (l .line-end .result) (l .line-end .ensures) (h .before .before .before .if2 .left) (sym (h .same-bytes .ensures) ∙ not-false _ (c .before .if3 .left)))
+    rw (
+      le-ltb _ _ (l .before .if1 .left),
+      head-right _ (l .line-end .result) (l .line-end .ensures) (h .before .before .before .if2 .left) (sym
+          (h .same-bytes .ensures) ∙ not-false _ (c .before .if3 .left)),
+    )
     (c .survey-lines .ensures)
 
 pub survey-spec : {M : Type 1} → statement M

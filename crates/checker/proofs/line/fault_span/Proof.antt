@@ -31,7 +31,11 @@ span-of-requires-2 c κs = search needs
 returns-2 : tie.Need-returns-2
 unfolding lineOf
 returns-2 c =
-    rw (sym (c .before .before .before .before .before .is-in .ensures) ∙ c .before .before .before .before .if1 .left, sym (c .before .before .is-in2 .ensures) ∙ c .before .if2 .taken)
+    rw (
+      sym (c .before .before .before .before .before .is-in .ensures)
+          ∙ c .before .before .before .before .if1 .left,
+      sym (c .before .before .is-in2 .ensures) ∙ c .before .if2 .taken,
+    )
     (c .span-of2 .ensures)
 
 returns-3 : tie.Need-returns-3

@@ -42,13 +42,19 @@ this c = line (text (end c)) (at (end c)) (end c .line-end .result) (end c .line
 abbrev others : tie.After-ends-here Inv-loop μ-loop → List (List ℕ)
 others c = splitFrom (text (end c)) (end c .line-end .result + 1)
 
-whole : (c : tie.After-ends-here Inv-loop μ-loop) → nthLine (begin (end c) .args .only) (begin (end c) .args .k) (split (text (end c))) ≡ nthLine (begin (end c) .args .only) (end c .before .before .loop .left) (this c ∷ others c)
+whole : (c : tie.After-ends-here Inv-loop μ-loop) → nthLine (begin (end c) .args .only) (begin (end c) .args .k) (split (text (end c)))
+    ≡ nthLine (begin (end c) .args .only) (end c .before .before .loop .left) (this c ∷ others c)
 whole c =
     end c .before .before .loop .inv .1 .1
     ∙ rw (parts-line (text (end c)) (at (end c)) (end c .line-end .result) (end c .line-end .ensures) (omega arith))
 
 returns : tie.Need-returns Inv-loop μ-loop
-returns c = let t = c .before .before .args in record { rises = omega arith; within = omega arith; is = rw (c .if1 .taken) (sym (none-zero (t .only) (split (t .text .now)))) }
+returns c = let t = c .before .before .args in record {
+  rises = omega arith;
+  within = omega arith;
+  is = rw (c .if1 .taken) (sym (none-zero (t .only)
+      (split (t .text .now))));
+}
 
 loop-holds : tie.Need-loop-holds Inv-loop μ-loop
 loop-holds c = (omega arith, (omega arith, rw (from-start 10 (c .before .before .args .text .now))))

@@ -59,7 +59,12 @@ returns-3 c = rw (orders-held (c .before .before .before .before), place-held (c
 
 returns-4 : tie.Need-returns-4
 unfolding lawful
-returns-4 c = rw (orders-held (c .before .before .before .before .before), place-held (c .before .before .before), values (c .before .before) ∙ not-false _ (c .before .if3 .left))
+returns-4 c = rw (
+  orders-held (c .before .before .before .before .before),
+  place-held (c .before .before .before),
+  values (c .before .before)
+      ∙ not-false _ (c .before .if3 .left),
+)
 
 pub is-lawful-spec : {M : Type 1} → statement M
 is-lawful-spec =

@@ -68,7 +68,11 @@ gone-rest-requires c κs = search needs
 returns-2 : tie.Need-returns-2
 unfolding entryOf
 returns-2 c =
-    rw (split-at (c .before .before .before .before .before .before), sym (c .before .before .same-bytes .ensures) ∙ c .before .if1 .taken) (c .gone-rest .ensures)
+    rw (
+      split-at (c .before .before .before .before .before .before),
+      sym (c .before .before .same-bytes .ensures)
+          ∙ c .before .if1 .taken,
+    ) (c .gone-rest .ensures)
 
 slice-aggregate-same-bytes-2 : tie.Need-slice-aggregate-same-bytes-2
 slice-aggregate-same-bytes-2 c = search needs
@@ -86,14 +90,24 @@ returns-3 : tie.Need-returns-3
 unfolding entryOf
 returns-3 c =
     let n = c .before .before .before .before in
-    rw (split-at (n .before .before .before .before .before), sym (n .before .same-bytes .ensures) ∙ n .if1 .left, sym (c .before .before .same-bytes2 .ensures) ∙ c .before .if2 .taken)
+    rw (
+      split-at (n .before .before .before .before .before),
+      sym (n .before .same-bytes .ensures)
+          ∙ n .if1 .left,
+      sym (c .before .before .same-bytes2 .ensures) ∙ c .before .if2 .taken,
+    )
     (c .keep-rest .ensures)
 
 returns-4 : tie.Need-returns-4
 unfolding entryOf
 returns-4 c =
     let n = c .before .before .before in
-    rw (split-at (n .before .before .before .before .before), sym (n .before .same-bytes .ensures) ∙ n .if1 .left, sym (c .before .same-bytes2 .ensures) ∙ c .if2 .left)
+    rw (
+      split-at (n .before .before .before .before .before),
+      sym (n .before .same-bytes .ensures)
+          ∙ n .if1 .left,
+      sym (c .before .same-bytes2 .ensures) ∙ c .if2 .left,
+    )
 
 pub entry-of-spec : {M : Type 1} → statement M
 entry-of-spec =

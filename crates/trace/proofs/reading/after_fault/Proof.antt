@@ -152,8 +152,17 @@ loop-less c = omega (arith, ends (end (c .before .before .before)))
 
 loop-again : tie.Need-loop-again Inv-loop μ-loop
 loop-again c =
-    let p : tie.After-record-of Inv-loop μ-loop = c .before .before .before in
-    (omega arith, (omega (arith, ends (end p)), (omega (arith, ends (end p)), by-line p _ (lines-go _ _ _ _ _ _ (some p) (is p (c .before .enum-told3 .given .1)) (c .if2 .left)))))
+    let p : tie.After-record-of Inv-loop μ-loop = c .before .before .before in (
+      omega arith,
+      (
+        omega (arith, ends (end p)),
+        (
+          omega (arith, ends (end p)),
+          by-line p _ (lines-go _ _ _ _ _ _ (some p) (is p
+              (c .before .enum-told3 .given .1)) (c .if2 .left)),
+        ),
+      ),
+    )
 
 returns-5 : tie.Need-returns-5 Inv-loop μ-loop
 returns-5 c =

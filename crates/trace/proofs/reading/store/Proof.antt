@@ -36,7 +36,8 @@ abbrev end : tie.After-put-record Inv-loop μ-loop → tie.After-line-end2 Inv-l
 end c = c .before .before .before .before
 
 stored : (c : tie.After-put-record Inv-loop μ-loop)
-    → Stored (eventsOf (text (end c))) (begin (end c) .args .room .now) (c .put-record .result) (c .put-record .last .0) (eventsIn (splitFrom (text (end c)) (end c .line-end2 .result + 1)))
+    → Stored (eventsOf (text (end c))) (begin (end c) .args .room .now) (c .put-record .result) (c .put-record .last .0) (eventsIn (splitFrom (text
+    (end c)) (end c .line-end2 .result + 1)))
 stored c =
     let e = end c in
     stored-step (eventsOf (text e)) (begin e .args .room .now) (begin e .pre) (text e) (at e) (e .line-end2 .result) (omega arith) (e .line-end2 .ensures)
@@ -52,8 +53,10 @@ add-at c = omega (arith, line-in _ 0 (c .line-end .result) (c .line-end .ensures
 loop-holds : tie.Need-loop-holds Inv-loop μ-loop
 loop-holds c = (
   omega arith,
-  rw (c .line-end .ensures) (subst (λ (es : List Event). Stored (eventsOf (c .before .before .before .args .text .now)) (c .before .before .before .args .room .now) 0 (c .before .before .before .args .room .now) es)
-      (body-from (c .before .before .before .args .text .now)) (stored-start (eventsOf (c .before .before .before .args .text .now)) (c .before .before .before .args .room .now))),
+  rw (c .line-end .ensures) (subst (λ (es : List Event). Stored (eventsOf (c .before .before .before .args .text .now))
+      (c .before .before .before .args .room .now) 0 (c .before .before .before .args .room .now) es)
+      (body-from (c .before .before .before .args .text .now)) (stored-start (eventsOf (c .before .before .before .args .text .now))
+      (c .before .before .before .args .room .now))),
 )
 
 line-end-requires-2 : tie.Need-line-end-requires-2 Inv-loop μ-loop
@@ -81,7 +84,16 @@ loop-less : tie.Need-loop-less Inv-loop μ-loop
 loop-less c = let e = end (c .before .before) in omega (arith, ends e, begin e .good)
 
 loop-again : tie.Need-loop-again Inv-loop μ-loop
-loop-again c = let p = c .before .before in (omega (arith, ends (end p), p .put-record .ensures .0, index-next (end p .before .before .loop .i) (p .before .record-of .result)), stored p)
+loop-again c = let p = c .before .before in (
+  omega (
+    arith,
+    ends (end p),
+    p .put-record .ensures .0,
+    index-next (end p .before .before .loop .i)
+        (p .before .record-of .result),
+  ),
+  stored p,
+)
 
 same-length : tie.Need-same-length Inv-loop μ-loop
 same-length c = c .before .loop .inv .1 .size

@@ -35,7 +35,8 @@ returns-2 : tie.Need-returns-2
 unfolding surveyOf
 returns-2 c =
     let l = c .before .before .before in
-    rw (le-ltb _ _ (l .before .if1 .left), head-open _ _ (l .line-end .result) (l .line-end .ensures) (c .before .before .if2 .taken)) (c .refusal2 .ensures ∙ ap refused (c .before .new2 .ensures))
+    rw (le-ltb _ _ (l .before .if1 .left), head-open _ _ (l .line-end .result) (l .line-end .ensures) (c .before .before .if2 .taken))
+    (c .refusal2 .ensures ∙ ap refused (c .before .new2 .ensures))
 
 sub-same-bytes : tie.Need-sub-same-bytes
 sub-same-bytes c = search needs
@@ -63,7 +64,11 @@ unfolding surveyOf
 returns-3 c =
     let h = c .before .before .before in
     let l = h .before .before .before .before in
-    rw (le-ltb _ _ (l .before .if1 .left), head-other _ _ (l .line-end .result) (l .line-end .ensures) (sym (h .same-bytes .ensures) ∙ not-true _ (c .before .before .if3 .taken)))
+    rw (
+      le-ltb _ _ (l .before .if1 .left),
+      head-other _ _ (l .line-end .result) (l .line-end .ensures) (sym (h .same-bytes .ensures)
+          ∙ not-true _ (c .before .before .if3 .taken)),
+    )
     (c .refusal3 .ensures ∙ ap refused (c .before .new3 .ensures))
 
 add-survey-lines : tie.Need-add-survey-lines
@@ -82,7 +87,11 @@ unfolding surveyOf
 returns-4 c =
     let h = c .before .before in
     let l = h .before .before .before .before in
-    rw (le-ltb _ _ (l .before .if1 .left), head-right _ _ (l .line-end .result) (l .line-end .ensures) (h .before .before .before .if2 .left) (sym (h .same-bytes .ensures) ∙ not-false _ (c .before .if3 .left)))
+    rw (
+      le-ltb _ _ (l .before .if1 .left),
+      head-right _ _ (l .line-end .result) (l .line-end .ensures) (h .before .before .before .if2 .left) (sym
+          (h .same-bytes .ensures) ∙ not-false _ (c .before .if3 .left)),
+    )
     (c .survey-lines .ensures)
 
 pub survey-spec : {M : Type 1} → statement M

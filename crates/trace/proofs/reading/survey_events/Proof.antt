@@ -171,7 +171,8 @@ module _ (w : tie.After-way-of Inv-loop μ-loop) where
 
   faulty : (x : ℕ) → eqb x 0 ≡ false
       → eventFault (side (end r)) (loop-n + 1) loop-memory (before-it (end r)) (event (its-e w) ∷ eventsIn (others r)) ≡ answer x (side (end r)) (loop-n + 1)
-      → whole (end r) ≡ refused (first (linesFault (side (end r)) (end r .before .before .loop .k + 1) (loop-n + 1) (others r)) (answer x (side (end r)) (loop-n + 1)))
+      → whole (end r) ≡ refused (first (linesFault (side (end r)) (end r .before .before .loop .k + 1) (loop-n + 1) (others r)) (answer x (side
+      (end r)) (loop-n + 1)))
   faulty x z q =
       by-line r _
       (on-fault (side (end r)) (end r .before .before .loop .k) loop-n loop-memory (before-it (end r)) (start (end r)) (this r) (others r) (event (its-e w))
@@ -179,7 +180,8 @@ module _ (w : tie.After-way-of Inv-loop μ-loop) where
 
   goes-on : (m : Memory) → clashes (before-it (end r)) (event (its-e w)) ≡ false → stepped loop-memory (event (its-e w)) .right ≡ true
       → stepped loop-memory (event (its-e w)) .memory ≡ m
-      → whole (end r) ≡ surveyOn (side (end r)) (end r .before .before .loop .k + 1) (loop-n + 1) m (event (its-e w) ∷ before-it (end r)) (start (end r)) (others r)
+      → whole (end r) ≡ surveyOn (side (end r)) (end r .before .before .loop .k + 1) (loop-n + 1) m (event (its-e w) ∷ before-it (end r)) (start
+      (end r)) (others r)
   goes-on m q p h =
       by-line r _
       (on-go (side (end r)) (end r .before .before .loop .k) loop-n loop-memory (before-it (end r)) (start (end r)) (this r) (others r) (event (its-e w))
@@ -202,7 +204,8 @@ marks-told : (l : List ℕ) (es : List Event) {i j v w r : ℕ} → i ≡ j → 
 marks-told l es p q h m = rw (h, p, q) m
 
 marks-after : (c : tie.After-joined-way Inv-loop μ-loop)
-    → Marks (set (ways (joined-e c)) (joined-e c .before .index-of .result) (c .joined-way .result)) (event (its-e (joined-e c)) ∷ before-it (end (its-r (joined-e c))))
+    → Marks (set (ways (joined-e c)) (joined-e c .before .index-of .result) (c .joined-way .result)) (event (its-e (joined-e c)) ∷ before-it (end
+    (its-r (joined-e c))))
 marks-after c =
     let w : tie.After-way-of Inv-loop μ-loop = joined-e c in
     marks-told (ways w) _ (w .before .index-of .ensures) (w .way-of .ensures) (c .joined-way .ensures)
@@ -372,7 +375,8 @@ returns-6 c =
     let j : tie.After-joined-way Inv-loop μ-loop = c .before .before .before .before .before .before in
     let w : tie.After-way-of Inv-loop μ-loop = joined-e j in
     refuses (c .refusal6 .ensures) (rw (c .before .before .new6 .ensures) at (c .before .after-fault2 .ensures))
-    (faulty w 6 refl (fault-six _ _ _ _ _ _ (free j) (right-is (c .before .before .before .before .before) (not-true _ (c .before .before .before .if4 .taken)))))
+    (faulty w 6 refl (fault-six _ _ _ _ _ _ (free j) (right-is (c .before .before .before .before .before) (not-true _
+    (c .before .before .before .if4 .taken)))))
 
 add-n : tie.Need-add-n Inv-loop μ-loop
 add-n c = let r = its-r (joined-e (c .before .before .before .before)) in omega (arith, bounds r, begin r .good)
@@ -390,8 +394,27 @@ loop-again : tie.Need-loop-again Inv-loop μ-loop
 loop-again c =
     let j : tie.After-joined-way Inv-loop μ-loop = c .before .before .before .before in
     let w : tie.After-way-of Inv-loop μ-loop = joined-e j in
-    let b = bounds (its-r w) in
-    (omega (arith, b), (omega (arith, b), (omega (arith, b), (simp length-set (end (its-r w) .before .before .loop .inv .1 .1 .1 .0), (event (its-e w) ∷ before-it (end (its-r w)), (marks-after j, goes-on w _ (free j) (right-is (c .before .before .before) (not-false _ (c .before .if4 .left))) (memory-is (c .before .before .before))))))))
+    let b = bounds (its-r w) in (
+      omega (arith, b),
+      (
+        omega (arith, b),
+        (
+          omega (arith, b),
+          (
+            simp length-set (end (its-r w) .before .before .loop .inv .1 .1 .1 .0),
+            (
+              event
+                  (its-e w) ∷ before-it (end (its-r w)),
+              (
+                marks-after j,
+                goes-on w _ (free j) (right-is (c .before .before .before) (not-false _
+                    (c .before .if4 .left))) (memory-is (c .before .before .before)),
+              ),
+            ),
+          ),
+        ),
+      ),
+    )
 
 new-requires-7 : tie.Need-new-requires-7 Inv-loop μ-loop
 new-requires-7 c κs = tt

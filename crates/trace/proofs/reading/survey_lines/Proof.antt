@@ -147,23 +147,39 @@ enum-told : tie.Need-enum-told Inv-loop μ-loop
 enum-told c = search needs
 
 survey-events-requires-2 : tie.Need-survey-events-requires-2 Inv-loop μ-loop
-survey-events-requires-2 c κs = let e = end (c .before .before) in (omega (arith, e .before .before .loop .inv), (omega (arith, e .before .before .loop .inv), omega (arith, e .before .before .loop .inv)))
+survey-events-requires-2 c κs = let e = end (c .before .before) in (
+  omega (arith, e .before .before .loop .inv),
+  (
+    omega
+        (arith, e .before .before .loop .inv),
+    omega (arith, e .before .before .loop .inv),
+  ),
+)
 
 returns-2 : tie.Need-returns-2 Inv-loop μ-loop
 returns-2 c =
     let p : tie.After-record-of Inv-loop μ-loop = c .before .before .before in
-    rest (end p) _ (rw (parts p) (inits-refused _ _ _ (end p .before .before .loop .start) _ _ (some p) (is p (c .before .enum-told .given .1)))) (c .survey-events2 .ensures)
+    rest (end p) _ (rw (parts p) (inits-refused _ _ _ (end p .before .before .loop .start) _ _ (some p) (is p (c .before .enum-told .given .1))))
+    (c .survey-events2 .ensures)
 
 enum-told-2 : tie.Need-enum-told-2 Inv-loop μ-loop
 enum-told-2 c = search needs
 
 survey-events-requires-3 : tie.Need-survey-events-requires-3 Inv-loop μ-loop
-survey-events-requires-3 c κs = let e = end (c .before .before) in (omega (arith, e .before .before .loop .inv), (omega (arith, e .before .before .loop .inv), omega (arith, e .before .before .loop .inv)))
+survey-events-requires-3 c κs = let e = end (c .before .before) in (
+  omega (arith, e .before .before .loop .inv),
+  (
+    omega
+        (arith, e .before .before .loop .inv),
+    omega (arith, e .before .before .loop .inv),
+  ),
+)
 
 returns-3 : tie.Need-returns-3 Inv-loop μ-loop
 returns-3 c =
     let p : tie.After-record-of Inv-loop μ-loop = c .before .before .before in
-    rest (end p) _ (rw (parts p) (inits-event _ _ _ (end p .before .before .loop .start) _ _ _ (some p) (is p (c .before .enum-told2 .given .1)))) (c .survey-events3 .ensures)
+    rest (end p) _ (rw (parts p) (inits-event _ _ _ (end p .before .before .loop .start) _ _ _ (some p) (is p (c .before .enum-told2 .given .1))))
+    (c .survey-events3 .ensures)
 
 enum-known-place : tie.Need-enum-known-place Inv-loop μ-loop
 enum-known-place c = search needs
@@ -177,7 +193,8 @@ refusal-requires c κs = tt
 returns-4 : tie.Need-returns-4 Inv-loop μ-loop
 returns-4 c =
     let q : tie.After-place Inv-loop μ-loop = c .before .before .before .before in
-    c .refusal .ensures ∙ (ap refused (c .before .new .ensures) ∙ sym (by-line (rec q) _ (inits-low _ _ _ _ _ _ _ _ (some (rec q)) (its q) (c .before .before .if2 .taken))))
+    c .refusal .ensures ∙ (ap refused (c .before .new .ensures)
+    ∙ sym (by-line (rec q) _ (inits-low _ _ _ _ _ _ _ _ (some (rec q)) (its q) (c .before .before .if2 .taken))))
 
 index-of-requires : tie.Need-index-of-requires Inv-loop μ-loop
 index-of-requires c κs = tt

@@ -1,0 +1,552 @@
+//! Compares the checker with the runs themselves on tiny traces.
+//!
+//! For one source, every trace that a run can reach is searched: removals and
+//! swaps first, insertions and swaps after, each rule tested on the trace as
+//! it stands. A reached trace remembers, event by event, which source event it
+//! is. Then the checker must answer 0 for a target and a matching exactly when
+//! a run reaches that target with that matching, and 10 to 16 otherwise.
+//!
+//! Three parts:
+//!   all      every source, target and matching of up to 3 events a side
+//!   equal    up to 4 events a side, every matching without a 10
+//!   random   longer sources with every kind of event, and random candidates
+
+#[allow(dead_code)]
+mod peer;
+#[allow(dead_code)]
+mod random;
+mod rules;
+#[allow(dead_code)]
+mod texts;
+
+use peer::{order, Event, Kind, Memory, CELLS};
+use random::Random;
+use std::collections::{HashMap, HashSet};
+
+/// Traces of this search have at most this many events: one byte each in a
+/// state of 64 bits.
+const MAX_LEN: usize = 8;
+/// Room for the events of one trace, in words.
+const ROOM: usize = MAX_LEN * peer::EVENT_WORDS;
+
+// -------------------------------------------------------------------- states
+
+// A state lists the events of a trace, the first in the lowest byte; 0 ends
+// it. A byte up to MAX_LEN is a source event; one from INSERTED on is an
+// inserted load, with its location and its value.
+
+const INSERTED: u8 = 0x80;
+
+fn inserted_code(location: u8, value: u32) -> u8 {
+    assert!(location < 8 && value < 16);
+    INSERTED | location << 4 | value as u8
+}
+
+fn pack(codes: &[u8]) -> u64 {
+    codes.iter().rev().fold(0, |state, &code| state << 8 | u64::from(code))
+}
+
+fn unpack(state: u64) -> Vec<u8> {
+    state.to_le_bytes().into_iter().take_while(|&code| code != 0).collect()
+}
+
+fn load(place: u8, first: u32, order: u8) -> Event {
+    Event { kind: Kind::Load, place, order, first, second: 0 }
+}
+
+fn event_of(code: u8, source: &[Event]) -> Event {
+    if code >= INSERTED {
+        load(code >> 4 & 7, u32::from(code & 15), order::USED)
+    } else {
+        source[usize::from(code) - 1]
+    }
+}
+
+// ------------------------------------------------------------------ the runs
+
+/// Closes a set of states under the steps that `next` lists.
+fn closure(start: HashSet<u64>, next: impl Fn(u64, &mut Vec<u64>)) -> HashSet<u64> {
+    let mut todo: Vec<u64> = start.iter().copied().collect();
+    let mut found = start;
+    let mut steps = vec![];
+    while let Some(state) = todo.pop() {
+        next(state, &mut steps);
+        for step in steps.drain(..) {
+            if found.insert(step) {
+                todo.push(step);
+            }
+        }
+    }
+    found
+}
+
+fn swaps(codes: &[u8], trace: &[Event], steps: &mut Vec<u64>) {
+    for at in 1..codes.len() {
+        if rules::may_swap(trace, at - 1) {
+            let mut swapped = codes.to_vec();
+            swapped.swap(at - 1, at);
+            steps.push(pack(&swapped));
+        }
+    }
+}
+
+fn removals(codes: &[u8], trace: &[Event], steps: &mut Vec<u64>) {
+    for at in 0..codes.len() {
+        if rules::may_remove(trace, at) {
+            let mut shorter = codes.to_vec();
+            shorter.remove(at);
+            steps.push(pack(&shorter));
+        }
+    }
+}
+
+fn insertions(codes: &[u8], trace: &[Event], locations: &[u8], steps: &mut Vec<u64>) {
+    for at in 0..=codes.len() {
+        for &location in locations {
+            if let Some(value) = rules::insertable_value(trace, at, location) {
+                let mut longer = codes.to_vec();
+                longer.insert(at, inserted_code(location, value));
+                steps.push(pack(&longer));
+            }
+        }
+    }
+}
+
+/// Every trace of at most `limit` events that a run reaches, inserted ones
+/// counted, and some longer ones that only removals have touched.
+fn reached(source: &[Event], locations: &[u8], limit: usize) -> HashSet<u64> {
+    let identity: Vec<u8> = (1..=source.len() as u8).collect();
+    let decode = |codes: &[u8]| -> Vec<Event> { codes.iter().map(|&code| event_of(code, source)).collect() };
+    let removed = closure(HashSet::from([pack(&identity)]), |state, steps| {
+        let codes = unpack(state);
+        let trace = decode(&codes);
+        removals(&codes, &trace, steps);
+        swaps(&codes, &trace, steps);
+    });
+    closure(removed, |state, steps| {
+        let codes = unpack(state);
+        let trace = decode(&codes);
+        if codes.len() < limit {
+            insertions(&codes, &trace, locations, steps);
+        }
+        swaps(&codes, &trace, steps);
+    })
+}
+
+// ---------------------------------------------------------------- comparison
+
+#[derive(Default)]
+struct Tally {
+    compared: u64,
+    answers: [u64; 19],
+    sources: u64,
+    differences: u64,
+}
+
+impl Tally {
+    fn add(&mut self, other: &Tally) {
+        self.compared += other.compared;
+        self.sources += other.sources;
+        self.differences += other.differences;
+        for (sum, count) in self.answers.iter_mut().zip(other.answers) {
+            *sum += count;
+        }
+    }
+
+    fn print(&self, part: &str) {
+        print!("{part}: {} sources, {} cases compared, {} differences; answers", self.sources, self.compared, self.differences);
+        for (number, count) in self.answers.iter().enumerate().filter(|(_, &count)| count > 0) {
+            print!(" {number}:{count}");
+        }
+        println!();
+    }
+}
+
+/// One source with its text and all that its runs reach.
+struct Bench<'a> {
+    start: &'a Memory,
+    head: Vec<u8>,
+    source: Vec<Event>,
+    source_text: Vec<u8>,
+    reached: HashSet<u64>,
+    /// Event lines by event, since the same few come again and again.
+    lines: HashMap<[u32; 6], Vec<u8>>,
+    target_text: Vec<u8>,
+    matching_text: Vec<u8>,
+    tally: Tally,
+}
+
+impl<'a> Bench<'a> {
+    fn new(start: &'a Memory, source: Vec<Event>, locations: &[u8], limit: usize) -> Bench<'a> {
+        Bench {
+            start,
+            head: texts::trace_head(start).into_bytes(),
+            source_text: texts::trace_text(start, &source),
+            reached: reached(&source, locations, limit),
+            source,
+            lines: HashMap::new(),
+            target_text: vec![],
+            matching_text: vec![],
+            tally: Tally { sources: 1, ..Tally::default() },
+        }
+    }
+
+    fn answer(&mut self, target: &[Event], entries: &[u16]) -> u32 {
+        self.target_text.clear();
+        self.target_text.extend_from_slice(&self.head);
+        for event in target {
+            let line = self.lines.entry(event.words()).or_insert_with(|| texts::event_line(event).into_bytes());
+            self.target_text.extend_from_slice(line);
+        }
+        self.matching_text.clear();
+        self.matching_text.extend_from_slice(b"match\t1\n");
+        for &entry in entries {
+            if entry == 0 {
+                self.matching_text.extend_from_slice(b"gone\n");
+            } else {
+                self.matching_text.extend_from_slice(b"keep\t");
+                self.matching_text.extend_from_slice(&[b'0' + entry as u8, b'\n']);
+            }
+        }
+        let (mut room1, mut room2, mut room3) = ([0; ROOM], [0; ROOM], [0; MAX_LEN]);
+        let texts = (&self.source_text, &self.target_text, &self.matching_text);
+        peer::check(texts.0, texts.1, texts.2, &mut room1, &mut room2, &mut room3).answer.number
+    }
+
+    /// Whether a run reaches the target with the matching.
+    fn is_reached(&self, target: &[Event], entries: &[u16]) -> bool {
+        let mut codes = [0; MAX_LEN];
+        for (index, &entry) in entries.iter().enumerate().filter(|(_, &entry)| entry != 0) {
+            let at = usize::from(entry) - 1;
+            let unmarked = |event: Event| match event.kind {
+                Kind::Load => Event { order: order::NONE, ..event },
+                _ => event,
+            };
+            if unmarked(self.source[index]) != unmarked(target[at]) {
+                return false;
+            }
+            codes[at] = index as u8 + 1;
+        }
+        for (code, event) in codes.iter_mut().zip(target) {
+            if *code == 0 {
+                if event.kind != Kind::Load {
+                    return false;
+                }
+                *code = inserted_code(event.place, event.first);
+            }
+        }
+        self.reached.contains(&pack(&codes[..target.len()]))
+    }
+
+    /// Compares one case whose target is lawful.
+    fn compare(&mut self, target: &[Event], entries: &[u16]) {
+        let answer = self.answer(target, entries);
+        let reached = self.is_reached(target, entries);
+        let agree = if reached { answer == 0 } else { (10..=16).contains(&answer) };
+        if !agree {
+            self.tally.differences += 1;
+            let source = String::from_utf8_lossy(&self.source_text);
+            println!("DIFFERENCE reached {reached} answer {answer}\n{source}{}{entries:?}", String::from_utf8_lossy(&self.target_text));
+        }
+        self.tally.compared += 1;
+        self.tally.answers[answer as usize] += 1;
+    }
+}
+
+// ------------------------------------------------------------ small alphabets
+
+/// An event whose value, if it reads, is still to be filled in.
+#[derive(Clone, Copy)]
+struct Shape(Event);
+
+fn shape(kind: Kind, place: u8, order: u8, first: u32, second: u32) -> Shape {
+    Shape(Event { kind, place, order, first, second })
+}
+
+impl Shape {
+    /// The event on a memory: what it reads is what the memory holds.
+    fn on(self, memory: &Memory) -> Event {
+        let mut event = self.0;
+        if matches!(event.kind, Kind::Load | Kind::ALoad | Kind::Rmw | Kind::Add) {
+            event.first = memory[usize::from(event.place)];
+        }
+        event
+    }
+}
+
+/// Whether the event is right on the memory, and the memory after it.
+fn step(memory: &mut Memory, event: Event) -> bool {
+    let cell = &mut memory[usize::from(event.place)];
+    let (right, after) = match event.kind {
+        Kind::Load | Kind::ALoad => (*cell == event.first, event.first),
+        Kind::Store | Kind::AStore => (true, event.first),
+        Kind::Rmw => (*cell == event.first, event.second),
+        Kind::Add => (*cell == event.first, event.first.wrapping_add(event.second)),
+        Kind::Fence | Kind::Lock | Kind::Unlock => return true,
+    };
+    *cell = after;
+    right
+}
+
+/// Two locations, two values, both marks, a lock and an atomic load.
+fn tiny_alphabet() -> Vec<Shape> {
+    let mut shapes = vec![shape(Kind::Lock, 0, order::NONE, 0, 0), shape(Kind::ALoad, 2, order::ACQ, 0, 0)];
+    for location in TINY_LOCATIONS {
+        for mark in [order::USED, order::UNUSED] {
+            shapes.push(shape(Kind::Load, location, mark, 0, 0));
+        }
+        for value in [0, 1] {
+            shapes.push(shape(Kind::Store, location, order::NONE, value, 0));
+        }
+    }
+    shapes
+}
+
+const TINY_LOCATIONS: [u8; 2] = [0, 1];
+
+/// All lawful traces of at most `limit` events over the alphabet.
+fn all_traces(alphabet: &[Shape], start: &Memory, limit: usize) -> Vec<Vec<Event>> {
+    let mut traces = vec![];
+    let mut todo = vec![(vec![], *start)];
+    while let Some((trace, memory)) = todo.pop() {
+        if trace.len() < limit {
+            for shape in alphabet {
+                let mut longer: Vec<Event> = trace.clone();
+                let mut after = memory;
+                longer.push(shape.on(&memory));
+                step(&mut after, shape.on(&memory));
+                todo.push((longer, after));
+            }
+        }
+        traces.push(trace);
+    }
+    traces
+}
+
+/// All matchings of `source` entries to `target` events.
+fn all_matchings(source: usize, target: usize) -> Vec<Vec<u16>> {
+    let mut matchings: Vec<Vec<u16>> = vec![vec![]];
+    for _ in 0..source {
+        let mut longer = vec![];
+        for matching in &matchings {
+            for entry in (0..=target as u16).filter(|entry| *entry == 0 || !matching.contains(entry)) {
+                longer.push([matching.as_slice(), &[entry]].concat());
+            }
+        }
+        matchings = longer;
+    }
+    matchings
+}
+
+/// Runs a job for each source on all cores and sums up the tallies.
+fn on_all_cores(sources: &[Vec<Event>], job: impl Fn(&[Event]) -> Tally + Sync) -> Tally {
+    let cores = std::thread::available_parallelism().map_or(1, |cores| cores.get());
+    let mut total = Tally::default();
+    std::thread::scope(|scope| {
+        let workers: Vec<_> = (0..cores)
+            .map(|core| {
+                let job = &job;
+                scope.spawn(move || {
+                    let mut sum = Tally::default();
+                    for source in sources.iter().skip(core).step_by(cores) {
+                        sum.add(&job(source));
+                    }
+                    sum
+                })
+            })
+            .collect();
+        for worker in workers {
+            total.add(&worker.join().expect("a worker failed"));
+        }
+    });
+    total
+}
+
+/// Every source, target and matching of at most `limit` events a side.
+fn all_cases(limit: usize) -> Tally {
+    let start = [0; CELLS];
+    let traces = all_traces(&tiny_alphabet(), &start, limit);
+    let matchings: Vec<Vec<Vec<Vec<u16>>>> =
+        (0..=limit).map(|source| (0..=limit).map(|target| all_matchings(source, target)).collect()).collect();
+    on_all_cores(&traces, |source| {
+        let mut bench = Bench::new(&start, source.to_vec(), &TINY_LOCATIONS, limit);
+        for target in &traces {
+            for entries in &matchings[source.len()][target.len()] {
+                bench.compare(target, entries);
+            }
+        }
+        bench.tally
+    })
+}
+
+/// Fills the target position by position with source events or with events of
+/// the alphabet, so that each kept event equals its source. Marks of target
+/// loads alternate, as neither side may depend on them.
+fn fill(bench: &mut Bench, alphabet: &[Shape], limit: usize, target: &mut Vec<Event>, entries: &mut Vec<u16>, memory: &Memory) {
+    bench.compare(target, entries);
+    if target.len() == limit {
+        return;
+    }
+    let mark = if bench.tally.compared % 2 == 0 { order::USED } else { order::UNUSED };
+    let marked = |event: Event| match event.kind {
+        Kind::Load => Event { order: mark, ..event },
+        _ => event,
+    };
+    for index in 0..entries.len() {
+        let event = marked(bench.source[index]);
+        let mut after = *memory;
+        if entries[index] == 0 && step(&mut after, event) {
+            target.push(event);
+            entries[index] = target.len() as u16;
+            fill(bench, alphabet, limit, target, entries, &after);
+            entries[index] = 0;
+            target.pop();
+        }
+    }
+    for shape in alphabet.iter().filter(|shape| shape.0.order != order::UNUSED) {
+        let event = marked(shape.on(memory));
+        let mut after = *memory;
+        step(&mut after, event);
+        target.push(event);
+        fill(bench, alphabet, limit, target, entries, &after);
+        target.pop();
+    }
+}
+
+/// Up to `limit` events a side, every matching whose kept events are equal.
+fn equal_cases(limit: usize) -> Tally {
+    let start = [0; CELLS];
+    let alphabet = tiny_alphabet();
+    let sources = all_traces(&alphabet, &start, limit);
+    on_all_cores(&sources, |source| {
+        let mut bench = Bench::new(&start, source.to_vec(), &TINY_LOCATIONS, limit);
+        fill(&mut bench, &alphabet, limit, &mut vec![], &mut vec![0; source.len()], &start);
+        // Everything that the runs reach has been met: nothing was skipped.
+        let within = bench.reached.iter().filter(|&&state| unpack(state).len() <= limit).count() as u64;
+        assert_eq!(within, bench.tally.answers[0], "a reached trace was not among the cases");
+        bench.tally
+    })
+}
+
+// -------------------------------------------------------------------- random
+
+const RANDOM_LOCATIONS: [u8; 2] = [1, 4];
+const RANDOM_ATOMIC: u8 = 3;
+const RANDOM_LIMIT: usize = 7;
+
+fn random_shape(random: &mut Random) -> Shape {
+    let place = random.pick(&RANDOM_LOCATIONS);
+    let value = random.below(3) as u32;
+    match random.below(14) {
+        0..=4 => shape(Kind::Load, place, random.pick(&[order::USED, order::UNUSED]), 0, 0),
+        5..=10 => shape(Kind::Store, place, order::NONE, value, 0),
+        11 => shape(Kind::Fence, 0, order::SC, 0, 0),
+        12 => shape(random.pick(&[Kind::Lock, Kind::Unlock]), 1, order::NONE, 0, 0),
+        _ => match random.below(4) {
+            0 => shape(Kind::ALoad, RANDOM_ATOMIC, order::RLX, 0, 0),
+            1 => shape(Kind::AStore, RANDOM_ATOMIC, order::REL, value, 0),
+            2 => shape(Kind::Rmw, RANDOM_ATOMIC, order::AR, 0, value),
+            _ => shape(Kind::Add, RANDOM_ATOMIC, order::SC, 0, value),
+        },
+    }
+}
+
+/// A target and its matching, being built: each event with its source number,
+/// 0 for none.
+type Candidate = Vec<(Event, u8)>;
+
+fn random_change(random: &mut Random, candidate: &mut Candidate, source: &[Event]) {
+    let at = random.below(candidate.len() + 1);
+    match random.below(5) {
+        0 if at < candidate.len() => {
+            candidate.remove(at);
+        }
+        1 if at + 1 < candidate.len() => candidate.swap(at, at + 1),
+        2 if candidate.len() < RANDOM_LIMIT => {
+            let mut guess = [0; CELLS];
+            guess.fill_with(|| random.below(3) as u32);
+            let event = random_shape(random).on(&guess);
+            candidate.insert(at, (event, 0));
+        }
+        3 if at < candidate.len() => candidate[at].1 = 0,
+        _ if at < candidate.len() => {
+            let number = random.below(source.len()) as u8 + 1;
+            if candidate.iter().all(|item| item.1 != number) {
+                candidate[at].1 = number;
+            }
+        }
+        _ => {}
+    }
+}
+
+fn is_lawful(start: &Memory, target: &[Event]) -> bool {
+    let mut memory = *start;
+    target.iter().all(|&event| step(&mut memory, event))
+}
+
+fn random_bench(random: &mut Random, candidates: usize) -> Tally {
+    let mut start = [0; CELLS];
+    for location in RANDOM_LOCATIONS {
+        start[usize::from(location)] = random.below(3) as u32;
+    }
+    let mut memory = start;
+    let mut source = vec![];
+    for _ in 0..4 + random.below(4) {
+        let event = random_shape(random).on(&memory);
+        step(&mut memory, event);
+        source.push(event);
+    }
+    let mut bench = Bench::new(&start, source, &RANDOM_LOCATIONS, RANDOM_LIMIT);
+    let mut reached: Vec<u64> = bench.reached.iter().copied().collect();
+    reached.sort_unstable();
+    for _ in 0..candidates {
+        let mut candidate: Candidate = unpack(random.pick(&reached))
+            .into_iter()
+            .map(|code| (event_of(code, &bench.source), if code >= INSERTED { 0 } else { code }))
+            .collect();
+        for _ in 0..random.below(4) {
+            random_change(random, &mut candidate, &bench.source);
+        }
+        let target: Vec<Event> = candidate.iter().map(|item| item.0).collect();
+        let mut entries = vec![0; bench.source.len()];
+        for (at, item) in candidate.iter().enumerate().filter(|(_, item)| item.1 != 0) {
+            entries[usize::from(item.1) - 1] = at as u16 + 1;
+        }
+        if is_lawful(bench.start, &target) {
+            bench.compare(&target, &entries);
+        }
+    }
+    bench.tally
+}
+
+fn random_cases(seed: u64, sources: usize, candidates: usize) -> Tally {
+    // The source traces are drawn inside, so only the seeds are shared out.
+    let seeds: Vec<Vec<Event>> = vec![vec![]; sources];
+    let index = std::sync::atomic::AtomicU64::new(0);
+    on_all_cores(&seeds, |_| {
+        let mine = index.fetch_add(1, std::sync::atomic::Ordering::Relaxed);
+        random_bench(&mut Random::new(seed.wrapping_add(mine.wrapping_mul(0x1_0000_0001))), candidates)
+    })
+}
+
+/// `brute [part [seed]]`; without a part, all three.
+fn main() {
+    let arguments: Vec<String> = std::env::args().skip(1).collect();
+    let part = arguments.first().map_or("", |part| part.as_str());
+    let seed = arguments.get(1).and_then(|seed| seed.parse().ok()).unwrap_or(1);
+    let mut total = Tally::default();
+    let mut run = |name: &str, tally: &dyn Fn() -> Tally| {
+        if part.is_empty() || part == name {
+            let tally = tally();
+            tally.print(name);
+            total.add(&tally);
+        }
+    };
+    run("all", &|| all_cases(3));
+    run("equal", &|| equal_cases(4));
+    run("random", &|| random_cases(seed, 40_000, 200));
+    total.print("total");
+    if total.differences > 0 {
+        std::process::exit(1);
+    }
+}

@@ -1,0 +1,381 @@
+//! Random triples of texts. A random source is changed by lawful removals,
+//! swaps and insertions to a target, and the matching is kept along; then in
+//! most a fault is planted, in the moves, the events, the matching, the rooms
+//! or the bytes.
+
+use crate::cases::Case;
+use crate::peer::{order, Event, Kind, Memory, CELLS, MAX_EVENTS};
+use crate::random::Random;
+use crate::{rules, texts};
+
+/// Numbers of one to three digits, in an order that differs from that of texts.
+const PLACES: [u8; 12] = [0, 1, 2, 3, 9, 10, 11, 99, 100, 199, 254, 255];
+const VALUES: [u32; 10] = [0, 1, 2, 7, 10, 99, 100, 4_294_967_290, 4_294_967_294, 4_294_967_295];
+const RMW_ORDERS: [u8; 5] = [order::RLX, order::ACQ, order::REL, order::AR, order::SC];
+
+/// The few locations, mutexes and values of one trace: few, so that they meet.
+struct World {
+    plain: Vec<u8>,
+    atomic: Vec<u8>,
+    mutexes: Vec<u8>,
+    values: Vec<u32>,
+    /// One event in so many synchronises.
+    sync_rarity: usize,
+}
+
+fn shuffled<T: Copy>(random: &mut Random, items: &[T]) -> Vec<T> {
+    let mut items = items.to_vec();
+    for last in (1..items.len()).rev() {
+        items.swap(last, random.below(last + 1));
+    }
+    items
+}
+
+impl World {
+    fn new(random: &mut Random) -> World {
+        let places = shuffled(random, &PLACES);
+        let plain = 1 + random.below(3);
+        let mut values = shuffled(random, &VALUES);
+        values.truncate(1 + random.below(3));
+        World {
+            plain: places[..plain].to_vec(),
+            atomic: places[plain..plain + 2].to_vec(),
+            mutexes: shuffled(random, &PLACES)[..2].to_vec(),
+            values,
+            sync_rarity: 3 + random.below(8),
+        }
+    }
+
+    fn start(&self, random: &mut Random) -> Memory {
+        let mut start = [0; CELLS];
+        for &place in self.plain.iter().chain(&self.atomic) {
+            if random.once_in(2) {
+                start[usize::from(place)] = random.pick(&self.values);
+            }
+        }
+        start
+    }
+
+    /// An event that is right on the memory.
+    fn event(&self, random: &mut Random, memory: &Memory) -> Event {
+        if random.once_in(self.sync_rarity) {
+            return self.sync_event(random, memory);
+        }
+        let place = random.pick(&self.plain);
+        if random.once_in(2) {
+            let mark = random.pick(&[order::USED, order::USED, order::UNUSED]);
+            Event { kind: Kind::Load, place, order: mark, first: memory[usize::from(place)], second: 0 }
+        } else {
+            Event { kind: Kind::Store, place, order: order::NONE, first: random.pick(&self.values), second: 0 }
+        }
+    }
+
+    fn sync_event(&self, random: &mut Random, memory: &Memory) -> Event {
+        let kind = random.pick(&[Kind::ALoad, Kind::AStore, Kind::Rmw, Kind::Add, Kind::Fence, Kind::Lock, Kind::Unlock]);
+        let place = random.pick(&self.atomic);
+        let held = memory[usize::from(place)];
+        let value = random.pick(&self.values);
+        let (place, orders, first, second): (u8, &[u8], u32, u32) = match kind {
+            Kind::ALoad => (place, &[order::RLX, order::ACQ, order::SC], held, 0),
+            Kind::AStore => (place, &[order::RLX, order::REL, order::SC], value, 0),
+            // A new value equal to the old is a compare exchange that fails.
+            Kind::Rmw => (place, &RMW_ORDERS, held, random.pick(&[value, held])),
+            Kind::Add => (place, &RMW_ORDERS, held, value),
+            Kind::Fence => (0, &RMW_ORDERS[1..], 0, 0),
+            _ => (random.pick(&self.mutexes), &[order::NONE], 0, 0),
+        };
+        Event { kind, place, order: random.pick(orders), first, second }
+    }
+}
+
+/// The memory after an event, whatever the event claims to have read.
+fn step(memory: &mut Memory, event: &Event) {
+    let cell = &mut memory[usize::from(event.place)];
+    match event.kind {
+        Kind::Store | Kind::AStore => *cell = event.first,
+        Kind::Rmw => *cell = event.second,
+        Kind::Add => *cell = event.first.wrapping_add(event.second),
+        _ => {}
+    }
+}
+
+/// A triple before it becomes texts. Each target event has its source number,
+/// 0 for none.
+struct Draft {
+    world: World,
+    start: Memory,
+    source: Vec<Event>,
+    target: Vec<Event>,
+    numbers: Vec<u16>,
+}
+
+impl Draft {
+    fn new(random: &mut Random, events: usize) -> Draft {
+        let world = World::new(random);
+        let start = world.start(random);
+        let mut memory = start;
+        let mut source = vec![];
+        for _ in 0..events {
+            let event = world.event(random, &memory);
+            step(&mut memory, &event);
+            source.push(event);
+        }
+        let numbers = (1..=events as u16).collect();
+        Draft { world, start, target: source.clone(), source, numbers }
+    }
+
+    fn remove(&mut self, at: usize) {
+        self.target.remove(at);
+        self.numbers.remove(at);
+    }
+
+    fn swap(&mut self, at: usize) {
+        self.target.swap(at, at + 1);
+        self.numbers.swap(at, at + 1);
+    }
+
+    fn insert(&mut self, at: usize, event: Event) {
+        self.target.insert(at, event);
+        self.numbers.insert(at, 0);
+    }
+
+    fn lawful_swap(&mut self, random: &mut Random) {
+        let at = random.below(self.target.len().max(1));
+        if at + 1 < self.target.len() && rules::may_swap(&self.target, at) {
+            self.swap(at);
+        }
+    }
+
+    fn lawful_removal(&mut self, random: &mut Random) {
+        let at = random.below(self.target.len().max(1));
+        if at < self.target.len() && rules::may_remove(&self.target, at) {
+            self.remove(at);
+        }
+    }
+
+    fn lawful_insertion(&mut self, random: &mut Random) {
+        let at = random.below(self.target.len() + 1);
+        let place = random.pick(&self.world.plain);
+        if self.target.len() < MAX_EVENTS {
+            if let Some(first) = rules::insertable_value(&self.target, at, place) {
+                let mark = random.pick(&[order::USED, order::UNUSED]);
+                self.insert(at, Event { kind: Kind::Load, place, order: mark, first, second: 0 });
+            }
+        }
+    }
+
+    /// A run: removals and swaps, then insertions and swaps. Marks are free.
+    fn change(&mut self, random: &mut Random) {
+        let tries = random.below(3) * self.source.len();
+        for _ in 0..tries {
+            self.lawful_removal(random);
+            self.lawful_swap(random);
+        }
+        for _ in 0..tries.min(1 + random.below(4)) {
+            self.lawful_insertion(random);
+            self.lawful_swap(random);
+        }
+        for event in self.target.iter_mut().filter(|event| event.kind == Kind::Load) {
+            if random.once_in(4) {
+                event.order = random.pick(&[order::USED, order::UNUSED]);
+            }
+        }
+    }
+
+    /// A removal, a swap or an insertion that no rule was asked about.
+    fn change_unasked(&mut self, random: &mut Random) {
+        let at = random.below(self.target.len() + 1);
+        match random.below(3) {
+            0 if at < self.target.len() => self.remove(at),
+            1 if at + 1 < self.target.len() => self.swap(at),
+            _ => {
+                let mut memory = self.start;
+                self.target[..at].iter().for_each(|event| step(&mut memory, event));
+                let event = self.world.event(random, &memory);
+                self.insert(at, event);
+            }
+        }
+    }
+
+    /// One field of one event changed, in the target or in both traces.
+    fn change_event(&mut self, random: &mut Random) {
+        if self.target.is_empty() {
+            return;
+        }
+        let at = random.below(self.target.len());
+        let event = &mut self.target[at];
+        match random.below(4) {
+            0 => event.first = random.pick(&VALUES),
+            1 => event.place = random.pick(&PLACES),
+            2 if matches!(event.kind, Kind::Rmw | Kind::Add) => event.second = random.pick(&VALUES),
+            2 if matches!(event.kind, Kind::Lock | Kind::Unlock) => event.kind = random.pick(&[Kind::Lock, Kind::Unlock]),
+            _ if matches!(event.kind, Kind::Rmw | Kind::Add) => {
+                event.kind = random.pick(&[Kind::Rmw, Kind::Add]);
+                event.order = random.pick(&RMW_ORDERS);
+            }
+            _ => event.order = random.pick(&RMW_ORDERS).max(event.order),
+        }
+        let (changed, number) = (*event, self.numbers[at]);
+        if number != 0 && random.once_in(2) {
+            self.source[usize::from(number) - 1] = changed;
+        }
+    }
+
+    fn entries(&self) -> Vec<u16> {
+        let mut entries = vec![0; self.source.len()];
+        for (index, &number) in self.numbers.iter().enumerate().filter(|(_, &number)| number != 0) {
+            entries[usize::from(number) - 1] = index as u16 + 1;
+        }
+        entries
+    }
+
+    /// The starting memory of the target, changed in one cell.
+    fn other_start(&self, random: &mut Random) -> Memory {
+        let mut start = self.start;
+        let place = random.pick(&[self.world.plain.as_slice(), &self.world.atomic, &PLACES].concat());
+        start[usize::from(place)] = random.pick(&VALUES);
+        start
+    }
+}
+
+fn change_entries(random: &mut Random, entries: &mut Vec<u16>, target: usize) {
+    let at = random.below(entries.len() + 1);
+    match random.below(5) {
+        0 if at < entries.len() => {
+            entries.remove(at);
+        }
+        1 => entries.insert(at, random.below(target + 1) as u16),
+        2 if at < entries.len() => entries[at] = (target + 1 + random.below(3)) as u16,
+        3 if at < entries.len() => entries[at] = random.pick(entries),
+        _ if at < entries.len() => entries[at] = random.below(target + 1) as u16,
+        _ => {}
+    }
+}
+
+/// Rooms that hold the texts: exactly, with some to spare, or with all there is.
+fn fitting_rooms(random: &mut Random, needs: [usize; 3]) -> [usize; 3] {
+    let spare = random.pick(&[0, 1, 5, MAX_EVENTS]);
+    needs.map(|need| (need + spare).min(MAX_EVENTS))
+}
+
+fn line_starts(text: &[u8]) -> Vec<usize> {
+    let ends = text.iter().enumerate().filter(|(_, &byte)| byte == b'\n');
+    std::iter::once(0).chain(ends.map(|(at, _)| at + 1)).filter(|&at| at < text.len()).collect()
+}
+
+/// Damage to the bytes of a text.
+fn damage(random: &mut Random, text: &mut Vec<u8>) {
+    const ODD_BYTES: [u8; 14] = *b"\0\xff\t\n\r 0+-19aU/";
+    let at = random.below(text.len().max(1));
+    let starts = line_starts(text);
+    let line = starts.get(random.below(starts.len().max(1))).copied().unwrap_or(0);
+    match random.below(9) {
+        0 if at < text.len() => {
+            text.remove(at);
+        }
+        1 => text.insert(at, random.pick(&ODD_BYTES)),
+        2 if at < text.len() => text[at] = random.pick(&ODD_BYTES),
+        3 => {
+            text.pop();
+        }
+        4 => text.truncate(at),
+        // Before the end of a line: CR, a tab, a digit, a zero byte.
+        5 if line > 0 => text.insert(line - 1, random.pick(b"\r\t0 \0")),
+        // At its beginning: a blank line, a tab, a zero.
+        6 => text.insert(line, random.pick(b"\n\t0 ")),
+        7 => {
+            let tabs: Vec<usize> = (0..text.len()).filter(|&at| text[at] == b'\t').collect();
+            if !tabs.is_empty() {
+                let tab = random.pick(&tabs);
+                text.insert(tab + 1, random.pick(b"0+\t -9"));
+            }
+        }
+        _ => {
+            const BAD_LINES: [&[u8]; 5] = [b"init\t3\t0\n", b"store\t1\t4294967296\n", b"lock\t256\n", b"keep\t801\n", b"keep\t0\n"];
+            text.splice(line..line, random.pick(&BAD_LINES).to_vec());
+        }
+    }
+}
+
+/// Two lines exchanged, one said twice, or an `init` where none may stand.
+fn disorder(random: &mut Random, text: &mut Vec<u8>) {
+    let mut lines: Vec<Vec<u8>> = text.split_inclusive(|&byte| byte == b'\n').map(<[u8]>::to_vec).collect();
+    let from = 1 + random.below(lines.len());
+    let to = 1 + random.below(lines.len());
+    match random.below(3) {
+        0 if from < lines.len() && to < lines.len() => lines.swap(from, to),
+        1 if from < lines.len() => lines.insert(from, lines[from].clone()),
+        _ => {
+            let (place, value) = (random.pick(&PLACES), random.pick(&VALUES));
+            lines.insert(from.min(lines.len()), format!("init\t{place}\t{value}\n").into_bytes());
+        }
+    }
+    *text = lines.concat();
+}
+
+/// Mostly short traces, and some in which event numbers have two digits.
+fn size(random: &mut Random) -> usize {
+    match random.below(8) {
+        0 => random.below(3),
+        1 => 10 + random.below(12),
+        _ => 2 + random.below(7),
+    }
+}
+
+/// A triple that every rule allows.
+pub fn lawful_case(random: &mut Random, events: usize) -> Case {
+    let mut draft = Draft::new(random, events);
+    draft.change(random);
+    let entries = draft.entries();
+    Case {
+        source: texts::trace_text(&draft.start, &draft.source),
+        target: texts::trace_text(&draft.start, &draft.target),
+        matching: texts::matching_text(&entries),
+        rooms: fitting_rooms(random, [draft.source.len(), draft.target.len(), entries.len()]),
+    }
+}
+
+/// A triple with a fault planted, which may turn out to be none.
+pub fn faulty_case(random: &mut Random) -> Case {
+    let events = size(random);
+    let mut draft = Draft::new(random, events);
+    draft.change(random);
+    let fault = random.below(16);
+    match fault {
+        0..=5 => (0..1 + random.below(2)).for_each(|_| draft.change_unasked(random)),
+        6..=8 => draft.change_event(random),
+        _ => {}
+    }
+    let mut entries = draft.entries();
+    if (9..=10).contains(&fault) {
+        change_entries(random, &mut entries, draft.target.len());
+    }
+    let target_start = if fault == 11 { draft.other_start(random) } else { draft.start };
+    let needs = [draft.source.len(), draft.target.len(), entries.len()];
+    let mut case = Case {
+        source: texts::trace_text(&draft.start, &draft.source),
+        target: texts::trace_text(&target_start, &draft.target),
+        matching: texts::matching_text(&entries),
+        rooms: fitting_rooms(random, needs),
+    };
+    let side = random.below(3);
+    let text = [&mut case.source, &mut case.target, &mut case.matching].into_iter().nth(side).expect("three texts");
+    match fault {
+        12..=13 => damage(random, text),
+        14 => disorder(random, text),
+        15 => case.rooms[side] = random.below(needs[side].max(1)),
+        _ => {}
+    }
+    case
+}
+
+/// A triple of any sort.
+#[allow(dead_code)]
+pub fn case(random: &mut Random) -> Case {
+    if random.once_in(8) {
+        let events = size(random);
+        lawful_case(random, events)
+    } else {
+        faulty_case(random)
+    }
+}

@@ -1,0 +1,987 @@
+//! Reading, writing and checking of traces and matchings, in ordinary safe Rust.
+//!
+//! A text is parsed once, into a compact buffer of its own, because a refused
+//! call must leave the lent rooms as they were. Only when every text of the
+//! call has been found lawful are the buffers copied to the rooms. The check
+//! then makes one pass down and one pass up over the source events and one
+//! pass up over the target events, so its cost is linear in their number.
+
+#![forbid(unsafe_code)]
+
+// ---------------------------------------------------------------- constants
+
+/// The longest text that is read, in bytes.
+pub const MAX_TEXT: usize = 32_400;
+/// The most events of a trace, and the most entries of a matching.
+pub const MAX_EVENTS: usize = 800;
+/// Locations are numbered 0 to 255, and so are mutexes.
+pub const CELLS: usize = 256;
+/// An event in a room is this many words.
+pub const EVENT_WORDS: usize = 6;
+
+/// The highest location or mutex.
+const MAX_PLACE: u32 = 255;
+/// Ten digits are enough for every lawful number; more are always too many.
+const MAX_DIGITS: usize = 10;
+/// `lock`, tab, one digit, LF: bounds the events that a text can hold.
+const SHORTEST_EVENT_LINE: usize = 7;
+/// `gone`, LF: bounds the entries that a text can hold.
+const SHORTEST_ENTRY_LINE: usize = 5;
+/// No line that the writer makes is longer (an `rmw` with all fields full has 34).
+const LONGEST_LINE: usize = 40;
+
+const TAB: u8 = b'\t';
+const LF: u8 = b'\n';
+
+const TRACE_HEADER: &[u8] = b"trace\t1\n";
+const MATCHING_HEADER: &[u8] = b"match\t1\n";
+
+/// The number of an answer.
+pub mod number {
+    pub const DONE: u32 = 0;
+    pub const TEXT_TOO_LONG: u32 = 1;
+    pub const BAD_LINE: u32 = 2;
+    pub const TOO_MANY: u32 = 3;
+    pub const INIT_OUT_OF_ORDER: u32 = 4;
+    pub const MIXED_USE: u32 = 5;
+    pub const NOT_LATEST: u32 = 6;
+    pub const STARTS_DIFFER: u32 = 7;
+    pub const ENTRY_COUNT: u32 = 8;
+    pub const BAD_TARGET_NUMBER: u32 = 9;
+    pub const KEPT_DIFFERS: u32 = 10;
+    pub const SYNC_GONE: u32 = 11;
+    pub const OVERTAKEN: u32 = 12;
+    pub const LOAD_GONE: u32 = 13;
+    pub const STORE_GONE: u32 = 14;
+    pub const NOT_A_LOAD: u32 = 15;
+    pub const NOTHING_NEAR: u32 = 16;
+    pub const ROOM_TOO_SHORT: u32 = 17;
+    pub const BAD_FIELDS: u32 = 18;
+}
+
+/// The side of an answer.
+pub mod side {
+    pub const NONE: u32 = 0;
+    pub const SOURCE: u32 = 1;
+    pub const TARGET: u32 = 2;
+    pub const MATCHING: u32 = 3;
+}
+
+/// What stands in the order word of an event.
+pub mod order {
+    pub const NONE: u8 = 0;
+    pub const RLX: u8 = 1;
+    pub const ACQ: u8 = 2;
+    pub const REL: u8 = 3;
+    pub const AR: u8 = 4;
+    pub const SC: u8 = 5;
+    /// The marks of a load share the word with the orders.
+    pub const USED: u8 = 6;
+    pub const UNUSED: u8 = 7;
+}
+
+// -------------------------------------------------------------------- types
+
+/// The value of every location.
+pub type Memory = [u32; CELLS];
+
+const ZERO_MEMORY: Memory = [0; CELLS];
+
+#[derive(Clone, Copy, Debug, PartialEq, Eq)]
+pub struct Answer {
+    pub number: u32,
+    pub side: u32,
+    pub place: u32,
+}
+
+impl Answer {
+    const DONE: Answer = Answer { number: number::DONE, side: side::NONE, place: 0 };
+
+    /// A place never exceeds the length of a text or a room's need, so it fits.
+    fn new(number: u32, side: u32, place: usize) -> Answer {
+        Answer { number, side, place: place as u32 }
+    }
+}
+
+#[derive(Clone, Debug, PartialEq, Eq)]
+pub struct TraceRead {
+    pub answer: Answer,
+    pub events: usize,
+    pub memory: Memory,
+}
+
+#[derive(Clone, Copy, Debug, PartialEq, Eq)]
+pub struct MatchingRead {
+    pub answer: Answer,
+    pub entries: usize,
+}
+
+#[derive(Clone, Debug, PartialEq, Eq)]
+pub struct Checked {
+    pub answer: Answer,
+    pub source_events: usize,
+    pub target_events: usize,
+    pub entries: usize,
+    pub source_memory: Memory,
+    pub target_memory: Memory,
+}
+
+impl Checked {
+    /// What a check hands back when one of its readings is refused.
+    fn refused(answer: Answer) -> Checked {
+        Checked {
+            answer,
+            source_events: 0,
+            target_events: 0,
+            entries: 0,
+            source_memory: ZERO_MEMORY,
+            target_memory: ZERO_MEMORY,
+        }
+    }
+}
+
+#[derive(Clone, Copy, Debug, PartialEq, Eq)]
+#[repr(u8)]
+pub enum Kind {
+    Load = 1,
+    Store = 2,
+    ALoad = 3,
+    AStore = 4,
+    Rmw = 5,
+    Add = 6,
+    Fence = 7,
+    Lock = 8,
+    Unlock = 9,
+}
+
+/// The kinds in the order of their numbers, from 1.
+const KINDS: [Kind; 9] = [
+    Kind::Load,
+    Kind::Store,
+    Kind::ALoad,
+    Kind::AStore,
+    Kind::Rmw,
+    Kind::Add,
+    Kind::Fence,
+    Kind::Lock,
+    Kind::Unlock,
+];
+
+impl Kind {
+    pub fn is_plain(self) -> bool {
+        matches!(self, Kind::Load | Kind::Store)
+    }
+
+    fn name(self) -> &'static [u8] {
+        match self {
+            Kind::Load => b"load",
+            Kind::Store => b"store",
+            Kind::ALoad => b"aload",
+            Kind::AStore => b"astore",
+            Kind::Rmw => b"rmw",
+            Kind::Add => b"add",
+            Kind::Fence => b"fence",
+            Kind::Lock => b"lock",
+            Kind::Unlock => b"unlock",
+        }
+    }
+
+    /// The orders (or marks) that suit the kind, one bit for each order number.
+    const fn lawful_orders(self) -> u8 {
+        const EACH: u8 = 1 << order::RLX | 1 << order::ACQ | 1 << order::REL | 1 << order::AR | 1 << order::SC;
+        match self {
+            Kind::Load => 1 << order::USED | 1 << order::UNUSED,
+            Kind::ALoad => 1 << order::RLX | 1 << order::ACQ | 1 << order::SC,
+            Kind::AStore => 1 << order::RLX | 1 << order::REL | 1 << order::SC,
+            Kind::Rmw | Kind::Add => EACH,
+            Kind::Fence => EACH & !(1 << order::RLX),
+            Kind::Store | Kind::Lock | Kind::Unlock => 1 << order::NONE,
+        }
+    }
+
+    fn suits(self, order: u8) -> bool {
+        self.lawful_orders() >> order & 1 == 1
+    }
+
+    fn has_place(self) -> bool {
+        self != Kind::Fence
+    }
+
+    /// How many value fields the kind has.
+    fn values(self) -> usize {
+        match self {
+            Kind::Load | Kind::Store | Kind::ALoad | Kind::AStore => 1,
+            Kind::Rmw | Kind::Add => 2,
+            Kind::Fence | Kind::Lock | Kind::Unlock => 0,
+        }
+    }
+}
+
+/// An event, in half the bytes that it takes in a room. Fields that the kind
+/// does not have are 0.
+#[derive(Clone, Copy, Debug, PartialEq, Eq)]
+pub struct Event {
+    pub kind: Kind,
+    /// The location or the mutex.
+    pub place: u8,
+    /// The order, or the mark of a load.
+    pub order: u8,
+    /// The value; for `rmw` and `add` the old one.
+    pub first: u32,
+    /// `rmw`'s new value, `add`'s operand.
+    pub second: u32,
+}
+
+impl Event {
+    /// The six words of the event in a room. The sixth, the code, is 0.
+    pub fn words(self) -> [u32; EVENT_WORDS] {
+        [self.kind as u32, self.place.into(), self.order.into(), self.first, self.second, 0]
+    }
+
+    /// The event of six words, if they are of the layout.
+    fn from_words(words: &[u32]) -> Option<Event> {
+        let &[kind, place, order, first, second, code] = words else {
+            return None;
+        };
+        let kind = *KINDS.get((kind as usize).checked_sub(1)?)?;
+        let place = u8::try_from(place).ok()?;
+        let order = u8::try_from(order).ok().filter(|&order| order <= order::UNUSED)?;
+        let lawful = kind.suits(order)
+            && (kind.has_place() || place == 0)
+            && (kind.values() >= 1 || first == 0)
+            && (kind.values() == 2 || second == 0)
+            && code == 0;
+        lawful.then_some(Event { kind, place, order, first, second })
+    }
+
+    /// Equality, the marks of loads apart.
+    fn same_but_for_mark(self, other: Event) -> bool {
+        self.kind == other.kind
+            && self.place == other.place
+            && self.first == other.first
+            && self.second == other.second
+            && (self.order == other.order || self.kind == Kind::Load)
+    }
+}
+
+// ------------------------------------------------------------------ reading
+
+/// The part of a text that is still to be read. Every method takes what it
+/// wants from the front, or says `None` and leaves the rest undefined: the
+/// line is then not of the layout and nothing after it matters.
+struct Cursor<'a> {
+    rest: &'a [u8],
+}
+
+/// One line of a trace after the first.
+enum Record {
+    Init { location: u8, value: u32 },
+    Event(Event),
+}
+
+impl Cursor<'_> {
+    /// A decimal number of at most `limit` without leading zeros, and the byte
+    /// `end` that closes its field.
+    #[inline]
+    fn number(&mut self, limit: u32, end: u8) -> Option<u32> {
+        let mut value = 0u64;
+        let mut digits = 0;
+        loop {
+            let &byte = self.rest.get(digits)?;
+            let digit = byte.wrapping_sub(b'0');
+            if digit > 9 {
+                if byte != end {
+                    return None;
+                }
+                break;
+            }
+            if digits == MAX_DIGITS {
+                return None;
+            }
+            value = value * 10 + u64::from(digit);
+            digits += 1;
+        }
+        let leading_zero = digits > 1 && self.rest[0] == b'0';
+        if digits == 0 || leading_zero || value > u64::from(limit) {
+            return None;
+        }
+        self.rest = &self.rest[digits + 1..];
+        Some(value as u32)
+    }
+
+    #[inline]
+    fn place(&mut self, end: u8) -> Option<u8> {
+        self.number(MAX_PLACE, end).map(|place| place as u8)
+    }
+
+    #[inline]
+    fn value(&mut self, end: u8) -> Option<u32> {
+        self.number(u32::MAX, end)
+    }
+
+    /// An order that suits the kind, and the byte that closes its field.
+    #[inline]
+    fn order(&mut self, kind: Kind, end: u8) -> Option<u8> {
+        let (order, close, rest) = match self.rest {
+            [b'r', b'l', b'x', close, rest @ ..] => (order::RLX, close, rest),
+            [b'a', b'c', b'q', close, rest @ ..] => (order::ACQ, close, rest),
+            [b'r', b'e', b'l', close, rest @ ..] => (order::REL, close, rest),
+            [b'a', b'r', close, rest @ ..] => (order::AR, close, rest),
+            [b's', b'c', close, rest @ ..] => (order::SC, close, rest),
+            _ => return None,
+        };
+        self.rest = rest;
+        (*close == end && kind.suits(order)).then_some(order)
+    }
+
+    /// The mark of a load, and the end of its line.
+    #[inline]
+    fn mark(&mut self) -> Option<u8> {
+        let (mark, rest) = match self.rest {
+            [b'u', b's', b'e', b'd', LF, rest @ ..] => (order::USED, rest),
+            [b'u', b'n', b'u', b's', b'e', b'd', LF, rest @ ..] => (order::UNUSED, rest),
+            _ => return None,
+        };
+        self.rest = rest;
+        Some(mark)
+    }
+
+    /// A whole trace line with its LF.
+    fn record(&mut self) -> Option<Record> {
+        match self.rest {
+            [b'l', b'o', b'a', b'd', TAB, rest @ ..] => self.after(rest).load(),
+            [b's', b't', b'o', b'r', b'e', TAB, rest @ ..] => self.after(rest).store(),
+            [b'a', b'l', b'o', b'a', b'd', TAB, rest @ ..] => self.after(rest).atomic(Kind::ALoad),
+            [b'a', b's', b't', b'o', b'r', b'e', TAB, rest @ ..] => self.after(rest).atomic(Kind::AStore),
+            [b'r', b'm', b'w', TAB, rest @ ..] => self.after(rest).atomic_pair(Kind::Rmw),
+            [b'a', b'd', b'd', TAB, rest @ ..] => self.after(rest).atomic_pair(Kind::Add),
+            [b'f', b'e', b'n', b'c', b'e', TAB, rest @ ..] => self.after(rest).fence(),
+            [b'l', b'o', b'c', b'k', TAB, rest @ ..] => self.after(rest).mutex(Kind::Lock),
+            [b'u', b'n', b'l', b'o', b'c', b'k', TAB, rest @ ..] => self.after(rest).mutex(Kind::Unlock),
+            [b'i', b'n', b'i', b't', TAB, rest @ ..] => self.after(rest).init(),
+            _ => None,
+        }
+    }
+}
+
+impl<'a> Cursor<'a> {
+    #[inline]
+    fn after(&mut self, rest: &'a [u8]) -> &mut Self {
+        self.rest = rest;
+        self
+    }
+
+    #[inline]
+    fn load(&mut self) -> Option<Record> {
+        let place = self.place(TAB)?;
+        let first = self.value(TAB)?;
+        let order = self.mark()?;
+        Some(Record::Event(Event { kind: Kind::Load, place, order, first, second: 0 }))
+    }
+
+    #[inline]
+    fn store(&mut self) -> Option<Record> {
+        let place = self.place(TAB)?;
+        let first = self.value(LF)?;
+        Some(Record::Event(Event { kind: Kind::Store, place, order: order::NONE, first, second: 0 }))
+    }
+
+    #[inline]
+    fn atomic(&mut self, kind: Kind) -> Option<Record> {
+        let place = self.place(TAB)?;
+        let order = self.order(kind, TAB)?;
+        let first = self.value(LF)?;
+        Some(Record::Event(Event { kind, place, order, first, second: 0 }))
+    }
+
+    #[inline]
+    fn atomic_pair(&mut self, kind: Kind) -> Option<Record> {
+        let place = self.place(TAB)?;
+        let order = self.order(kind, TAB)?;
+        let first = self.value(TAB)?;
+        let second = self.value(LF)?;
+        Some(Record::Event(Event { kind, place, order, first, second }))
+    }
+
+    #[inline]
+    fn fence(&mut self) -> Option<Record> {
+        let order = self.order(Kind::Fence, LF)?;
+        Some(Record::Event(Event { kind: Kind::Fence, place: 0, order, first: 0, second: 0 }))
+    }
+
+    #[inline]
+    fn mutex(&mut self, kind: Kind) -> Option<Record> {
+        let place = self.place(LF)?;
+        Some(Record::Event(Event { kind, place, order: order::NONE, first: 0, second: 0 }))
+    }
+
+    /// An `init` line. A value of 0 is not of the layout.
+    #[inline]
+    fn init(&mut self) -> Option<Record> {
+        let location = self.place(TAB)?;
+        let value = self.value(LF).filter(|&value| value != 0)?;
+        Some(Record::Init { location, value })
+    }
+
+    /// A whole matching line with its LF: the target number, 0 for `gone`.
+    #[inline]
+    fn entry(&mut self) -> Option<u16> {
+        match self.rest {
+            [b'g', b'o', b'n', b'e', LF, rest @ ..] => {
+                self.rest = rest;
+                Some(0)
+            }
+            [b'k', b'e', b'e', b'p', TAB, rest @ ..] => {
+                self.rest = rest;
+                let target = self.number(MAX_EVENTS as u32, LF).filter(|&target| target != 0)?;
+                Some(target as u16)
+            }
+            _ => None,
+        }
+    }
+}
+
+/// The text after its first line, or the refusal of its length or first line.
+fn body<'a>(text: &'a [u8], header: &[u8], side: u32) -> Result<Cursor<'a>, Answer> {
+    if text.len() > MAX_TEXT {
+        return Err(Answer::new(number::TEXT_TOO_LONG, side, 0));
+    }
+    match text.strip_prefix(header) {
+        Some(rest) => Ok(Cursor { rest }),
+        None => Err(Answer::new(number::BAD_LINE, side, 1)),
+    }
+}
+
+/// Answers 1 to 4 of a trace. Fills the starting memory, which is all 0 before.
+fn parse_lines(text: &[u8], side: u32, memory: &mut Memory) -> Result<Vec<Event>, Answer> {
+    let mut cursor = body(text, TRACE_HEADER, side)?;
+    let mut events = Vec::with_capacity((text.len() / SHORTEST_EVENT_LINE).min(MAX_EVENTS));
+    let mut line = 1;
+    let mut next_location = 0;
+    while !cursor.rest.is_empty() {
+        line += 1;
+        match cursor.record() {
+            None => return Err(Answer::new(number::BAD_LINE, side, line)),
+            Some(Record::Init { location, value }) => {
+                if !events.is_empty() || usize::from(location) < next_location {
+                    return Err(Answer::new(number::INIT_OUT_OF_ORDER, side, line));
+                }
+                next_location = usize::from(location) + 1;
+                memory[usize::from(location)] = value;
+            }
+            Some(Record::Event(event)) => {
+                if events.len() == MAX_EVENTS {
+                    return Err(Answer::new(number::TOO_MANY, side, line));
+                }
+                events.push(event);
+            }
+        }
+    }
+    Ok(events)
+}
+
+/// Bits that say how a location has been used so far.
+const PLAIN_USE: u8 = 1;
+const ATOMIC_USE: u8 = 2;
+
+/// Answers 5 and 6: the events one by one against the latest values.
+fn replay(start: &Memory, events: &[Event], side: u32) -> Result<(), Answer> {
+    let mut cells = *start;
+    let mut uses = [0u8; CELLS];
+    for (index, event) in events.iter().enumerate() {
+        let (usage, reads, after) = match event.kind {
+            Kind::Load => (PLAIN_USE, true, event.first),
+            Kind::Store => (PLAIN_USE, false, event.first),
+            Kind::ALoad => (ATOMIC_USE, true, event.first),
+            Kind::AStore => (ATOMIC_USE, false, event.first),
+            Kind::Rmw => (ATOMIC_USE, true, event.second),
+            Kind::Add => (ATOMIC_USE, true, event.first.wrapping_add(event.second)),
+            Kind::Fence | Kind::Lock | Kind::Unlock => continue,
+        };
+        let place = usize::from(event.place);
+        uses[place] |= usage;
+        if uses[place] == PLAIN_USE | ATOMIC_USE {
+            return Err(Answer::new(number::MIXED_USE, side, index + 1));
+        }
+        if reads && cells[place] != event.first {
+            return Err(Answer::new(number::NOT_LATEST, side, index + 1));
+        }
+        cells[place] = after;
+    }
+    Ok(())
+}
+
+/// Answers 1 to 6 and 17 of a trace, for a room of `room` words.
+fn parse_trace(text: &[u8], side: u32, room: usize, memory: &mut Memory) -> Result<Vec<Event>, Answer> {
+    let events = parse_lines(text, side, memory)?;
+    replay(memory, &events, side)?;
+    if room / EVENT_WORDS < events.len() {
+        return Err(Answer::new(number::ROOM_TOO_SHORT, side, events.len()));
+    }
+    Ok(events)
+}
+
+/// Answers 1 to 3 and 17 of a matching, for a room of `room` entries.
+fn parse_matching(text: &[u8], room: usize) -> Result<Vec<u16>, Answer> {
+    let mut cursor = body(text, MATCHING_HEADER, side::MATCHING)?;
+    let mut entries = Vec::with_capacity((text.len() / SHORTEST_ENTRY_LINE).min(MAX_EVENTS));
+    let mut line = 1;
+    while !cursor.rest.is_empty() {
+        line += 1;
+        let Some(entry) = cursor.entry() else {
+            return Err(Answer::new(number::BAD_LINE, side::MATCHING, line));
+        };
+        if entries.len() == MAX_EVENTS {
+            return Err(Answer::new(number::TOO_MANY, side::MATCHING, line));
+        }
+        entries.push(entry);
+    }
+    if room < entries.len() {
+        return Err(Answer::new(number::ROOM_TOO_SHORT, side::MATCHING, entries.len()));
+    }
+    Ok(entries)
+}
+
+/// Puts the events at the front of a room that is long enough.
+fn store_events(events: &[Event], room: &mut [u32]) {
+    for (event, words) in events.iter().zip(room.chunks_exact_mut(EVENT_WORDS)) {
+        words.copy_from_slice(&event.words());
+    }
+}
+
+/// Puts the entries at the front of a room that is long enough.
+fn store_entries(entries: &[u16], room: &mut [u32]) {
+    for (entry, word) in entries.iter().zip(room) {
+        *word = u32::from(*entry);
+    }
+}
+
+/// Reads a trace alone.
+pub fn read_trace(text: &[u8], room: &mut [u32]) -> TraceRead {
+    let mut read = TraceRead { answer: Answer::DONE, events: 0, memory: ZERO_MEMORY };
+    match parse_trace(text, side::SOURCE, room.len(), &mut read.memory) {
+        Ok(events) => {
+            store_events(&events, room);
+            read.events = events.len();
+            read
+        }
+        Err(answer) => TraceRead { answer, events: 0, memory: ZERO_MEMORY },
+    }
+}
+
+/// Reads a matching alone.
+pub fn read_matching(text: &[u8], room: &mut [u32]) -> MatchingRead {
+    match parse_matching(text, room.len()) {
+        Ok(entries) => {
+            store_entries(&entries, room);
+            MatchingRead { answer: Answer::DONE, entries: entries.len() }
+        }
+        Err(answer) => MatchingRead { answer, entries: 0 },
+    }
+}
+
+// ------------------------------------------------------------------ writing
+
+fn push_number(text: &mut Vec<u8>, mut number: u32) {
+    let mut digits = [0u8; MAX_DIGITS];
+    let mut start = MAX_DIGITS;
+    loop {
+        start -= 1;
+        digits[start] = b'0' + (number % 10) as u8;
+        number /= 10;
+        if number == 0 {
+            break;
+        }
+    }
+    text.extend_from_slice(&digits[start..]);
+}
+
+fn push_number_field(text: &mut Vec<u8>, number: u32) {
+    text.push(TAB);
+    push_number(text, number);
+}
+
+fn push_order_field(text: &mut Vec<u8>, order: u8) {
+    let name: &[u8] = match order {
+        order::RLX => b"\trlx",
+        order::ACQ => b"\tacq",
+        order::REL => b"\trel",
+        order::AR => b"\tar",
+        order::SC => b"\tsc",
+        order::USED => b"\tused",
+        order::UNUSED => b"\tunused",
+        _ => b"",
+    };
+    text.extend_from_slice(name);
+}
+
+fn push_event(text: &mut Vec<u8>, event: Event) {
+    text.extend_from_slice(event.kind.name());
+    if event.kind.has_place() {
+        push_number_field(text, event.place.into());
+    }
+    // A load's mark stands after its value, an order before.
+    if event.kind == Kind::Load {
+        push_number_field(text, event.first);
+        push_order_field(text, event.order);
+    } else {
+        push_order_field(text, event.order);
+        if event.kind.values() >= 1 {
+            push_number_field(text, event.first);
+        }
+        if event.kind.values() == 2 {
+            push_number_field(text, event.second);
+        }
+    }
+    text.push(LF);
+}
+
+fn push_init(text: &mut Vec<u8>, location: usize, value: u32) {
+    text.extend_from_slice(b"init");
+    push_number_field(text, location as u32);
+    push_number_field(text, value);
+    text.push(LF);
+}
+
+/// The text of a lawful trace.
+fn render(memory: &Memory, events: &[Event]) -> Vec<u8> {
+    let mut text = Vec::with_capacity(TRACE_HEADER.len() + events.len() * LONGEST_LINE);
+    text.extend_from_slice(TRACE_HEADER);
+    for (location, &value) in memory.iter().enumerate() {
+        if value != 0 {
+            push_init(&mut text, location, value);
+        }
+    }
+    for &event in events {
+        push_event(&mut text, event);
+    }
+    text
+}
+
+/// Answers 3 and 18 of the writer. An event cut short at the end of the part
+/// counts as an event; it has fewer than six words, so it is not of the layout.
+fn unpack(room: &[u32]) -> Result<Vec<Event>, Answer> {
+    if room.len().div_ceil(EVENT_WORDS) > MAX_EVENTS {
+        return Err(Answer::new(number::TOO_MANY, side::NONE, MAX_EVENTS + 1));
+    }
+    room.chunks(EVENT_WORDS)
+        .enumerate()
+        .map(|(index, words)| {
+            Event::from_words(words).ok_or(Answer::new(number::BAD_FIELDS, side::NONE, index + 1))
+        })
+        .collect()
+}
+
+/// Writes the text of the events in a part of a room, with `init` lines made
+/// from the starting memory.
+pub fn write_trace(memory: &Memory, room: &[u32], out: &mut [u8]) -> Answer {
+    let written = unpack(room).and_then(|events| {
+        replay(memory, &events, side::NONE)?;
+        let text = render(memory, &events);
+        match out.get_mut(..text.len()) {
+            Some(front) => {
+                front.copy_from_slice(&text);
+                Ok(text.len())
+            }
+            None => Err(Answer::new(number::ROOM_TOO_SHORT, side::NONE, text.len())),
+        }
+    });
+    match written {
+        Ok(bytes) => Answer::new(number::DONE, side::NONE, bytes),
+        Err(answer) => answer,
+    }
+}
+
+// ----------------------------------------------------------------- checking
+
+/// A set of event indices.
+#[derive(Clone, Copy)]
+struct Indices {
+    bits: [u64; MAX_EVENTS.div_ceil(64)],
+}
+
+impl Indices {
+    const EMPTY: Indices = Indices { bits: [0; MAX_EVENTS.div_ceil(64)] };
+
+    fn contains(&self, index: usize) -> bool {
+        self.bits[index / 64] >> (index % 64) & 1 == 1
+    }
+
+    /// Adds an index and says whether it was new.
+    fn insert(&mut self, index: usize) -> bool {
+        let new = !self.contains(index);
+        self.bits[index / 64] |= 1 << (index % 64);
+        new
+    }
+}
+
+/// Answer 7.
+fn compare_starts(source: &Memory, target: &Memory) -> Result<(), Answer> {
+    if source == target {
+        return Ok(());
+    }
+    match source.iter().zip(target).position(|(a, b)| a != b) {
+        Some(location) => Err(Answer::new(number::STARTS_DIFFER, side::TARGET, location)),
+        None => Ok(()),
+    }
+}
+
+/// Answers 8 and 9. Hands back the target indices that have a source.
+fn match_up(source_events: usize, target_events: usize, entries: &[u16]) -> Result<Indices, Answer> {
+    if entries.len() != source_events {
+        return Err(Answer::new(number::ENTRY_COUNT, side::MATCHING, entries.len()));
+    }
+    let mut matched = Indices::EMPTY;
+    for (index, &entry) in entries.iter().enumerate() {
+        let target = usize::from(entry);
+        if target > target_events || (target > 0 && !matched.insert(target - 1)) {
+            return Err(Answer::new(number::BAD_TARGET_NUMBER, side::MATCHING, index + 1));
+        }
+    }
+    Ok(matched)
+}
+
+// A stretch is what lies between two neighbouring synchronising events. The
+// passes below number the stretches from 1 and stamp a location with the
+// stretch in which something was last noted of it, so that nothing has to be
+// cleared where a new stretch begins.
+
+/// The source stores, by index, whose next access in the stretch that is a
+/// store or is kept is not a store: *closing*, should they be gone.
+fn closing_stores(source: &[Event], entries: &[u16]) -> Indices {
+    let mut closing = Indices::EMPTY;
+    // The stretch in which the next access that decides is a store.
+    let mut store_follows = [0u16; CELLS];
+    let mut stretch = 1u16;
+    for (index, (event, &entry)) in source.iter().zip(entries).enumerate().rev() {
+        let place = usize::from(event.place);
+        match event.kind {
+            Kind::Store => {
+                if store_follows[place] != stretch {
+                    closing.insert(index);
+                }
+                store_follows[place] = stretch;
+            }
+            Kind::Load => {
+                if entry != 0 {
+                    store_follows[place] = 0;
+                }
+            }
+            _ => stretch += 1,
+        }
+    }
+    closing
+}
+
+/// What the upward pass over the source knows of one location.
+#[derive(Clone, Copy)]
+struct Spot {
+    /// The highest target number of the kept plain events.
+    highest: u16,
+    /// The stretch of the last access; what follows is of that stretch.
+    stretch: u16,
+    /// Whether a gone store may lean on `witness`.
+    witnessed: bool,
+    /// The value of the last kept access or, with none yet, of the first
+    /// access if that is a load.
+    witness: u32,
+}
+
+const UNTOUCHED: [Spot; CELLS] = [Spot { highest: 0, stretch: 0, witnessed: false, witness: 0 }; CELLS];
+
+/// Answers 10 to 14.
+struct SourceJudge<'a> {
+    target: &'a [Event],
+    closing: Indices,
+    spots: [Spot; CELLS],
+    stretch: u16,
+    /// The highest target number of all kept events, and of the synchronising.
+    highest: u16,
+    highest_sync: u16,
+}
+
+impl SourceJudge<'_> {
+    fn keep_sync(&mut self, event: Event, entry: u16) -> Result<(), u32> {
+        if !event.same_but_for_mark(self.target[usize::from(entry) - 1]) {
+            return Err(number::KEPT_DIFFERS);
+        }
+        // A synchronising event stays behind everything before it.
+        if self.highest > entry {
+            return Err(number::OVERTAKEN);
+        }
+        self.highest = entry;
+        self.highest_sync = entry;
+        self.stretch += 1;
+        Ok(())
+    }
+
+    fn keep_plain(&mut self, event: Event, entry: u16) -> Result<(), u32> {
+        if !event.same_but_for_mark(self.target[usize::from(entry) - 1]) {
+            return Err(number::KEPT_DIFFERS);
+        }
+        let spot = &mut self.spots[usize::from(event.place)];
+        if spot.highest > entry || self.highest_sync > entry {
+            return Err(number::OVERTAKEN);
+        }
+        self.highest = self.highest.max(entry);
+        *spot = Spot { highest: entry, stretch: self.stretch, witnessed: true, witness: event.first };
+        Ok(())
+    }
+
+    fn remove_load(&mut self, event: Event) -> Result<(), u32> {
+        let spot = &mut self.spots[usize::from(event.place)];
+        if spot.stretch != self.stretch {
+            if event.order == order::USED {
+                return Err(number::LOAD_GONE);
+            }
+            spot.stretch = self.stretch;
+            spot.witnessed = true;
+            spot.witness = event.first;
+        }
+        Ok(())
+    }
+
+    fn remove_store(&mut self, event: Event, index: usize) -> Result<(), u32> {
+        let spot = &mut self.spots[usize::from(event.place)];
+        if spot.stretch != self.stretch {
+            spot.stretch = self.stretch;
+            spot.witnessed = false;
+        }
+        let witness = spot.witnessed && spot.witness == event.first;
+        if self.closing.contains(index) && !witness {
+            return Err(number::STORE_GONE);
+        }
+        Ok(())
+    }
+
+    fn event(&mut self, index: usize, event: Event, entry: u16) -> Result<(), u32> {
+        match (event.kind, entry) {
+            (Kind::Load, 0) => self.remove_load(event),
+            (Kind::Store, 0) => self.remove_store(event, index),
+            (Kind::Load | Kind::Store, _) => self.keep_plain(event, entry),
+            (_, 0) => Err(number::SYNC_GONE),
+            (_, _) => self.keep_sync(event, entry),
+        }
+    }
+}
+
+fn judge_source(source: &[Event], target: &[Event], entries: &[u16]) -> Result<(), Answer> {
+    let mut judge = SourceJudge {
+        target,
+        closing: closing_stores(source, entries),
+        spots: UNTOUCHED,
+        stretch: 1,
+        highest: 0,
+        highest_sync: 0,
+    };
+    for (index, (&event, &entry)) in source.iter().zip(entries).enumerate() {
+        if let Err(number) = judge.event(index, event, entry) {
+            return Err(Answer::new(number, side::SOURCE, index + 1));
+        }
+    }
+    Ok(())
+}
+
+/// Answers 15 and 16.
+fn judge_target(target: &[Event], matched: &Indices) -> Result<(), Answer> {
+    // The stretch in which a location was last accessed.
+    let mut touched = [0u16; CELLS];
+    let mut stretch = 1u16;
+    for (index, event) in target.iter().enumerate() {
+        let place = usize::from(event.place);
+        if !matched.contains(index) {
+            if event.kind != Kind::Load {
+                return Err(Answer::new(number::NOT_A_LOAD, side::TARGET, index + 1));
+            }
+            // A lawful trace gives the load the value of the near access.
+            if touched[place] != stretch {
+                return Err(Answer::new(number::NOTHING_NEAR, side::TARGET, index + 1));
+            }
+        }
+        if event.kind.is_plain() {
+            touched[place] = stretch;
+        } else {
+            stretch += 1;
+        }
+    }
+    Ok(())
+}
+
+/// Checks a matching between a source and a target trace. A room of events
+/// holds one event in six words; a room of entries one entry in a word.
+pub fn check(
+    source: &[u8],
+    target: &[u8],
+    matching: &[u8],
+    source_room: &mut [u32],
+    target_room: &mut [u32],
+    entry_room: &mut [u32],
+) -> Checked {
+    let mut checked = Checked::refused(Answer::DONE);
+    let source = match parse_trace(source, side::SOURCE, source_room.len(), &mut checked.source_memory) {
+        Ok(events) => events,
+        Err(answer) => return Checked::refused(answer),
+    };
+    let target = match parse_trace(target, side::TARGET, target_room.len(), &mut checked.target_memory) {
+        Ok(events) => events,
+        Err(answer) => return Checked::refused(answer),
+    };
+    let entries = match parse_matching(matching, entry_room.len()) {
+        Ok(entries) => entries,
+        Err(answer) => return Checked::refused(answer),
+    };
+    store_events(&source, source_room);
+    store_events(&target, target_room);
+    store_entries(&entries, entry_room);
+    checked.source_events = source.len();
+    checked.target_events = target.len();
+    checked.entries = entries.len();
+    let judged = compare_starts(&checked.source_memory, &checked.target_memory)
+        .and_then(|()| match_up(source.len(), target.len(), &entries))
+        .and_then(|matched| {
+            judge_source(&source, &target, &entries)?;
+            judge_target(&target, &matched)
+        });
+    if let Err(answer) = judged {
+        checked.answer = answer;
+    }
+    checked
+}
+
+// ------------------------------------------------------------ offending line
+
+/// The lines of a text, without their LF.
+fn lines(text: &[u8]) -> impl Iterator<Item = &[u8]> {
+    text.split(|&byte| byte == LF)
+}
+
+/// The line of a number counted from 1.
+fn line_at(text: &[u8], line: u32) -> Option<&[u8]> {
+    lines(text).nth((line as usize).checked_sub(1)?)
+}
+
+/// The line of an event. The text is taken to be lawful, line by line, as it
+/// is where an answer names an event of it.
+fn event_line(text: &[u8], event: u32) -> Option<&[u8]> {
+    lines(text)
+        .skip(1)
+        .skip_while(|line| line.starts_with(b"init\t"))
+        .nth((event as usize).checked_sub(1)?)
+}
+
+/// The line that an answer of a check finds fault with, without its LF, as a
+/// part of its text; an empty part of the source where there is none.
+pub fn offending_line<'a>(source: &'a [u8], target: &'a [u8], answer: Answer) -> &'a [u8] {
+    let text = match answer.side {
+        side::SOURCE => source,
+        side::TARGET => target,
+        _ => return &source[..0],
+    };
+    let line = match answer.number {
+        number::BAD_LINE | number::TOO_MANY | number::INIT_OUT_OF_ORDER => line_at(text, answer.place),
+        number::MIXED_USE | number::NOT_LATEST => event_line(text, answer.place),
+        number::KEPT_DIFFERS..=number::NOTHING_NEAR => event_line(text, answer.place),
+        _ => None,
+    };
+    line.unwrap_or(&source[..0])
+}

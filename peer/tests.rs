@@ -1,0 +1,230 @@
+//! Tests of the checker: the runs of the requirement and the limits, each with
+//! an answer worked out by hand; rooms, counts and memories; the writer; and
+//! random triples against the slow checker.
+
+mod cases;
+mod generate;
+mod naive;
+mod peer;
+#[allow(dead_code)]
+mod random;
+mod rules;
+mod texts;
+
+use cases::{Case, Triple};
+use peer::{number, side, Answer, Checked, Memory, CELLS, EVENT_WORDS, MAX_EVENTS};
+use random::Random;
+
+/// What the rooms hold before a call: no lawful word of an event or entry.
+const MARKER: u32 = 0xdead_beef;
+/// Words beyond the last whole event of a room. They make room for nothing.
+const SPARE_WORDS: usize = EVENT_WORDS - 1;
+const ZERO: Memory = [0; CELLS];
+/// How many lawful changes of longer traces are tried.
+const LAWFUL: usize = 6_000;
+
+fn triple(answer: Answer) -> Triple {
+    (answer.number, answer.side, answer.place)
+}
+
+struct Rooms {
+    source: Vec<u32>,
+    target: Vec<u32>,
+    entries: Vec<u32>,
+}
+
+fn check(case: &Case) -> (Checked, Rooms) {
+    let words = |events: usize| vec![MARKER; events * EVENT_WORDS + SPARE_WORDS];
+    let mut rooms =
+        Rooms { source: words(case.rooms[0]), target: words(case.rooms[1]), entries: vec![MARKER; case.rooms[2]] };
+    let checked =
+        peer::check(&case.source, &case.target, &case.matching, &mut rooms.source, &mut rooms.target, &mut rooms.entries);
+    (checked, rooms)
+}
+
+fn assert_front(room: &[u32], front: &[u32], what: &str) {
+    assert_eq!(&room[..front.len()], front, "{what}: front of the room");
+    assert!(room[front.len()..].iter().all(|&word| word == MARKER), "{what}: rest of the room");
+}
+
+fn row_words(rows: &[naive::Row]) -> Vec<u32> {
+    rows.iter().flat_map(|row| row.words()).collect()
+}
+
+/// Everything that a check leaves behind, against the slow checker.
+fn compare(case: &Case, what: &str) -> Triple {
+    let (checked, rooms) = check(case);
+    let outcome = naive::check(case.texts(), case.rooms);
+    assert_eq!(triple(checked.answer), outcome.answer, "{what}: answer");
+    let line = peer::offending_line(&case.source, &case.target, checked.answer);
+    assert_eq!(line, outcome.line, "{what}: offending line");
+    let (source, target, entries) = match outcome.stored {
+        Some((source, target, entries)) => {
+            assert_eq!((checked.source_memory, checked.target_memory), (source.start, target.start), "{what}: memories");
+            (row_words(&source.rows), row_words(&target.rows), entries)
+        }
+        None => {
+            assert_eq!((checked.source_memory, checked.target_memory), (ZERO, ZERO), "{what}: memories");
+            (vec![], vec![], vec![])
+        }
+    };
+    let counts = (checked.source_events, checked.target_events, checked.entries);
+    assert_eq!(counts, (source.len() / EVENT_WORDS, target.len() / EVENT_WORDS, entries.len()), "{what}: counts");
+    assert_front(&rooms.source, &source, what);
+    assert_front(&rooms.target, &target, what);
+    assert_front(&rooms.entries, &entries, what);
+    compare_readings(case, what);
+    triple(checked.answer)
+}
+
+/// The readers alone, against the check of which they are parts.
+fn compare_readings(case: &Case, what: &str) {
+    for (text, capacity) in [(&case.source, case.rooms[0]), (&case.target, case.rooms[1])] {
+        let mut room = vec![MARKER; capacity * EVENT_WORDS + SPARE_WORDS];
+        let read = peer::read_trace(text, &mut room);
+        let alone = Case { source: text.clone(), target: cases::trace(""), matching: cases::matching(""), rooms: [capacity, 0, 0] };
+        let (checked, rooms) = check(&alone);
+        // A lawful trace leaves the check to go on to 7 or 8.
+        let lawful = matches!(triple(checked.answer), (number::DONE | number::STARTS_DIFFER | number::ENTRY_COUNT, _, _));
+        let expected = if lawful { (0, 0, 0) } else { triple(checked.answer) };
+        assert_eq!(triple(read.answer), expected, "{what}: a trace alone");
+        assert_eq!((read.events, read.memory), (checked.source_events, checked.source_memory), "{what}: a trace alone");
+        assert_eq!(room, rooms.source, "{what}: room of a trace alone");
+        if lawful {
+            write_back(&read, &room, text, what);
+        }
+    }
+    let mut room = vec![MARKER; case.rooms[2]];
+    let read = peer::read_matching(&case.matching, &mut room);
+    let alone = Case { source: cases::trace(""), target: cases::trace(""), matching: case.matching.clone(), rooms: [0, 0, case.rooms[2]] };
+    let (checked, rooms) = check(&alone);
+    let judged = [number::ENTRY_COUNT, number::BAD_TARGET_NUMBER].contains(&checked.answer.number);
+    let expected = if judged { (0, 0, 0) } else { triple(checked.answer) };
+    assert_eq!(triple(read.answer), expected, "{what}: a matching alone");
+    assert_eq!(read.entries, checked.entries, "{what}: a matching alone");
+    assert_eq!(room, rooms.entries, "{what}: room of a matching alone");
+}
+
+/// The writer gives back the very text that was read.
+fn write_back(read: &peer::TraceRead, room: &[u32], text: &[u8], what: &str) {
+    const GUARD: u8 = 0xaa;
+    let part = &room[..read.events * EVENT_WORDS];
+    let mut out = vec![GUARD; text.len() + 3];
+    let answer = peer::write_trace(&read.memory, part, &mut out);
+    assert_eq!(triple(answer), (0, 0, text.len() as u32), "{what}: writer");
+    assert_eq!(&out[..text.len()], text, "{what}: text written");
+    assert!(out[text.len()..].iter().all(|&byte| byte == GUARD), "{what}: beyond the text");
+    let mut exact = vec![GUARD; text.len()];
+    assert_eq!(peer::write_trace(&read.memory, part, &mut exact), answer, "{what}: writer, exact room");
+    assert_eq!(exact, text, "{what}: writer, exact room");
+    let mut short = vec![GUARD; text.len() - 1];
+    let refusal = (number::ROOM_TOO_SHORT, side::NONE, text.len() as u32);
+    assert_eq!(triple(peer::write_trace(&read.memory, part, &mut short)), refusal, "{what}: writer, short room");
+    assert!(short.iter().all(|&byte| byte == GUARD), "{what}: writer stores nothing");
+}
+
+fn known_cases() -> usize {
+    let known = cases::all();
+    for known in &known {
+        assert_eq!(compare(&known.case, &known.name), known.answer, "{}: answer by hand", known.name);
+    }
+    known.len()
+}
+
+/// P10 as the program would print it.
+fn printed_lines() {
+    let known = cases::runs().into_iter().find(|known| known.name == "P10").expect("P10 is among the runs");
+    let (checked, _) = check(&known.case);
+    let Answer { number, side, place } = checked.answer;
+    let line = peer::offending_line(&known.case.source, &known.case.target, checked.answer);
+    let printed = format!("refused\t{number}\t{side}\t{place}\n{}\n", String::from_utf8_lossy(line));
+    assert_eq!(printed, "refused\t12\t1\t2\nunlock\t0\n");
+}
+
+/// The offending line lies within the text of its side, even where empty.
+fn parts_of_texts() {
+    let (source, target) = (b"trace\t1\n\n".as_slice(), b"trace\t1\nlock\t0\n".as_slice());
+    let line = |number, side, place| peer::offending_line(source, target, Answer { number, side, place });
+    assert!(std::ptr::eq(line(15, 2, 1), &target[8..14]));
+    assert!(line(2, 1, 2).is_empty());
+    assert!(line(9, 3, 1).is_empty() && line(7, 2, 0).is_empty() && line(17, 1, 5).is_empty());
+    // Answers that no check of these texts gives are no danger.
+    assert!(line(2, 1, 0).is_empty() && line(2, 2, 99).is_empty() && line(16, 2, 99).is_empty());
+}
+
+/// The refusals of the writer, with words that no reader makes.
+fn writer_cases() -> usize {
+    let lock = [8, 0, 0, 0, 0, 0];
+    let bad: &[[u32; 6]] = &[
+        [0, 0, 0, 0, 0, 0], [10, 0, 0, 0, 0, 0], [u32::MAX, 0, 0, 0, 0, 0], [257, 0, 0, 0, 0, 0],
+        [1, 0, 0, 0, 0, 0], [1, 0, 5, 0, 0, 0], [1, 0, 8, 0, 0, 0], [1, 256, 6, 0, 0, 0], [1, 0, 6, 0, 1, 0], [1, 0, 6, 0, 0, 1],
+        [2, 0, 1, 0, 0, 0], [2, 0, 6, 0, 0, 0], [2, 256, 0, 0, 0, 0], [2, 0, 0, 0, 7, 0], [2, 0, 256, 0, 0, 0],
+        [3, 0, 0, 0, 0, 0], [3, 0, 3, 0, 0, 0], [3, 0, 4, 0, 0, 0], [3, 0, 1, 0, 1, 0], [3, 0, 257, 0, 0, 0],
+        [4, 0, 2, 0, 0, 0], [4, 0, 4, 0, 0, 0], [4, 0, 1, 0, 1, 0], [5, 0, 0, 0, 0, 0], [5, 0, 6, 0, 0, 0], [5, 300, 1, 0, 0, 0],
+        [5, 0, 1, 0, 0, 9], [6, 0, 7, 0, 0, 0], [6, 0, u32::MAX, 0, 0, 0], [7, 0, 1, 0, 0, 0], [7, 1, 2, 0, 0, 0],
+        [7, 0, 2, 1, 0, 0], [7, 0, 2, 0, 1, 0], [7, 0, 0, 0, 0, 0], [8, 256, 0, 0, 0, 0], [8, 0, 1, 0, 0, 0], [8, 0, 0, 1, 0, 0],
+        [9, 0, 0, 0, 1, 0], [9, 0, 0, 0, 0, 1], [9, 0, 5, 0, 0, 0],
+    ];
+    let write = |memory: &Memory, room: &[u32]| {
+        let mut out = [0; 100];
+        let answer = triple(peer::write_trace(memory, room, &mut out));
+        assert!(answer.0 == 0 || out == [0; 100], "a refused writer stores nothing");
+        answer
+    };
+    for words in bad {
+        assert_eq!(write(&ZERO, words), (number::BAD_FIELDS, 0, 1), "{words:?}");
+        assert_eq!(write(&ZERO, &[lock, *words, lock].concat()), (number::BAD_FIELDS, 0, 2), "{words:?}");
+    }
+    for cut in 1..EVENT_WORDS {
+        assert_eq!(write(&ZERO, &lock[..cut]), (number::BAD_FIELDS, 0, 1));
+        assert_eq!(write(&ZERO, &[lock.as_slice(), &lock[..cut]].concat()), (number::BAD_FIELDS, 0, 2));
+    }
+    let stale = [1, 1, 6, 9, 0, 0];
+    let mixed = [3, 1, 1, 0, 0, 0];
+    assert_eq!(write(&ZERO, &stale), (number::NOT_LATEST, 0, 1));
+    assert_eq!(write(&ZERO, &[[2, 1, 0, 0, 0, 0], mixed].concat()), (number::MIXED_USE, 0, 2));
+    assert_eq!(write(&ZERO, &[stale, [0; 6]].concat()), (number::BAD_FIELDS, 0, 2), "18 comes before 6");
+    assert_eq!(write(&[9; CELLS], &stale).0, number::ROOM_TOO_SHORT, "256 init lines do not fit");
+    assert_eq!(write(&ZERO, &[]), (0, 0, 8));
+    let many = lock.repeat(MAX_EVENTS);
+    assert_eq!(write(&ZERO, &many), (number::ROOM_TOO_SHORT, 0, 8 + 7 * 800));
+    let too_many = (number::TOO_MANY, 0, 801);
+    assert_eq!(write(&ZERO, &[many.as_slice(), &[0]].concat()), too_many, "cut short, yet the 801st event");
+    assert_eq!(write(&ZERO, &[0; 6 * 900]), too_many, "3 comes before 18");
+    bad.len()
+}
+
+fn random_cases(seed: u64, count: usize) -> [usize; 19] {
+    let mut random = Random::new(seed);
+    let mut answers = [0; 19];
+    for index in 0..count {
+        let case = generate::case(&mut random);
+        let answer = compare(&case, &format!("random case {index} of seed {seed}"));
+        answers[answer.0 as usize] += 1;
+    }
+    answers
+}
+
+/// Runs of the rules on longer traces are accepted.
+fn lawful_cases(seed: u64, count: usize) {
+    let mut random = Random::new(seed);
+    for index in 0..count {
+        let case = generate::lawful_case(&mut random, index % 120);
+        assert_eq!(compare(&case, &format!("lawful case {index} of seed {seed}")), (0, 0, 0));
+    }
+}
+
+/// `tests [count [seed]]`: how many random cases, from which seed.
+fn main() {
+    let mut arguments = std::env::args().skip(1).map(|argument| argument.parse::<u64>().expect("a number"));
+    let count = arguments.next().unwrap_or(200_000) as usize;
+    let seed = arguments.next().unwrap_or(1);
+    println!("{} cases known by hand: ok", known_cases());
+    printed_lines();
+    parts_of_texts();
+    println!("{} bad events for the writer, and its other answers: ok", writer_cases());
+    lawful_cases(seed, LAWFUL);
+    println!("{LAWFUL} lawful changes of up to 119 events: accepted");
+    let answers = random_cases(seed, count);
+    println!("{count} random cases agree with the slow checker; by answer {answers:?}");
+}

@@ -1,0 +1,55 @@
+//! Texts made from events with the standard formatter, for the programs that
+//! test the checker. Independent of the checker's own writer.
+
+use crate::peer::{Event, Kind, Memory};
+
+const ORDERS: [&str; 8] = ["", "rlx", "acq", "rel", "ar", "sc", "used", "unused"];
+
+/// The line of an event, with its LF.
+pub fn event_line(event: &Event) -> String {
+    let Event { place, first, second, .. } = *event;
+    let order = ORDERS[usize::from(event.order)];
+    match event.kind {
+        Kind::Load => format!("load\t{place}\t{first}\t{order}\n"),
+        Kind::Store => format!("store\t{place}\t{first}\n"),
+        Kind::ALoad => format!("aload\t{place}\t{order}\t{first}\n"),
+        Kind::AStore => format!("astore\t{place}\t{order}\t{first}\n"),
+        Kind::Rmw => format!("rmw\t{place}\t{order}\t{first}\t{second}\n"),
+        Kind::Add => format!("add\t{place}\t{order}\t{first}\t{second}\n"),
+        Kind::Fence => format!("fence\t{order}\n"),
+        Kind::Lock => format!("lock\t{place}\n"),
+        Kind::Unlock => format!("unlock\t{place}\n"),
+    }
+}
+
+/// The first line and the `init` lines of a trace.
+pub fn trace_head(start: &Memory) -> String {
+    let mut text = String::from("trace\t1\n");
+    for (location, value) in start.iter().enumerate().filter(|(_, &value)| value != 0) {
+        text += &format!("init\t{location}\t{value}\n");
+    }
+    text
+}
+
+pub fn trace_text(start: &Memory, events: &[Event]) -> Vec<u8> {
+    let mut text = trace_head(start);
+    for event in events {
+        text += &event_line(event);
+    }
+    text.into_bytes()
+}
+
+pub fn entry_line(entry: u16) -> String {
+    match entry {
+        0 => String::from("gone\n"),
+        target => format!("keep\t{target}\n"),
+    }
+}
+
+pub fn matching_text(entries: &[u16]) -> Vec<u8> {
+    let mut text = String::from("match\t1\n");
+    for &entry in entries {
+        text += &entry_line(entry);
+    }
+    text.into_bytes()
+}
