@@ -1,4 +1,4 @@
-// A text cut into lines, a line into fields, and a field read as a number or as a word; and numbers and words written.
+// A text cut into lines, a line into fields, and a field read as a number or as a word; and numbers written.
 pub mod field;
 pub mod line;
 pub mod number;
