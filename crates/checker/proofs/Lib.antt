@@ -1,4 +1,5 @@
 -- Laws that belong to no one function. Assumes nothing.
+pub mod Cases
 pub mod Lines
 pub mod Answers
 pub mod Filled

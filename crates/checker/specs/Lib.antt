@@ -1,3 +1,4 @@
--- What the contracts of this crate say, by page: the check, and the line at fault. Assumes nothing.
+-- What the contracts of this crate say, by page: the check, the line at fault, and the cases of the bench. Assumes nothing.
 pub mod Check
 pub mod Line
+pub mod Cases

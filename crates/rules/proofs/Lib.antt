@@ -39,7 +39,6 @@ pub mod Along
 -- the theorem, the cases, and what loops need
 pub mod Theorem
 pub mod Outcome
-pub mod Cases
 pub mod Passes
 pub mod Cells
 pub mod Onward

@@ -1,0 +1,31 @@
+-- P1 to P12 of document 01: the check's own definition computes on their texts, and its answers are the table's. Assumes nothing.
+use mathlib.Core.Path.{_≡_, refl}
+use mathlib.Core.Bool.{true}
+use Rattle.event.specs.Answer.{answer}
+use Rattle.event.specs.Kind.{row, takes, lawful}
+use Rattle.event.specs.Memory.{stepped, after, latest}
+use Rattle.text.specs.Cut.{cut}
+use Rattle.text.specs.Number.{allDigits, valueOn, digitsOn, numberOf}
+use Rattle.text.specs.Word.{same}
+use Rattle.trace.specs.Layout.{numberIn}
+use Rattle.trace.specs.Record.{numberIf, orderIf, eventRest, initRest, recordOf}
+use Rattle.trace.specs.Fault.{uses, eventFault}
+use Rattle.trace.specs.Reading.{linesFault, initsFault, eventsIn, startIn, surveyInits, surveyParts, surveyOf, eventsOf, readOf}
+use Rattle.matching.specs.Entry.{keepRest, goneRest, entryOf}
+use Rattle.matching.specs.Reading.{entriesIn, surveyLines, entriesOf}
+use Rattle.matching.specs.Reading.{linesFault as entryLinesFault, surveyParts as matchingParts, surveyOf as matchingSurvey, readOf as matchingRead}
+use Rattle.rules.specs.Verdict.{startAnswer, countAnswer, entryAnswer, sourceAnswer, targetAnswer, verdict}
+use Rattle.checker.specs.Check.{readingAnswer, verdictOf, checkOf}
+use Rattle.checker.specs.Line.{counted, nthLine, lineOf, offendingLine}
+use Rattle.checker.specs.Cases.{bytes, table, all-hold}
+
+pub P1-to-P12 : all-hold table ≡ true
+unfolding checkOf readingAnswer verdictOf verdict startAnswer countAnswer entryAnswer sourceAnswer targetAnswer readOf surveyOf surveyParts surveyInits initsFault linesFault eventsIn startIn eventsOf eventFault uses recordOf eventRest initRest numberIf orderIf numberIn matchingRead matchingSurvey matchingParts surveyLines entryLinesFault entriesIn entriesOf entryOf keepRest goneRest numberOf digitsOn valueOn allDigits cut same stepped after latest lawful takes row
+P1-to-P12 = refl
+
+-- The line that the program prints for P10.
+pub P10-line :
+    offendingLine (bytes "trace\t1\nstore\t1\t5\nunlock\t0\n") (bytes "trace\t1\nunlock\t0\nstore\t1\t5\n") (answer 12 1 2)
+    ≡ bytes "unlock\t0"
+unfolding offendingLine lineOf nthLine counted recordOf eventRest initRest numberIf orderIf numberIn numberOf digitsOn valueOn allDigits cut same lawful takes row
+P10-line = refl

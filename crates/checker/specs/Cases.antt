@@ -1,0 +1,76 @@
+-- Document 01, "Runs on the bench": the cases P1 to P12 as one table, each by its three texts. Assumes nothing.
+use mathlib.Core.Bool.{Bool, true, _&&_}
+use mathlib.Core.List.{List, [], _∷_}
+use Prim.Native.Nat.{ℕ}
+use Prim.Native.Char.{code}
+use Prim.Native.String.{String}
+use Prim.Native.String.{[] as end, _∷_ as _then_}
+use lib.Dec.{eqb}
+use lib.ListN.{replicate}
+use Rattle.event.specs.Answer.{answer, done}
+use Rattle.event.specs.declared.Answer.{Answer}
+use Rattle.checker.specs.Check.{lent, checkOf}
+
+-- The bytes of a text, all of whose characters are ASCII.
+abbrev pub bytes : String → List ℕ
+bytes end = []
+bytes (c then s) = code c ∷ bytes s
+
+-- A case: a source, a target and a matching as texts, and the answer.
+pub record Case : Type 0 where
+  pub source : String
+  pub target : String
+  pub matching : String
+  pub answer : Answer
+
+abbrev pub given : String → String → String → Answer → Case
+given s t m a = record { source = s; target = t; matching = m; answer = a }
+
+-- Two answers are equal.
+abbrev pub equal : Answer → Answer → Bool
+equal a b = eqb (a .number) (b .number) && (eqb (a .side) (b .side) && eqb (a .place) (b .place))
+
+-- A room for three events, or for eighteen entries.
+abbrev pub room : List ℕ
+room = replicate 18 0
+
+-- The check of a case gives its answer.
+abbrev pub holds : Case → Bool
+holds c = equal (checkOf (lent (bytes (c .source)) (bytes (c .target)) (bytes (c .matching)) room room room) .answer) (c .answer)
+
+abbrev pub all-hold : List Case → Bool
+all-hold [] = true
+all-hold (c ∷ cs) = holds c && all-hold cs
+
+abbrev pub table : List Case
+table =
+    -- P1
+    given "trace\t1\n" "trace\t1\n" "match\t1\n" done
+    -- P2
+    ∷ given "trace\t1\nload\t1\t0\tused\nload\t1\t0\tused\n" "trace\t1\nload\t1\t0\tused\n" "match\t1\nkeep\t1\ngone\n" done
+    -- P3
+    ∷ given "trace\t1\nload\t1\t0\tused\nload\t1\t0\tused\n" "trace\t1\nload\t1\t0\tused\n" "match\t1\ngone\nkeep\t1\n" (answer 13 1 1)
+    -- P4
+    ∷ given "trace\t1\nstore\t1\t5\nstore\t1\t7\n" "trace\t1\nstore\t1\t7\n" "match\t1\ngone\nkeep\t1\n" done
+    -- P5
+    ∷ given "trace\t1\nstore\t1\t5\nlock\t0\nstore\t1\t7\n" "trace\t1\nlock\t0\nstore\t1\t7\n" "match\t1\ngone\nkeep\t1\nkeep\t2\n"
+    (answer 14 1 1)
+    -- P6
+    ∷ given "trace\t1\nload\t1\t0\tused\nstore\t1\t4\nstore\t1\t0\n" "trace\t1\nload\t1\t0\tused\n" "match\t1\nkeep\t1\ngone\ngone\n" done
+    -- P7
+    ∷ given "trace\t1\nstore\t1\t0\n" "trace\t1\n" "match\t1\ngone\n" (answer 14 1 1)
+    -- P8
+    ∷ given "trace\t1\nload\t1\t0\tunused\nstore\t1\t0\n" "trace\t1\n" "match\t1\ngone\ngone\n" done
+    -- P9
+    ∷ given "trace\t1\nstore\t1\t5\nstore\t2\t6\n" "trace\t1\nstore\t2\t6\nstore\t1\t5\n" "match\t1\nkeep\t2\nkeep\t1\n" done
+    -- P10
+    ∷ given "trace\t1\nstore\t1\t5\nunlock\t0\n" "trace\t1\nunlock\t0\nstore\t1\t5\n" "match\t1\nkeep\t2\nkeep\t1\n" (answer 12 1 2)
+    -- P11
+    ∷ given "trace\t1\ninit\t1\t1\nload\t1\t1\tused\n" "trace\t1\ninit\t1\t1\nload\t1\t1\tused\nstore\t2\t0\n" "match\t1\nkeep\t1\n"
+    (answer 15 2 2)
+    ∷ given "trace\t1\ninit\t1\t1\nload\t1\t1\tused\n" "trace\t1\ninit\t1\t1\nload\t1\t1\tused\nload\t2\t0\tunused\nstore\t2\t0\n"
+    "match\t1\nkeep\t1\n"
+    (answer 16 2 2)
+    -- P12
+    ∷ given "trace\t1\nstore\t1\t5\n" "trace\t1\nstore\t1\t5\nload\t1\t5\tused\n" "match\t1\nkeep\t1\n" done
+    ∷ []
