@@ -80,8 +80,8 @@ impl List {
 
     /// A source text that is refused, and the same text as a target.
     fn bad_trace(&mut self, name: &str, text: Vec<u8>, number: u32, place: u32) {
-        self.add(name, text.clone(), trace(""), matching(""), [ALL; 3], (number, 1, place));
-        self.add(name, trace(""), text, matching(""), [ALL; 3], (number, 2, place));
+        self.add(&format!("{name}, source"), text.clone(), trace(""), matching(""), [ALL; 3], (number, 1, place));
+        self.add(&format!("{name}, target"), trace(""), text, matching(""), [ALL; 3], (number, 2, place));
     }
 
     fn bad_matching(&mut self, name: &str, text: Vec<u8>, number: u32, place: u32) {
@@ -125,7 +125,7 @@ pub fn runs() -> Vec<Known> {
     list.run("P11 with a load before", "init 1 1; load 1 1 used", unused, "keep 1", (16, 2, 2));
     list.run("P12", "store 1 5", "store 1 5; load 1 5 used", "keep 1", DONE);
     list.run(
-        "start is no witness",
+        "run: the start is no witness, 14 at 1",
         "init 1 1; store 1 1; load 1 1 used; store 1 2",
         "init 1 1; load 1 1 used; store 1 2",
         "gone; keep 1; keep 2",
@@ -134,21 +134,21 @@ pub fn runs() -> Vec<Known> {
     let stores = |range: std::ops::RangeInclusive<u32>| -> String { range.map(|place| format!("store {place} 7;")).collect() };
     let keeps: String = (1..=8).map(|number| format!("keep {number};")).collect();
     list.run(
-        "ninth and tenth",
+        "run: ninth and tenth exchanged, 12 at 10",
         &(stores(1..=9) + "unlock 0"),
         &(stores(1..=8) + "unlock 0; store 9 7"),
         &(keeps + "keep 10; keep 9"),
         (12, 1, 10),
     );
     let wrap = "init 3 4294967295; add 3 rlx 4294967295 2; aload 3 rlx 1";
-    list.run("sum wraps", wrap, wrap, "keep 1; keep 2", DONE);
-    list.run("mixed use", "store 3 1; aload 3 rlx 1", "", "", (5, 1, 2));
-    list.run("kept twice", "load 1 0 used; load 1 0 used", "load 1 0 used", "keep 1; keep 1", (9, 3, 2));
-    list.good_trace("800 events", trace(&"lock 0;".repeat(800)), 800);
-    list.bad_trace("801 events", trace(&"lock 0;".repeat(801)), 3, 802);
-    list.good_trace("highest value", trace("store 1 4294967295"), 1);
-    list.bad_trace("value too high", trace("store 1 4294967296"), 2, 2);
-    list.bad_trace("leading zeros", trace("store 1 007"), 2, 2);
+    list.run("run: the sum wraps", wrap, wrap, "keep 1; keep 2", DONE);
+    list.bad_trace("run: plain and atomic, 5 at 2", trace("store 3 1; aload 3 rlx 1"), 5, 2);
+    list.run("run: both kept as 1, 9 at 2", "load 1 0 used; load 1 0 used", "load 1 0 used", "keep 1; keep 1", (9, 3, 2));
+    list.good_trace("run: 800 events", trace(&"lock 0;".repeat(800)), 800);
+    list.bad_trace("run: 801 events, 3", trace(&"lock 0;".repeat(801)), 3, 802);
+    list.good_trace("run: value 4294967295", trace("store 1 4294967295"), 1);
+    list.bad_trace("run: value 4294967296, 2", trace("store 1 4294967296"), 2, 2);
+    list.bad_trace("run: value 007, 2", trace("store 1 007"), 2, 2);
     list.known
 }
 
@@ -440,8 +440,10 @@ fn counts(list: &mut List) {
     list.bad_trace("801st event bad", trace(&(many.clone() + "lock")), 2, 802);
     list.bad_trace("801st event without LF", raw(TRACE, "lock\t0\n".repeat(801).trim_end().as_bytes()), 2, 802);
     list.add("init after 800 events", trace(&(many.clone() + "init 1 1")), trace(""), matching(""), [ALL; 3], (4, 1, 802));
-    list.add("6 gives way to 3", trace(&("load 1 9 used;".to_string() + &many)), trace(""), matching(""), [ALL; 3], (3, 1, 802));
-    list.add("3 with init lines", trace(&("init 1 1; init 2 1;".to_string() + &many + "lock 0; lock")), trace(""), matching(""), [ALL; 3], (3, 1, 804));
+    list.bad_trace("6 gives way to 3", trace(&("load 1 9 used;".to_string() + &many)), 3, 802);
+    list.bad_trace("3 with init lines", trace(&("init 1 1; init 2 1;".to_string() + &many + "lock 0; lock")), 3, 804);
+    list.add("3 of entries before 17", trace(""), trace(""), matching(&"gone;".repeat(801)), [0, 0, 0], (3, 3, 802));
+    list.bad_matching("801 entries, kept ones", matching(&"keep 1;".repeat(801)), 3, 802);
     list.add("3 before 17", trace(""), trace(&(many.clone() + "lock 0")), matching(""), [0, 0, 0], (3, 2, 802));
     list.add("801 events of the target, source 17", trace("lock 0"), trace(&(many.clone() + "lock 0")), matching(""), [0, 0, 0], (17, 1, 1));
     let stores: String = (0..800).map(|index| format!("store {} {};", index % 256, index % 3)).collect();

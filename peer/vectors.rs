@@ -1,11 +1,13 @@
 //! Writes a file of test vectors: `vectors FILE [seed]`.
 //!
 //! A vector is a header, raw bytes, and LF. The header is ten decimal numbers
-//! parted by single blanks and ended by LF:
+//! and a name, parted by single blanks and ended by LF:
 //!
 //!   source length, target length, matching length (bytes),
-//!   source room, target room (events), entry room (entries), at most 800 each,
-//!   answer number, side, place, length of the offending line (bytes).
+//!   source room, target room, entry room (words: six an event, one an entry;
+//!   at most 4,800, 4,800 and 800),
+//!   answer number, side, place, length of the offending line (bytes),
+//!   the name, which may have blanks but no LF.
 //!
 //! The raw bytes are the source, the target, the matching and the offending
 //! line, one directly after the other. The vectors end where the file ends.
@@ -29,12 +31,15 @@ use cases::{Case, Triple};
 use random::Random;
 use std::collections::BTreeMap;
 
-/// A file of about two million bytes holds no more.
-const MAX_BYTES: usize = 2_000_000;
+/// The program that runs the file has room for no more.
+const MAX_BYTES: usize = 1_800_000;
+/// Long cases known by hand that are left to the tests: a shorter one, or one
+/// as long, is like them.
+const LEFT_OUT: [&str; 4] = ["target of 0xff, over", "800 entries for 799", "800 backwards", "first of 800 gone"];
 /// Give up on a share that has not been filled by then.
 const MAX_TRIES: usize = 5_000_000;
 /// Lawful triples, and some that are longer than the rest.
-const LAWFUL: usize = 600;
+const LAWFUL: usize = 400;
 const LONG_LAWFUL: [usize; 4] = [50, 100, 200, 800];
 
 /// How many random vectors each answer gets on each side. 1 and 3 need long
@@ -42,28 +47,28 @@ const LONG_LAWFUL: [usize; 4] = [50, 100, 200, 800];
 const SHARES: [((u32, u32), usize); 23] = [
     ((2, 1), 100),
     ((2, 2), 100),
-    ((2, 3), 150),
+    ((2, 3), 100),
     ((4, 1), 60),
     ((4, 2), 60),
     ((5, 1), 90),
     ((5, 2), 90),
     ((6, 1), 120),
-    ((6, 2), 150),
+    ((6, 2), 120),
     ((7, 2), 120),
     ((8, 3), 120),
-    ((9, 3), 200),
-    ((10, 1), 250),
-    ((11, 1), 200),
-    ((12, 1), 300),
-    ((13, 1), 250),
-    ((14, 1), 350),
-    ((15, 2), 200),
-    ((16, 2), 250),
+    ((9, 3), 150),
+    ((10, 1), 200),
+    ((11, 1), 150),
+    ((12, 1), 240),
+    ((13, 1), 200),
+    ((14, 1), 280),
+    ((15, 2), 150),
+    ((16, 2), 200),
     ((17, 1), 60),
     ((17, 2), 60),
     ((17, 3), 60),
     // Faults that turn out to be none.
-    ((0, 0), 150),
+    ((0, 0), 100),
 ];
 
 struct File {
@@ -72,10 +77,17 @@ struct File {
     vectors: usize,
 }
 
+/// The words of the rooms of a case: six for each event, one for each entry;
+/// in every third vector some words to spare, too few for one more event.
+fn room_words(case: &Case, vector: usize) -> [usize; 3] {
+    let spare = if vector % 3 == 0 { vector / 3 % peer::EVENT_WORDS } else { 0 };
+    let words = |events: usize| (events * peer::EVENT_WORDS + spare).min(peer::MAX_EVENTS * peer::EVENT_WORDS);
+    [words(case.rooms[0]), words(case.rooms[1]), case.rooms[2]]
+}
+
 /// The answer to a case, on which both checkers must agree, and its line.
-fn answer(case: &Case) -> (Triple, Vec<u8>) {
-    let [mut source, mut target] = [0, 1].map(|room| vec![0; case.rooms[room] * peer::EVENT_WORDS]);
-    let mut entries = vec![0; case.rooms[2]];
+fn answer(case: &Case, words: [usize; 3]) -> (Triple, Vec<u8>) {
+    let [mut source, mut target, mut entries] = words.map(|words| vec![0; words]);
     let given = peer::check(&case.source, &case.target, &case.matching, &mut source, &mut target, &mut entries).answer;
     let line = peer::offending_line(&case.source, &case.target, given).to_vec();
     let outcome = naive::check(case.texts(), case.rooms);
@@ -85,11 +97,18 @@ fn answer(case: &Case) -> (Triple, Vec<u8>) {
 }
 
 impl File {
-    fn add(&mut self, case: &Case, (number, side, place): Triple, line: &[u8]) {
+    /// The answer to a case in the rooms of the next vector.
+    fn answer(&self, case: &Case) -> (Triple, Vec<u8>) {
+        answer(case, room_words(case, self.vectors + 1))
+    }
+
+    fn add(&mut self, name: &str, case: &Case, (number, side, place): Triple, line: &[u8]) {
+        assert!(!name.contains('\n'), "{name:?}: a name is one line");
+        self.vectors += 1;
         let [source, target, matching] = case.texts();
-        let [source_room, target_room, entry_room] = case.rooms;
+        let [source_room, target_room, entry_room] = room_words(case, self.vectors);
         let header = format!(
-            "{} {} {} {source_room} {target_room} {entry_room} {number} {side} {place} {}\n",
+            "{} {} {} {source_room} {target_room} {entry_room} {number} {side} {place} {} {name}\n",
             source.len(),
             target.len(),
             matching.len(),
@@ -99,31 +118,32 @@ impl File {
             self.bytes.extend_from_slice(part);
         }
         *self.counts.entry((number, side)).or_default() += 1;
-        self.vectors += 1;
     }
 
     fn add_known(&mut self) {
-        for known in cases::all() {
-            let (given, line) = answer(&known.case);
+        for known in cases::all().iter().filter(|known| !LEFT_OUT.contains(&known.name.as_str())) {
+            let (given, line) = self.answer(&known.case);
             assert_eq!(given, known.answer, "{}: the answer by hand differs", known.name);
-            self.add(&known.case, given, &line);
+            self.add(&known.name, &known.case, given, &line);
         }
     }
 
-    fn add_lawful(&mut self, random: &mut Random, events: usize) {
+    fn add_lawful(&mut self, random: &mut Random, events: usize, name: &str) {
         let case = generate::lawful_case(random, events);
-        let (given, line) = answer(&case);
+        let (given, line) = self.answer(&case);
         assert_eq!(given, (0, 0, 0), "what the rules allow is refused");
-        self.add(&case, given, &line);
+        self.add(name, &case, given, &line);
     }
 
     fn add_faulty(&mut self, random: &mut Random) {
         let mut open: BTreeMap<(u32, u32), usize> = SHARES.into_iter().collect();
+        let mut added = 0;
         for _ in 0..MAX_TRIES {
             let case = generate::faulty_case(random);
-            let (given, line) = answer(&case);
+            let (given, line) = self.answer(&case);
             if let Some(left) = open.get_mut(&(given.0, given.1)) {
-                self.add(&case, given, &line);
+                added += 1;
+                self.add(&format!("random {added}"), &case, given, &line);
                 *left -= 1;
                 if *left == 0 {
                     open.remove(&(given.0, given.1));
@@ -152,10 +172,10 @@ fn main() {
     let mut file = File { bytes: vec![], counts: BTreeMap::new(), vectors: 0 };
     file.add_known();
     for events in LONG_LAWFUL {
-        file.add_lawful(&mut random, events);
+        file.add_lawful(&mut random, events, &format!("lawful change of {events} events"));
     }
     for index in 0..LAWFUL {
-        file.add_lawful(&mut random, index % 15);
+        file.add_lawful(&mut random, index % 15, &format!("lawful {}", index + 1));
     }
     file.add_faulty(&mut random);
     file.print();

@@ -1,0 +1,113 @@
+// A vector in the file: a header, the texts, the offending line. The head comment of peer/vectors.rs gives the format.
+use text::line::line_end;
+use text::number::NumberRead;
+use text::number::number_of;
+use text::scan::find;
+
+// The byte that parts the numbers of a header.
+const BLANK: u8 = 32;
+
+// No number of a header is greater.
+const MOST: u64 = 4294967295;
+
+// Which number of a header is which.
+pub const SOURCE_BYTES: usize = 0;
+
+pub const TARGET_BYTES: usize = 1;
+
+pub const MATCHING_BYTES: usize = 2;
+
+pub const SOURCE_WORDS: usize = 3;
+
+pub const TARGET_WORDS: usize = 4;
+
+pub const ENTRY_WORDS: usize = 5;
+
+pub const NUMBER: usize = 6;
+
+pub const SIDE: usize = 7;
+
+pub const PLACE: usize = 8;
+
+pub const LINE_BYTES: usize = 9;
+
+const NAME: usize = 10;
+
+// Where the parts of a vector begin; each ends where the next begins.
+pub struct Vector {
+    pub header_end: usize,
+    pub source: usize,
+    pub target: usize,
+    pub matching: usize,
+    pub line: usize,
+    pub end: usize,
+}
+
+// The part of the data between two places; empty if they are not places of it in this order.
+pub fn between(data: &[u8], from: usize, to: usize) -> &[u8] {
+    if to < from {
+        return &data[0..0];
+    }
+    if data.len() < to {
+        return &data[0..0];
+    }
+    &data[from..to]
+}
+
+// The place that lies `count` bytes after another; the end of the data, if it is not that long.
+pub fn forth(data: &[u8], at: usize, count: usize) -> usize {
+    let end = data.len();
+    if end < at {
+        return end;
+    }
+    if end - at < count {
+        return end;
+    }
+    at + count
+}
+
+// Where field k of a header begins, from 0; the end of the header, if it has fewer.
+fn field_start(header: &[u8], k: usize) -> usize {
+    let mut at: usize = 0;
+    let mut left = k;
+    while 0 < left {
+        at = forth(header, find(header, at, BLANK), 1);
+        left -= 1;
+    }
+    at
+}
+
+// Number k of a header, from 0; 0 if it is none.
+pub fn number_at(header: &[u8], k: usize) -> usize {
+    let from = field_start(header, k);
+    let to = find(header, from, BLANK);
+    match number_of(between(header, from, to), MOST) {
+        NumberRead::Value(n) => n as usize,
+        NumberRead::Malformed => 0,
+    }
+}
+
+// The name of a vector: all that follows its numbers.
+pub fn name_of(header: &[u8]) -> &[u8] {
+    let from = field_start(header, NAME);
+    between(header, from, header.len())
+}
+
+// The vector that begins at a place.
+pub fn vector_at(data: &[u8], at: usize) -> Vector {
+    let header_end = line_end(data, at);
+    let header = between(data, at, header_end);
+    let source = forth(data, header_end, 1);
+    let target = forth(data, source, number_at(header, SOURCE_BYTES));
+    let matching = forth(data, target, number_at(header, TARGET_BYTES));
+    let line = forth(data, matching, number_at(header, MATCHING_BYTES));
+    let end = forth(data, line, number_at(header, LINE_BYTES));
+    Vector {
+        header_end,
+        source,
+        target,
+        matching,
+        line,
+        end,
+    }
+}
