@@ -264,7 +264,7 @@ fn line_starts(text: &[u8]) -> Vec<usize> {
 }
 
 /// Damage to the bytes of a text.
-fn damage(random: &mut Random, text: &mut Vec<u8>) {
+pub fn damage(random: &mut Random, text: &mut Vec<u8>) {
     const ODD_BYTES: [u8; 14] = *b"\0\xff\t\n\r 0+-19aU/";
     let at = random.below(text.len().max(1));
     let starts = line_starts(text);
@@ -298,7 +298,7 @@ fn damage(random: &mut Random, text: &mut Vec<u8>) {
 }
 
 /// Two lines exchanged, one said twice, or an `init` where none may stand.
-fn disorder(random: &mut Random, text: &mut Vec<u8>) {
+pub fn disorder(random: &mut Random, text: &mut Vec<u8>) {
     let mut lines: Vec<Vec<u8>> = text.split_inclusive(|&byte| byte == b'\n').map(<[u8]>::to_vec).collect();
     let from = 1 + random.below(lines.len());
     let to = 1 + random.below(lines.len());

@@ -7,8 +7,8 @@ use Rattle.event.specs.Memory.{stepped, after, latest}
 use Rattle.text.specs.Cut.{cut}
 use Rattle.text.specs.Number.{allDigits, valueOn, digitsOn, numberOf}
 use Rattle.text.specs.Word.{same}
-use Rattle.trace.specs.Layout.{numberIn}
-use Rattle.trace.specs.Record.{numberIf, orderIf, eventRest, initRest, recordOf}
+use Rattle.record.specs.Layout.{numberIn}
+use Rattle.record.specs.Record.{numberIf, orderIf, eventRest, initRest, recordOf}
 use Rattle.trace.specs.Fault.{uses, eventFault}
 use Rattle.trace.specs.Reading.{linesFault, initsFault, eventsIn, startIn, surveyInits, surveyParts, surveyOf, eventsOf, readOf}
 use Rattle.matching.specs.Entry.{keepRest, goneRest, entryOf}

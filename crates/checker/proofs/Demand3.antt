@@ -1,9 +1,8 @@
 -- Demand 3 on texts. Texts that are read without refusal have events that are right from their starting memories, which is what the theorem of
 -- the rules of change asks; so it speaks of what a check answers. Assumes nothing.
 use Prim.Native.Nat.{ℕ, _+_}
-use mathlib.Core.Path.{_≡_, refl, sym, _∙_, ap, subst}
+use mathlib.Core.Path.{_≡_}
 use mathlib.Core.Logic.{_↔_}
-use mathlib.Core.Bool.{Bool, true, false, cond}
 use mathlib.Core.List.{List, [], _∷_}
 use native.Mathlib.Omega.{arith}
 use lib.Dec.{T}
@@ -20,11 +19,11 @@ use Rattle.trace.proofs.OneText.{text-whole, first-done}
 use Rattle.trace.proofs.Readings.{read-passed}
 use Rattle.matching.specs.Reading.{entriesOf}
 use Rattle.rules.specs.View.{view}
-use Rattle.rules.specs.Verdict.{startAnswer, countAnswer, entryAnswer, verdict}
+use Rattle.rules.specs.Verdict.{startAnswer, countAnswer, entryAnswer}
 use Rattle.rules.specs.Run.{Realises}
 use Rattle.rules.specs.Demand.{right, Passed}
 use Rattle.rules.proofs.Theorem.{demand-3}
-use Rattle.checker.specs.Check.{Lent, sourceRead, targetRead, entriesRead, readingAnswer, verdictOf, checkOf}
+use Rattle.checker.specs.Check.{Lent, sourceRead, targetRead, readingAnswer, verdictOf, checkOf}
 
 -- no fault 6: every event is right
 right-of : (side k : ℕ) (m : Memory) (b es : List Event) → eventFault side k m b es .number ≡ 0 → T (right m es)

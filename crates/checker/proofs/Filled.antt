@@ -1,24 +1,24 @@
 -- Rooms that were filled hold the events and entries of their texts, which are lawful and few. Assumes nothing.
-use Prim.Native.Nat.{ℕ, _+_, _*_, _/_, _≤_, _<_}
-use mathlib.Core.Path.{_≡_, refl, sym, _∙_, ap}
-use mathlib.Core.List.{List, [], _∷_, _++_}
+use Prim.Native.Nat.{ℕ, _*_, _/_, _≤_, _<_}
+use mathlib.Core.Path.{_≡_, refl}
+use mathlib.Core.List.{List}
 use native.Mathlib.Omega.{arith}
 use lib.ListN.{length, take, drop, length-append}
 use lib.Seq.{take-at}
-use Rattle.laws.proofs.Lists.{Each, each-imp}
-use Rattle.event.specs.Room.{flat, eventAt, onward}
+use Rattle.laws.proofs.Lists.{each-imp}
+use Rattle.event.specs.Room.{flat, onward, Placed}
 use Rattle.event.specs.declared.Event.{Event}
 use Rattle.event.proofs.Rooms.{flat-length, onward-flat, each-event}
 use Rattle.event.proofs.Lawful.{place-below}
 use Rattle.trace.specs.Reading.{eventsOf, surveyOf, front, readOf}
 use Rattle.trace.proofs.Range.{Fit, Fits}
 use Rattle.trace.proofs.OneText.{text-whole}
-use Rattle.trace.proofs.Readings.{Counts, counts, read-passed}
-use Rattle.matching.specs.Reading.{entriesOf, surveyOf as entriesSurvey, front as entryFront, readOf as entriesRead}
+use Rattle.trace.proofs.Readings.{counts, read-passed}
+use Rattle.matching.specs.Reading.{entriesOf, front as entryFront, readOf as entriesRead}
 use Rattle.matching.proofs.Readings.{counts as entryCounts, read-passed as entries-passed}
 use Rattle.trace.specs.declared.reading.TraceRead.{TraceRead}
 use Rattle.matching.specs.declared.MatchingRead.{MatchingRead}
-use Rattle.checker.specs.Check.{Lent, sourceRead, targetRead, entriesRead as entriesReading, verdictOf, heldOf, Placed, judgedOf}
+use Rattle.checker.specs.Check.{Lent, sourceRead, targetRead, entriesRead as entriesReading, verdictOf, heldOf, judgedOf}
 
 -- what a filled room says of the trace that was read into it
 pub record Filled (t : List ℕ) (r : TraceRead) (room : List ℕ) : Type 0 where

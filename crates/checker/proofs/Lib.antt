@@ -4,3 +4,4 @@ pub mod Lines
 pub mod Answers
 pub mod Filled
 pub mod Demand3
+pub mod Unique

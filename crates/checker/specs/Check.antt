@@ -1,11 +1,10 @@
 -- Document 01, "Numbers that come back", its order, and "Lent room": a check of three texts. Assumes nothing.
-use Prim.Native.Nat.{ℕ, _/_, _<_}
+use Prim.Native.Nat.{ℕ}
 use mathlib.Core.Bool.{cond}
 use mathlib.Core.List.{List}
 use mathlib.Core.Path.{_≡_}
 use lib.Dec.{eqb}
-use lib.ListN.{length}
-use Rattle.event.specs.Room.{eventAt, onward}
+use Rattle.event.specs.Room.{wholeEvents}
 use Rattle.event.specs.Answer.{first}
 use Rattle.event.specs.Memory.{empty}
 use Rattle.event.specs.declared.Answer.{Answer}
@@ -66,17 +65,11 @@ checkOf l =
     (record { answer = verdictOf l; source = heldOf (sourceRead l); target = heldOf (targetRead l); entries = entriesRead l .entries })
     (refused (readingAnswer l))
 
--- Every event of a room has its place in range.
-abbrev pub Placed : List ℕ → Type 0
-Placed room = (i : ℕ) → i < length room / 6 → eventAt room i .place < 256
-
 -- What is handed back of two traces and a matching that were read, whose events and entries fill three rooms.
 unfoldable pub judgedOf : TraceRead → TraceRead → ℕ → List ℕ → List ℕ → List ℕ → Checked
 judgedOf s t n sourceRoom targetRoom entryRoom = record {
   answer =
-      verdict view (s .memory .cells) (t .memory .cells) (onward sourceRoom 0 (length sourceRoom / 6))
-      (onward targetRoom 0 (length targetRoom / 6))
-      entryRoom;
+      verdict view (s .memory .cells) (t .memory .cells) (wholeEvents sourceRoom) (wholeEvents targetRoom) entryRoom;
   source = heldOf s;
   target = heldOf t;
   entries = n;

@@ -1,5 +1,5 @@
 -- Document 01, "Offending line": the line at fault, as a part of the source or target text. Assumes nothing.
-use Prim.Native.Nat.{ℕ, _-_, _≤_}
+use Prim.Native.Nat.{ℕ, _+_, _-_, _≤_}
 use mathlib.Core.Path.{_≡_}
 use mathlib.Core.Bool.{Bool, true, false, cond, _||_}
 use mathlib.Core.List.{List, [], _∷_}
@@ -8,10 +8,10 @@ use lib.ListN.{length, take, drop}
 use Rattle.event.specs.Kind.{has}
 use Rattle.event.specs.declared.Answer.{Answer}
 use Rattle.text.specs.Line.{split}
-use Rattle.trace.specs.Record.{recordOf}
-use Rattle.trace.specs.declared.record.Record.{Record}
+use Rattle.record.specs.Record.{recordOf}
+use Rattle.record.specs.declared.Record.{Record}
 use Rattle.checker.specs.declared.line.Span.{Span}
-use Rattle.trace.specs.declared.record.Record.the-variants.{Init, Line, Refused}
+use Rattle.record.specs.declared.Record.the-variants.{Init, Line, Refused}
 
 -- Whether a record is an event.
 abbrev pub isEvent : Record → Bool
@@ -29,6 +29,17 @@ unfoldable pub nthLine : Bool → ℕ → List (List ℕ) → List ℕ
 nthLine only k [] = []
 nthLine only k (l ∷ ls) = cond (counted only l) (cond (eqb k 1) l (nthLine only (k - 1) ls)) (nthLine only k ls)
 
+-- A part of a text, from one place to another.
+abbrev pub span : ℕ → ℕ → Span
+span from to = record { from = from; to = to }
+
+-- Where the k-th line that is counted stands, of lines the first of which stands at a place; nowhere if there are not so many.
+unfoldable pub nthSpan : Bool → ℕ → ℕ → List (List ℕ) → Span
+nthSpan only k at [] = span 0 0
+nthSpan only k at (l ∷ ls) =
+    cond (counted only l) (cond (eqb k 1) (span at (at + length l)) (nthSpan only (k - 1) (at + length l + 1) ls))
+    (nthSpan only k (at + length l + 1) ls)
+
 -- The place of 2, 3 and 4 is a line; that of 5, 6 and 10 to 16 is an event.
 abbrev pub lineFaults : List ℕ
 lineFaults = 2 ∷ 3 ∷ 4 ∷ []
@@ -42,13 +53,29 @@ lineOf number place t =
     cond (has number lineFaults) (nthLine false place (split t))
     (cond (has number eventFaults) (nthLine true place (split t)) [])
 
+-- Where it stands.
+unfoldable pub lineSpan : ℕ → ℕ → List ℕ → Span
+lineSpan number place t =
+    cond (has number lineFaults) (nthSpan false place 0 (split t))
+    (cond (has number eventFaults) (nthSpan true place 0 (split t)) (span 0 0))
+
 -- The offending line of a check: of the source text, side 1, or the target text, side 2; else nothing.
 unfoldable pub offendingLine : List ℕ → List ℕ → Answer → List ℕ
 offendingLine source target a =
     cond (eqb (a .side) 1) (lineOf (a .number) (a .place) source)
     (cond (eqb (a .side) 2) (lineOf (a .number) (a .place) target) [])
 
--- A part of a text, from one place to another, that is a given line.
+-- Where it stands, in the text that the side names.
+unfoldable pub offendingSpan : List ℕ → List ℕ → Answer → Span
+offendingSpan source target a =
+    cond (eqb (a .side) 1) (lineSpan (a .number) (a .place) source)
+    (cond (eqb (a .side) 2) (lineSpan (a .number) (a .place) target) (span 0 0))
+
+-- The text that a side names: the target, side 2, else the source.
+abbrev pub sideText : ℕ → List ℕ → List ℕ → List ℕ
+sideText side source target = cond (eqb side 2) target source
+
+-- A part of a text that is a given line.
 pub record Spans (t line : List ℕ) (s : Span) : Type 0 where
   pub rises : s .from ≤ s .to
   pub within : s .to ≤ length t

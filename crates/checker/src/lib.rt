@@ -4,7 +4,8 @@ pub mod line;
 ghost use mathlib.Core.Path.{_≡_};
 ghost use Prim.Native.Nat.{_*_, _≤_};
 ghost use lib.ListN.{length, take};
-ghost use Rattle.checker.specs.Check.{Checks, Placed, heldOf, judgedOf, lent, refused};
+ghost use Rattle.event.specs.Room.{Placed};
+ghost use Rattle.checker.specs.Check.{Checks, heldOf, judgedOf, lent, refused};
 use event::Answer;
 use event::WORDS;
 use event::Word;
@@ -57,7 +58,10 @@ fn judged(
     requires { ⌜ (source .events ≤ 800) × (target .events ≤ 800) ⌝ }
     requires { ⌜ Placed (take (source .events * 6) (now «source_room»)) ⌝ }
     requires { ⌜ Placed (take (target .events * 6) (now «target_room»)) ⌝ }
-    ensures { λ r. ⌜ r ≡ judgedOf source target entries (take (source .events * 6) (now («source_room» .entry))) (take (target .events * 6) (now («target_room» .entry))) (take entries (now («entry_room» .entry))) ⌝ }
+    ensures { λ r. ⌜ r ≡ judgedOf source target entries
+        (take (source .events * 6) (now («source_room» .entry)))
+        (take (target .events * 6) (now («target_room» .entry)))
+        (take entries (now («entry_room» .entry))) ⌝ }
 {
     let source_words = source.events * WORDS;
     let target_words = target.events * WORDS;
@@ -96,7 +100,10 @@ pub fn check(
     target_room: &mut [Word],
     entry_room: &mut [Word],
 ) -> Checked
-    ensures { λ r. ⌜ Checks (lent (now (source .entry)) (now (target .entry)) (now (matching .entry)) (now («source_room» .entry)) (now («target_room» .entry)) (now («entry_room» .entry))) r (now («source_room» .exit)) (now («target_room» .exit)) (now («entry_room» .exit)) ⌝ }
+    ensures { λ r. ⌜ Checks
+        (lent (now (source .entry)) (now (target .entry)) (now (matching .entry))
+        (now («source_room» .entry)) (now («target_room» .entry)) (now («entry_room» .entry)))
+        r (now («source_room» .exit)) (now («target_room» .exit)) (now («entry_room» .exit)) ⌝ }
 {
     let s = survey_in(source, 1, source_room.len());
     let source_answer = s.answer;

@@ -3,14 +3,14 @@ ghost use mathlib.Core.Path.{_≡_};
 ghost use mathlib.Core.Bool.{_&&_, cond};
 ghost use Prim.Native.Nat.{_≤_, _-_};
 ghost use lib.Dec.{eqb};
-ghost use Rattle.checker.specs.Line.{isEvent, counted, nthLine, lineOf, offendingLine, Spans};
+ghost use Rattle.checker.specs.Line.{isEvent, counted, nthLine, nthSpan, lineOf, lineSpan, sideText, offendingLine, offendingSpan, Spans};
 ghost use Rattle.text.specs.Line.{split};
 use event::Answer;
 use event::Word;
 use event::kind::is_in;
+use record::Record;
+use record::record_of;
 use text::line::line_end;
-use trace::record::Record;
-use trace::record::record_of;
 
 // A part of a text, from one place to another.
 pub struct Span {
@@ -62,6 +62,7 @@ fn left_after(hit: bool, left: usize) -> usize
 // The k-th line that is counted, from 1; an empty part if there are not so many.
 fn span_of(text: &[u8], only: bool, k: usize) -> Span
     ensures { λ r. ⌜ Spans (now (text .entry)) (nthLine only k (split (now (text .entry)))) r ⌝ }
+    ensures { λ r. ⌜ r ≡ nthSpan only k 0 (split (now (text .entry))) ⌝ }
 {
     if k == 0 {
         return Span { from: 0, to: 0 };
@@ -83,6 +84,7 @@ fn span_of(text: &[u8], only: bool, k: usize) -> Span
 // The part of a text that an answer's number and place name: the place of 2, 3 and 4 is a line, that of the others an event.
 fn fault_span(text: &[u8], number: Word, place: usize) -> Span
     ensures { λ r. ⌜ Spans (now (text .entry)) (lineOf number place (now (text .entry))) r ⌝ }
+    ensures { λ r. ⌜ r ≡ lineSpan number place (now (text .entry)) ⌝ }
 {
     if is_in(number, &[2, 3, 4]) {
         return span_of(text, false, place);
@@ -93,22 +95,31 @@ fn fault_span(text: &[u8], number: Word, place: usize) -> Span
     Span { from: 0, to: 0 }
 }
 
+// Where the offending line of a check stands, without its LF, in the text that the answer's side names; else an empty part.
+pub fn offending_span(source: &[u8], target: &[u8], answer: Answer) -> Span
+    ensures { λ r. ⌜ Spans (sideText (answer .side) (now (source .entry)) (now (target .entry)))
+        (offendingLine (now (source .entry)) (now (target .entry)) answer) r ⌝ }
+    ensures { λ r. ⌜ r ≡ offendingSpan (now (source .entry)) (now (target .entry)) answer ⌝ }
+{
+    let side = answer.side;
+    if side == 1 {
+        return fault_span(source, answer.number, answer.place);
+    }
+    if side == 2 {
+        return fault_span(target, answer.number, answer.place);
+    }
+    Span { from: 0, to: 0 }
+}
+
 // The offending line of a check, without its LF, as that part of the source or target text; else an empty part of the source.
 pub fn offending_line<'a>(source: &'a [u8], target: &'a [u8], answer: Answer) -> &'a [u8]
     ensures { λ r. ⌜ now r ≡ offendingLine (now (source .entry)) (now (target .entry)) answer ⌝ }
 {
-    let side = answer.side;
-    if side == 1 {
-        let span = fault_span(source, answer.number, answer.place);
-        let from = span.from;
-        let to = span.to;
-        return &source[from..to];
-    }
-    if side == 2 {
-        let span = fault_span(target, answer.number, answer.place);
-        let from = span.from;
-        let to = span.to;
+    let span = offending_span(source, target, answer);
+    let from = span.from;
+    let to = span.to;
+    if answer.side == 2 {
         return &target[from..to];
     }
-    &source[0..0]
+    &source[from..to]
 }

@@ -5,7 +5,7 @@ use mathlib.Core.Path.{_≡_, refl, sym}
 use native.Mathlib.Omega.{arith}
 use lib.Dec.{leb, eqb}
 use borrow.Author.Tests.{leb-true, eqb-true}
-use Rattle.event.specs.Kind.{row, takes, fitsPlace, fitsValues, lawful}
+use Rattle.event.specs.Kind.{row, takes, fitsPlace, fitsValues, fields, lawful}
 use Rattle.event.specs.declared.Event.{Event}
 use Rattle.event.specs.declared.kind.Place.{Place}
 use Rattle.event.specs.declared.kind.Place.the-variants.{Location, Mutex, Nowhere}
@@ -45,3 +45,18 @@ module _ (e : Event) (h : lawful e ≡ true) where
 
   pub place-below : e .place < 256
   place-below = place-in (row (e .kind) .place) (e .place) place-of
+
+-- A code line apart, an event is lawful if its fields are.
+apart : (a b c x : Bool) → (a && (b && (c && x))) ≡ ((a && (b && (c && true))) && x)
+apart true true true x = refl
+apart true true false x = refl
+apart true false c x = refl
+apart false b c x = refl
+
+pub coded :
+    (e : Event) → lawful e ≡ (lawful (fields (e .kind) (e .place) (e .order) (e .first) (e .second)) && eqb (e .code) 0)
+unfolding lawful
+coded e =
+    apart (takes (row (e .kind) .orders) (e .order)) (fitsPlace (row (e .kind) .place) (e .place))
+    (fitsValues (row (e .kind) .values) (e .first) (e .second))
+    (eqb (e .code) 0)

@@ -25,9 +25,18 @@ after l e =
     (cond (eqb (e .kind) 6) (set l (e .place) (wrapSum 32 (e .first) (e .second)))
     l))
 
+-- what it leaves in its cell, which held `was`
+abbrev pub left : ℕ → Event → ℕ
+left was e =
+    cond (has (e .kind) (2 ∷ 4 ∷ [])) (e .first)
+    (cond (eqb (e .kind) 5) (e .second) (cond (eqb (e .kind) 6) (wrapSum 32 (e .first) (e .second)) was))
+
 -- each load, `aload` and old value must equal the cell before the event
+abbrev pub reads : ℕ → Event → Bool
+reads was e = cond (has (e .kind) (1 ∷ 3 ∷ 5 ∷ 6 ∷ [])) (eqb (e .first) was) true
+
 unfoldable pub latest : List ℕ → Event → Bool
-latest l e = cond (has (e .kind) (1 ∷ 3 ∷ 5 ∷ 6 ∷ [])) (eqb (e .first) (getD l (e .place) 0)) true
+latest l e = reads (getD l (e .place) 0) e
 
 -- the memory after an event, and whether its value is the latest; an event outside the layout changes nothing and is not
 unfoldable pub stepped : Memory → Event → Stepped

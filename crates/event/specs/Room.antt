@@ -1,5 +1,5 @@
 -- docs/LAYOUT.md: an event is six words of a room. Assumes nothing.
-use Prim.Native.Nat.{ℕ, zero, suc, _+_, _*_, _/_, _≤_}
+use Prim.Native.Nat.{ℕ, zero, suc, _+_, _*_, _/_, _<_}
 use mathlib.Core.Bool.{Bool, cond}
 use mathlib.Core.List.{List, [], _∷_, _++_}
 use lib.Dec.{ltb}
@@ -42,6 +42,14 @@ eventAt l i = cond (inRoom l i) (eventFrom l (i * 6)) noEvent
 unfoldable pub onward : List ℕ → ℕ → ℕ → List Event
 onward l i zero = []
 onward l i (suc n) = eventAt l i ∷ onward l (i + 1) n
+
+-- the events that lie in a room whole
+abbrev pub wholeEvents : List ℕ → List Event
+wholeEvents l = onward l 0 (length l / 6)
+
+-- each of them has its place in range
+abbrev pub Placed : List ℕ → Type 0
+Placed l = (i : ℕ) → i < length l / 6 → eventAt l i .place < 256
 
 -- a room with an event put at an index; where its words do not fit, the room stays as it is
 unfoldable pub putAt : List ℕ → ℕ → Event → List ℕ

@@ -1,6 +1,6 @@
 // The fixed table: a kind's number decides its orders, its place, its values and whether it synchronises.
 ghost use mathlib.Core.Path.{_≡_};
-ghost use Rattle.event.specs.Kind.{aRow, row, has, takes, fitsPlace, fitsValues, lawful};
+ghost use Rattle.event.specs.Kind.{aRow, row, has, takes, fitsPlace, fitsValues, fields, lawful};
 use crate::Event;
 use crate::Word;
 
@@ -96,7 +96,7 @@ pub fn is_in(n: Word, list: &[Word]) -> bool
 }
 
 // Whether an order's number is in a list of orders.
-pub fn takes_order(orders: Orders, order: Word) -> bool
+fn takes_order(orders: Orders, order: Word) -> bool
     ensures { λ r. ⌜ r ≡ takes orders order ⌝ }
 {
     match orders {
@@ -110,7 +110,7 @@ pub fn takes_order(orders: Orders, order: Word) -> bool
     }
 }
 
-pub fn fits_place(place: Place, at: Word) -> bool
+fn fits_place(place: Place, at: Word) -> bool
     ensures { λ r. ⌜ r ≡ fitsPlace place at ⌝ }
 {
     match place {
@@ -121,7 +121,7 @@ pub fn fits_place(place: Place, at: Word) -> bool
 }
 
 // Whether the values that a kind lacks are 0.
-pub fn fits_values(values: Word, first: Word, second: Word) -> bool
+fn fits_values(values: Word, first: Word, second: Word) -> bool
     ensures { λ r. ⌜ r ≡ fitsValues values first second ⌝ }
 {
     match values {
@@ -131,20 +131,27 @@ pub fn fits_values(values: Word, first: Word, second: Word) -> bool
     }
 }
 
+// Whether a place, an order and values are those of a kind.
+pub fn suits(kind: Word, place: Word, order: Word, first: Word, second: Word) -> bool
+    ensures { λ r. ⌜ r ≡ lawful (fields kind place order first second) ⌝ }
+{
+    let row = row_of(kind);
+    let orders = row.orders;
+    let located = row.place;
+    if !takes_order(orders, order) {
+        return false;
+    }
+    if !fits_place(located, place) {
+        return false;
+    }
+    fits_values(row.values, first, second)
+}
+
 // Whether an event is of the layout, form 1.
 pub fn is_lawful(e: Event) -> bool
     ensures { λ r. ⌜ r ≡ lawful e ⌝ }
 {
-    let row = row_of(e.kind);
-    let orders = row.orders;
-    let place = row.place;
-    if !takes_order(orders, e.order) {
-        return false;
-    }
-    if !fits_place(place, e.place) {
-        return false;
-    }
-    if !fits_values(row.values, e.first, e.second) {
+    if !suits(e.kind, e.place, e.order, e.first, e.second) {
         return false;
     }
     e.code == 0

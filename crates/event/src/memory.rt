@@ -1,6 +1,6 @@
 // The memory of a trace: 256 cells, which take one event at a time.
 ghost use mathlib.Core.Path.{_≡_};
-ghost use Rattle.event.specs.Memory.{empty as emptyMemory, wrapSum, stepped};
+ghost use Rattle.event.specs.Memory.{empty as emptyMemory, left, reads, stepped, wrapSum};
 use crate::Event;
 use crate::Word;
 use crate::index_of;
@@ -17,10 +17,38 @@ pub struct Stepped {
 }
 
 // The sum of two words, as C11 atomic addition wraps.
-pub fn wrapped_sum(a: Word, b: Word) -> Word
+fn wrapped_sum(a: Word, b: Word) -> Word
     ensures { λ r. ⌜ r ≡ wrapSum 32 a b ⌝ }
 {
     std::num::wrapping_add_u32(a, b)
+}
+
+// What an event leaves in its cell, which held `was`.
+fn left_by(e: Event, was: Word) -> Word
+    ensures { λ r. ⌜ r ≡ left was e ⌝ }
+{
+    let kind = e.kind;
+    match kind {
+        2 => e.first,
+        4 => e.first,
+        5 => e.second,
+        6 => wrapped_sum(e.first, e.second),
+        _ => was,
+    }
+}
+
+// Whether the value that an event reads, if it reads one, is that of its cell.
+fn is_latest(e: Event, was: Word) -> bool
+    ensures { λ r. ⌜ r ≡ reads was e ⌝ }
+{
+    let kind = e.kind;
+    match kind {
+        1 => e.first == was,
+        3 => e.first == was,
+        5 => e.first == was,
+        6 => e.first == was,
+        _ => true,
+    }
 }
 
 impl Memory {
@@ -30,7 +58,7 @@ impl Memory {
         Memory { cells: [0; 256] }
     }
 
-    pub fn step(self, e: Event) -> Stepped
+    pub fn step(mut self, e: Event) -> Stepped
         ensures { λ r. ⌜ r ≡ stepped self e ⌝ }
     {
         if !is_lawful(e) {
@@ -40,51 +68,12 @@ impl Memory {
             };
         }
         let at = index_of(e.place);
-        let kind = e.kind;
         let was = self.cells[at];
-        let first = e.first;
-        let mut next = self;
-        match kind {
-            1 => Stepped {
-                memory: next,
-                right: first == was,
-            },
-            2 => {
-                next.cells[at] = first;
-                Stepped {
-                    memory: next,
-                    right: true,
-                }
-            }
-            3 => Stepped {
-                memory: next,
-                right: first == was,
-            },
-            4 => {
-                next.cells[at] = first;
-                Stepped {
-                    memory: next,
-                    right: true,
-                }
-            }
-            5 => {
-                next.cells[at] = e.second;
-                Stepped {
-                    memory: next,
-                    right: first == was,
-                }
-            }
-            6 => {
-                next.cells[at] = wrapped_sum(first, e.second);
-                Stepped {
-                    memory: next,
-                    right: first == was,
-                }
-            }
-            _ => Stepped {
-                memory: next,
-                right: true,
-            },
+        let right = is_latest(e, was);
+        self.cells[at] = left_by(e, was);
+        Stepped {
+            memory: self,
+            right,
         }
     }
 }

@@ -11,3 +11,8 @@ and-left false y h = h
 pub and-right : (x y : Bool) → (x && y) ≡ true → y ≡ true
 and-right true y h = h
 and-right false y h = absurd (false≢true h)
+
+-- a test that always holds says nothing
+pub and-true : (x : Bool) → (x && true) ≡ x
+and-true true = refl
+and-true false = refl

@@ -43,7 +43,7 @@ fn gone_rest(line: &[u8], at: usize) -> EntryRead
     EntryRead::Refused
 }
 
-pub fn entry_of(line: &[u8]) -> EntryRead
+pub(crate) fn entry_of(line: &[u8]) -> EntryRead
     ensures { λ r. ⌜ r ≡ entryOf (now (line .entry)) ⌝ }
 {
     let FieldStep::Field { from, to } = field_of(line, 0) else {

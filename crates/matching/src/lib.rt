@@ -66,7 +66,7 @@ fn survey_lines(text: &[u8], from: usize) -> MatchingRead
 }
 
 // Answers 1 to 3 of a text, with its number of entries.
-pub fn survey(text: &[u8]) -> MatchingRead
+fn survey(text: &[u8]) -> MatchingRead
     ensures { λ r. ⌜ r ≡ surveyOf (now (text .entry)) ⌝ }
 {
     if TEXT_LIMIT < text.len() {

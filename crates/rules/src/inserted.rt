@@ -31,7 +31,7 @@ fn new_fault(sourced: bool, load: bool, fresh: bool) -> Word
     15
 }
 
-pub fn target_answer(target: &[Word], marks: &[bool; 801]) -> Answer
+pub(crate) fn target_answer(target: &[Word], marks: &[bool; 801]) -> Answer
     requires { ⌜ length (now target) / 6 ≤ 800 ⌝ }
     requires { ⌜ ((i : ℕ) → i < length (now target) / 6 → eventAt (now target) i .place < 256) ⌝ }
     ensures { λ r. ⌜ ((ns : List ℕ) → Marked (now (marks .entry)) ns → r ≡ targetAnswer view ns 1 [] (onward (now (target .entry)) 0 (length (now (target .entry)) / 6))) ⌝ }

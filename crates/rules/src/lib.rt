@@ -6,9 +6,9 @@ pub mod source;
 pub mod start;
 
 ghost use mathlib.Core.Path.{_≡_};
-ghost use Prim.Native.Nat.{ℕ, _/_, _≤_, _<_};
+ghost use Prim.Native.Nat.{_/_, _≤_};
 ghost use lib.ListN.{length};
-ghost use Rattle.event.specs.Room.{eventAt, onward};
+ghost use Rattle.event.specs.Room.{Placed, wholeEvents};
 ghost use Rattle.rules.specs.View.{view};
 ghost use Rattle.rules.specs.Verdict.{verdict};
 use event::Answer;
@@ -29,10 +29,11 @@ pub fn judge(
     entries: &[Word],
 ) -> Answer
     requires { ⌜ length (now source) / 6 ≤ 800 ⌝ }
-    requires { ⌜ ((i : ℕ) → i < length (now source) / 6 → eventAt (now source) i .place < 256) ⌝ }
+    requires { ⌜ Placed (now source) ⌝ }
     requires { ⌜ length (now target) / 6 ≤ 800 ⌝ }
-    requires { ⌜ ((i : ℕ) → i < length (now target) / 6 → eventAt (now target) i .place < 256) ⌝ }
-    ensures { λ r. ⌜ r ≡ verdict view (start .cells) («target_start» .cells) (onward (now (source .entry)) 0 (length (now (source .entry)) / 6)) (onward (now (target .entry)) 0 (length (now (target .entry)) / 6)) (now (entries .entry)) ⌝ }
+    requires { ⌜ Placed (now target) ⌝ }
+    ensures { λ r. ⌜ r ≡ verdict view (start .cells) («target_start» .cells)
+        (wholeEvents (now (source .entry))) (wholeEvents (now (target .entry))) (now (entries .entry)) ⌝ }
 {
     let begun = start_answer(start, target_start);
     if begun.number != 0 {

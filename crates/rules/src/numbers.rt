@@ -24,7 +24,7 @@ fn is_used_twice(at: usize, marked: bool) -> bool
     marked
 }
 
-pub fn entry_answer(entries: &[Word], targets: usize) -> EntriesRead
+pub(crate) fn entry_answer(entries: &[Word], targets: usize) -> EntriesRead
     requires { ⌜ targets ≤ 800 ⌝ }
     ensures { λ r. ⌜ r .answer ≡ entryAnswer targets 1 [] (now (entries .entry)) ⌝ }
     ensures { λ r. ⌜ (r .answer .number ≡ 0 → Marked (r .marks) (now (entries .entry))) ⌝ }

@@ -8,13 +8,13 @@ use event::Event;
 // The mark of a load whose value is used.
 pub const USED: event::Word = 6;
 
-pub fn both(a: bool, b: bool) -> bool
+pub(crate) fn both(a: bool, b: bool) -> bool
     ensures { λ r. ⌜ r ≡ (a && b) ⌝ }
 {
     a && b
 }
 
-pub fn is_wall(e: Event) -> bool
+pub(crate) fn is_wall(e: Event) -> bool
     ensures { λ r. ⌜ r ≡ isWall (view e) ⌝ }
 {
     let kind = e.kind;
@@ -25,7 +25,7 @@ pub fn is_wall(e: Event) -> bool
     }
 }
 
-pub fn is_load(e: Event) -> bool
+pub(crate) fn is_load(e: Event) -> bool
     ensures { λ r. ⌜ r ≡ isLoad (view e) ⌝ }
 {
     let kind = e.kind;
@@ -36,7 +36,7 @@ pub fn is_load(e: Event) -> bool
 }
 
 // Whether two events are the same, the marks of loads apart.
-pub fn is_same(e: Event, f: Event) -> bool
+pub(crate) fn is_same(e: Event, f: Event) -> bool
     ensures { λ r. ⌜ r ≡ same e f ⌝ }
 {
     if e.kind != f.kind {

@@ -241,7 +241,7 @@ fn source_pass(source: &[Word], target: &[Word], entries: &[Word], flags: &[bool
     Answer::new(0, 0, 0)
 }
 
-pub fn source_answer(source: &[Word], target: &[Word], entries: &[Word]) -> Answer
+pub(crate) fn source_answer(source: &[Word], target: &[Word], entries: &[Word]) -> Answer
     requires { ⌜ length (now source) / 6 ≤ 800 ⌝ }
     requires { ⌜ ((i : ℕ) → i < length (now source) / 6 → eventAt (now source) i .place < 256) ⌝ }
     requires { ⌜ length (now entries) ≡ length (now source) / 6 ⌝ }

@@ -4,7 +4,7 @@ ghost use Rattle.rules.specs.Verdict.{startAnswer};
 use event::Answer;
 use event::memory::Memory;
 
-pub fn start_answer(start: Memory, target_start: Memory) -> Answer
+pub(crate) fn start_answer(start: Memory, target_start: Memory) -> Answer
     ensures { λ r. ⌜ r ≡ startAnswer 0 (start .cells) («target_start» .cells) ⌝ }
 {
     let cells = start.cells;

@@ -1,7 +1,7 @@
 -- Laws of a text cut at a byte s, by a place of the text: what stands there, where the part that starts there ends, and which parts follow.
 -- Assumes nothing.
 use Prim.Native.Nat.{ℕ, suc, _+_, _-_, _≤_, _<_}
-use mathlib.Core.Path.{_≡_, refl, sym, _∙_}
+use mathlib.Core.Path.{_≡_, refl, sym, _∙_, ap}
 use mathlib.Core.Bool.{Bool, true, false, cond}
 use mathlib.Core.Logic.{_⊎_, inl, inr}
 use mathlib.Core.List.{List, [], _∷_}
@@ -62,6 +62,12 @@ module _ (s : ℕ) where
     until-in h = omega (arith, until-le (drop i t), length-drop i t)
 
   -- after a part that ends at e: the parts after its s
+  -- another byte stands k places on
+  pub until-on : (t : List ℕ) (i k : ℕ) → i + k < length t → (getD t (i + k) 0 ≡ s → ⊥)
+      → until s (drop (i + k) t) ≡ until s (drop (i + (k + 1)) t) + 1
+  until-on t i k h e =
+      let one-on : i + k + 1 ≡ i + (k + 1) = omega arith in until-go t (i + k) h e ∙ ap (λ (j : ℕ). until s (drop j t) + 1) one-on
+
   pub after-part : (t : List ℕ) (e : ℕ) → e < length t → more s (drop e t) ≡ cut s (drop (e + 1) t)
   unfolding more
   after-part t e k = rw (drop-cons t e 0 k, add-one e)

@@ -15,14 +15,14 @@ pub enum FieldStep {
 }
 
 // Where the field that starts at `from` ends: at the next TAB, or at the end of the line.
-pub fn field_end(line: &[u8], from: usize) -> usize
+fn field_end(line: &[u8], from: usize) -> usize
     ensures { λ r. ⌜ r ≡ from + fieldLen (drop from (now (line .entry))) ⌝ }
 {
     find(line, from, TAB)
 }
 
 // The field that starts at a place of a line, or that the line has ended.
-pub fn field_at(line: &[u8], at: usize) -> FieldStep
+pub(crate) fn field_at(line: &[u8], at: usize) -> FieldStep
     ensures { λ r. ⌜ r ≡ fieldAt (now (line .entry)) at ⌝ }
 {
     if line.len() < at {

@@ -9,14 +9,14 @@ pub struct Reader<'a> {
     pub at: usize,
 }
 
-pub fn new<'a>(text: &'a [u8], at: usize) -> Reader<'a>
+fn new<'a>(text: &'a [u8], at: usize) -> Reader<'a>
     ensures { λ r. ⌜ (r .text ≡ text .entry) × (r .at ≡ at) ⌝ }
 {
     Reader { text, at }
 }
 
 // The next field, or that the line has ended.
-pub fn next<'a>(r: Reader<'a>) -> FieldStep
+fn next<'a>(r: Reader<'a>) -> FieldStep
     ensures { λ s. ⌜ s ≡ fieldAt (now (r .entry .text)) (r .entry .at) ⌝ }
 {
     field_at(r.text, r.at)

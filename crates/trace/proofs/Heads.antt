@@ -10,7 +10,7 @@ use Rattle.event.specs.Memory.{empty}
 use Rattle.text.specs.Line.{lineLen, split, splitFrom}
 use Rattle.text.specs.Word.{same}
 use Rattle.text.proofs.Cuts.{from-start, from-out}
-use Rattle.trace.specs.Layout.{header}
+use Rattle.record.specs.Layout.{header}
 use Rattle.trace.specs.Reading.{refused, surveyInits, surveyParts}
 use Rattle.text.proofs.Walk.{Some, line, parts-line, parts-some}
 

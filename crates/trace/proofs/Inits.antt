@@ -1,7 +1,7 @@
 -- A reading among its starting values, one line at a time; once a line is no starting value, what is left is a reading of events.
 -- Assumes nothing.
 use Prim.Native.Nat.{ℕ, _+_, _≤_, _<_}
-use mathlib.Core.Path.{_≡_, refl, sym, _∙_, ap}
+use mathlib.Core.Path.{_≡_, refl}
 use mathlib.Core.Bool.{Bool, true, false, cond}
 use mathlib.Core.List.{List, [], _∷_}
 use native.Mathlib.Omega.{arith}
@@ -13,14 +13,14 @@ use Rattle.event.specs.Answer.{answer, done, first}
 use Rattle.event.specs.declared.Answer.{Answer}
 use Rattle.event.specs.declared.Event.{Event}
 use Rattle.event.specs.declared.memory.Memory.{Memory}
-use Rattle.trace.specs.Record.{recordOf}
+use Rattle.record.specs.Record.{recordOf}
 use Rattle.trace.specs.Fault.{eventFault}
 use Rattle.text.specs.Line.{isEmpty}
 use Rattle.trace.specs.Reading.{linesFault, onEventLine, initsFault, eventsIn, onInit, startIn, startFrom, settle, refused, surveyInits}
 use Rattle.trace.specs.Survey.{surveyEvents}
-use Rattle.trace.specs.declared.record.Record.{Record}
-use Rattle.trace.specs.declared.record.Record.the-variants.{Init, Line, Refused}
-use Rattle.trace.proofs.Records.{blank}
+use Rattle.record.specs.declared.Record.{Record}
+use Rattle.record.specs.declared.Record.the-variants.{Init, Line, Refused}
+use Rattle.record.proofs.Records.{blank}
 use Rattle.text.proofs.Walk.{Some}
 
 -- where no line is refused, no line after the first event is a starting value

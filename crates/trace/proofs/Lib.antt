@@ -1,10 +1,4 @@
 -- Laws that belong to no one function. Assumes nothing.
-pub mod Tables
-pub mod Stands
-pub mod Taking
-pub mod Layouts
-pub mod Records
-pub mod Prints
 pub mod Lines
 pub mod Surveys
 pub mod Ways

@@ -1,15 +1,15 @@
 -- The first refusal of lines that are to be events, one line at a time. Assumes nothing.
 use Prim.Native.Nat.{ℕ, _+_, _≤_, _<_}
 use mathlib.Core.Path.{_≡_, refl}
-use mathlib.Core.Bool.{true, false}
+use mathlib.Core.Bool.{false}
 use mathlib.Core.List.{List, [], _∷_}
 use borrow.Author.Tests.{le-leb, lt-leb}
 use Rattle.event.specs.Answer.{answer, done}
 use Rattle.event.specs.declared.Event.{Event}
-use Rattle.trace.specs.Record.{recordOf}
+use Rattle.record.specs.Record.{recordOf}
 use Rattle.text.specs.Line.{isEmpty}
 use Rattle.trace.specs.Reading.{linesFault}
-use Rattle.trace.specs.declared.record.Record.the-variants.{Init, Line, Refused}
+use Rattle.record.specs.declared.Record.the-variants.{Init, Line, Refused}
 use Rattle.text.proofs.Walk.{Some}
 
 module _ (side k n : ℕ) (l : List ℕ) where

@@ -19,7 +19,7 @@ use Rattle.text.specs.Word.{same}
 use Rattle.text.proofs.Parts.{glue-cut}
 use Rattle.text.proofs.Walk.{Some}
 use Rattle.text.proofs.Words.{same-eq}
-use Rattle.trace.specs.Layout.{header, eventLine}
+use Rattle.record.specs.Layout.{header, eventLine}
 use Rattle.trace.specs.Fault.{eventFault}
 use Rattle.trace.specs.Reading.{initsFault, eventsIn, startFrom, refused, settle, surveyInits, surveyParts, surveyOf, body, eventsOf}
 use Rattle.trace.specs.Writing.{textOf, initLines, traceText}

@@ -12,9 +12,9 @@ use Rattle.laws.proofs.Lists.{Each}
 use Rattle.event.specs.Kind.{lawful}
 use Rattle.event.specs.declared.Event.{Event}
 use Rattle.event.specs.declared.memory.Memory.{Memory}
-use Rattle.trace.specs.Layout.{eventLine, initLine}
+use Rattle.record.specs.Layout.{eventLine, initLine}
 use Rattle.trace.specs.Writing.{textOf, initLines, traceText}
-use Rattle.trace.proofs.Prints.{event-length, init-length}
+use Rattle.record.proofs.Prints.{event-length, init-length}
 
 -- an event of the layout, with values in range
 abbrev pub Fit : Event → Type 0

@@ -14,23 +14,25 @@ use Rattle.event.specs.Answer.{done}
 use Rattle.event.specs.Memory.{empty}
 use Rattle.event.specs.declared.Event.{Event}
 use Rattle.event.specs.declared.memory.Memory.{Memory}
+use Rattle.text.specs.Cut.{cut}
 use Rattle.text.specs.Line.{split}
+use Rattle.text.proofs.Parts.{cut-part}
 use Rattle.text.proofs.Walk.{Some}
 use Rattle.text.proofs.Words.{same-self}
-use Rattle.trace.specs.Layout.{header, eventLine, initLine}
-use Rattle.trace.specs.Record.{recordOf}
+use Rattle.record.specs.Layout.{header, eventLine, initLine}
+use Rattle.record.specs.Record.{recordOf}
 use Rattle.trace.specs.Fault.{eventFault}
 use Rattle.trace.specs.Reading.{linesFault, initsFault, eventsIn, startIn, surveyInits, surveyOf, eventsOf, readOf, front, roomAfter}
-use Rattle.trace.specs.Writing.{initLines, traceText}
-use Rattle.trace.specs.declared.record.Record.the-variants.{Init, Line}
+use Rattle.trace.specs.Writing.{textOf, initLines, traceText}
+use Rattle.record.specs.declared.Record.the-variants.{Init, Line}
 use Rattle.trace.proofs.Heads.{parts-right}
 use Rattle.trace.proofs.Inits.{inits-event, inits-last}
-use Rattle.trace.proofs.Layouts.{event-read, init-read}
+use Rattle.record.proofs.Layouts.{event-read, init-read}
 use Rattle.trace.proofs.Lines.{lines-go, lines-end}
-use Rattle.trace.proofs.Prints.{event-no-lf, init-no-lf, split-text}
+use Rattle.record.proofs.Prints.{event-no-lf, init-no-lf}
 use Rattle.trace.proofs.Range.{Fit, Valued, Fits, text-length}
 use Rattle.trace.proofs.Readings.{read-done}
-use Rattle.trace.proofs.Records.{blank}
+use Rattle.record.proofs.Records.{blank}
 
 -- the parts of a text that come after its starting values
 abbrev pub tail : List Event → List (List ℕ)
@@ -131,6 +133,12 @@ header-free = (
   (λ e. omega arith),
   ((λ e. omega arith), ((λ e. omega arith), ((λ e. omega arith), ((λ e. omega arith), ((λ e. omega arith), ((λ e. omega arith), tt)))))),
 )
+
+-- a text made of lines that have no LF splits into them again, and nothing stands after its last LF
+split-text : (ls : List (List ℕ)) → Each (Free 10) ls → split (textOf ls) ≡ ls ++ ([] ∷ [])
+unfolding textOf cut
+split-text [] h = refl
+split-text (l ∷ ls) h = cut-part 10 l (textOf ls) (h .0) ∙ rw (split-text ls (h .1))
 
 -- the parts of a trace's text
 pub text-parts : (m : Memory) (es : List Event) → split (traceText m es) ≡ header ∷ (initLines 0 (m .cells) ++ tail es)

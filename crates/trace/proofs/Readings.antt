@@ -1,7 +1,7 @@
 -- What a reading counts: a refusal counts no event, and else the count is that of the text's events.
 -- Assumes nothing.
 use Prim.Native.Nat.{ℕ, _*_, _/_, _≤_}
-use mathlib.Core.Path.{_≡_, refl, sym, _∙_}
+use mathlib.Core.Path.{_≡_, refl}
 use mathlib.Core.Bool.{Bool, true, false, cond}
 use mathlib.Core.List.{List, [], _∷_}
 use native.Mathlib.Omega.{arith}
@@ -15,7 +15,7 @@ use Rattle.event.specs.declared.Answer.{Answer}
 use Rattle.event.specs.declared.memory.Memory.{Memory}
 use Rattle.text.specs.Line.{split}
 use Rattle.text.specs.Word.{same}
-use Rattle.trace.specs.Layout.{header}
+use Rattle.record.specs.Layout.{header}
 use Rattle.trace.specs.Fault.{eventFault}
 use Rattle.trace.specs.Reading.{textLimit, initsFault, eventsIn, startFrom, refused, settle, surveyInits, surveyParts, surveyOf, body, eventsOf, readOf, front, roomAfter}
 use Rattle.trace.specs.declared.reading.TraceRead.{TraceRead}

@@ -19,7 +19,7 @@ use Rattle.event.specs.declared.memory.Memory.{Memory}
 use Rattle.event.proofs.Lawful.{order-of, place-below}
 use Rattle.text.specs.Number.{decimal}
 use Rattle.text.proofs.Decimals.{length-below}
-use Rattle.trace.specs.Layout.{kindWords, orderWords, wordAt, hasPlace, hasOrder, hasMark, eventLine}
+use Rattle.record.specs.Layout.{kindWords, orderWords, wordAt, hasPlace, hasOrder, hasMark, eventLine}
 use Rattle.trace.specs.Put.{tabIf, initPart}
 use Rattle.trace.specs.Writing.{layoutFault, textOf, initLines, traceText}
 use Rattle.trace.proofs.Judged.{layout-first}

@@ -1,6 +1,6 @@
 -- The events of a text put into a room one line at a time: so many of them stand at its front, and the rest of the lines holds the
 -- others. Assumes nothing.
-use Prim.Native.Nat.{ℕ, suc, _+_, _*_, _/_, _≤_, _<_}
+use Prim.Native.Nat.{ℕ, _+_, _*_, _≤_, _<_}
 use mathlib.Core.Path.{_≡_, refl, sym, _∙_, ap}
 use mathlib.Core.List.{List, [], _∷_, _++_}
 use native.Mathlib.Omega.{arith}
@@ -10,14 +10,14 @@ use Rattle.laws.proofs.Cases.{cases, side}
 use Rattle.event.specs.Room.{flat, putAt}
 use Rattle.event.specs.declared.Event.{Event}
 use Rattle.event.proofs.Rooms.{put-next, length-put}
-use Rattle.text.specs.Line.{split, splitFrom, lineLen}
+use Rattle.text.specs.Line.{splitFrom, lineLen}
 use Rattle.text.proofs.Cuts.{from-start, from-step, from-out}
-use Rattle.trace.specs.Record.{recordOf}
+use Rattle.record.specs.Record.{recordOf}
 use Rattle.trace.specs.Reading.{onEvent, eventsIn, body, eventsOf, front}
 use Rattle.trace.specs.Survey.{placed, nextIndex}
-use Rattle.trace.specs.declared.record.Record.{Record}
-use Rattle.trace.specs.declared.record.Record.the-variants.{Init, Line, Refused}
-use Rattle.trace.proofs.Records.{blank}
+use Rattle.record.specs.declared.Record.{Record}
+use Rattle.record.specs.declared.Record.the-variants.{Init, Line, Refused}
+use Rattle.record.proofs.Records.{blank}
 use Rattle.text.proofs.Walk.{line, parts-line, parts-end}
 
 pub index-next : (i : ℕ) (r : Record) → nextIndex i r ≤ i + 1

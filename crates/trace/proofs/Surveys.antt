@@ -1,7 +1,7 @@
 -- A reading in the midst of its events, one line at a time: what is refused, what goes on, what ends. Assumes nothing.
-use Prim.Native.Nat.{ℕ, suc, _+_, _≤_, _<_}
-use mathlib.Core.Path.{_≡_, refl, sym, _∙_, ap}
-use mathlib.Core.Bool.{Bool, true, false, cond}
+use Prim.Native.Nat.{ℕ, suc, _+_, _<_}
+use mathlib.Core.Path.{_≡_}
+use mathlib.Core.Bool.{true, false}
 use mathlib.Core.List.{List, [], _∷_}
 use native.Mathlib.Omega.{arith}
 use lib.Dec.{eqb}
@@ -12,13 +12,13 @@ use Rattle.event.specs.Memory.{stepped}
 use Rattle.event.specs.declared.Answer.{Answer}
 use Rattle.event.specs.declared.Event.{Event}
 use Rattle.event.specs.declared.memory.Memory.{Memory}
-use Rattle.trace.specs.Record.{recordOf}
+use Rattle.record.specs.Record.{recordOf}
 use Rattle.trace.specs.Fault.{clashes, eventFault}
 use Rattle.trace.specs.Reading.{linesFault, eventsIn, settle, refused}
 use Rattle.trace.specs.Survey.{surveyEvents}
-use Rattle.trace.specs.declared.record.Record.the-variants.{Init, Line, Refused}
+use Rattle.record.specs.declared.Record.the-variants.{Line}
 use Rattle.trace.specs.declared.reading.TraceRead.{TraceRead}
-use Rattle.trace.proofs.Records.{blank}
+use Rattle.record.proofs.Records.{blank}
 use Rattle.text.proofs.Walk.{Some}
 use Rattle.trace.proofs.Lines.{lines-go, lines-end}
 

@@ -1,14 +1,13 @@
 -- A line as its parts, each field with the TAB before it, and a text as its lines. Assumes nothing.
-use Prim.Native.Nat.{ℕ, zero, suc, _+_, _-_, _≤_, _<_}
+use Prim.Native.Nat.{ℕ, _+_, _-_, _≤_, _<_}
 use mathlib.Core.Bool.{Bool, true, false}
 use mathlib.Core.Path.{_≡_, refl, sym, _∙_}
 use mathlib.Core.List.{List, [], _∷_, _++_, map, append-assoc, append-nil}
-use native.Mathlib.Omega.{arith}
 use native.Mathlib.Numerals.{add-one}
 use lib.Dec.{eqb, leb}
-use lib.ListN.{length, getD, drop, drop-of-length-le, List·getD-eq-default}
+use lib.ListN.{length, getD, drop, drop-of-length-le}
 use lib.Seq.{drop-cons}
-use Rattle.laws.proofs.Cases.{cases, either, side}
+use Rattle.laws.proofs.Cases.{cases, either}
 use Rattle.event.specs.Kind.{row}
 use Rattle.event.specs.Room.{eventAt, onward}
 use Rattle.event.specs.declared.Event.{Event}
@@ -16,8 +15,8 @@ use Rattle.event.specs.declared.memory.Memory.{Memory}
 use Rattle.text.specs.Cut.{glue}
 use Rattle.text.specs.Field.{join}
 use Rattle.text.specs.Number.{decimal}
-use Rattle.trace.specs.Layout.{kindWords, orderWords, wordAt, header, initWord, hasPlace, hasOrder, hasMark, fieldIf, eventFields, eventLine, initLine}
-use Rattle.trace.specs.Put.{Named, tabIf, initPart}
+use Rattle.record.specs.Layout.{kindWords, orderWords, wordAt, header, initWord, hasPlace, hasOrder, hasMark, fieldIf, eventFields, eventLine, initLine}
+use Rattle.trace.specs.Put.{tabIf, initPart}
 use Rattle.trace.specs.Writing.{textOf, initLines, traceText}
 use Rattle.trace.proofs.Puts.{all}
 use Rattle.trace.proofs.Judged.{onward-next, onward-end}
@@ -111,16 +110,3 @@ module _ (room : List ℕ) (i n : ℕ) where
   pub events-end : n ≤ i → textOf (map eventLine (onward room i (n - i))) ≡ []
   unfolding textOf
   events-end h = rw (onward-end room i n h)
-
--- a number that is 0 or past the end of a table has no word there
-pub no-word : (ws : List (List ℕ)) (k : ℕ) → (1 ≤ k → length ws < k) → wordAt ws k ≡ []
-no-word ws k h =
-    cases (side k 1) (λ a. let z : k ≡ zero = omega arith in rw z) (λ a. List·getD-eq-default {A = List ℕ} ([] ∷ ws) [] (h a))
-
--- one number more that k is not
-pub up : {n k : ℕ} → n ≤ k → (k ≡ n → ⊥) → suc n ≤ k
-up h e = omega arith
-
--- a word, by the bytes and the size that were handed over
-pub named-as : {b c w : List ℕ} {s t : ℕ} → (b ≡ c) × (s ≡ t) → Named c t w → Named b s w
-named-as p n = rw (p .0, p .1) n

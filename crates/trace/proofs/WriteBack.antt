@@ -15,16 +15,16 @@ use Rattle.event.specs.Answer.{answer, done}
 use Rattle.event.specs.declared.Answer.{Answer}
 use Rattle.text.specs.Line.{isEmpty}
 use Rattle.text.proofs.Walk.{Some}
-use Rattle.trace.specs.Record.{recordOf}
+use Rattle.record.specs.Record.{recordOf}
 use Rattle.trace.specs.Reading.{onEventLine, linesFault, onInitLine, initsFault, eventsIn, startIn}
 use Rattle.trace.specs.Writing.{initLines}
-use Rattle.trace.specs.declared.record.Record.{Record}
-use Rattle.trace.specs.declared.record.Record.the-variants.{Init, Line, Refused}
+use Rattle.record.specs.declared.Record.{Record}
+use Rattle.record.specs.declared.Record.the-variants.{Init, Line, Refused}
 use Rattle.trace.proofs.Inits.{quiet}
-use Rattle.trace.proofs.Layouts.{line-says, init-back}
+use Rattle.record.proofs.Layouts.{line-says, init-back}
 use Rattle.trace.proofs.Range.{Fit, Valued}
 use Rattle.trace.proofs.ReadBack.{tail, start-init}
-use Rattle.trace.proofs.Records.{blank}
+use Rattle.record.proofs.Records.{blank}
 
 -- after n events, lines that are the lines of their events, with nothing after the last LF
 pub record Printed (n : ℕ) (ls : List (List ℕ)) : Type 0 where

@@ -1,8 +1,4 @@
--- What the contracts of this crate say, by page: the layout of a line, its reading field by field, the reading and the writing of a
--- whole text. Assumes nothing.
-pub mod Layout
-pub mod Part
-pub mod Record
+-- What the contracts of this crate say, by page: answers 5 and 6, the reading and the writing of a whole text. Assumes nothing.
 pub mod Way
 pub mod Fault
 pub mod Reading

@@ -1,6 +1,6 @@
 -- Document 01, "Numbers that come back" and "Lent room": the reading of a trace text. Assumes nothing.
 use Prim.Native.Nat.{ℕ, _+_, _*_, _/_}
-use mathlib.Core.Bool.{Bool, true, false, cond, not}
+use mathlib.Core.Bool.{cond}
 use mathlib.Core.List.{List, [], _∷_, _++_}
 use lib.Dec.{eqb, leb, ltb}
 use lib.ListN.{length, drop, set}
@@ -12,11 +12,11 @@ use Rattle.event.specs.declared.Event.{Event}
 use Rattle.event.specs.declared.memory.Memory.{Memory}
 use Rattle.text.specs.Line.{split, isEmpty}
 use Rattle.text.specs.Word.{same}
-use Rattle.trace.specs.Layout.{header}
-use Rattle.trace.specs.Record.{recordOf}
+use Rattle.record.specs.Layout.{header}
+use Rattle.record.specs.Record.{recordOf}
 use Rattle.trace.specs.Fault.{eventFault}
-use Rattle.trace.specs.declared.record.Record.{Record}
-use Rattle.trace.specs.declared.record.Record.the-variants.{Init, Line, Refused}
+use Rattle.record.specs.declared.Record.{Record}
+use Rattle.record.specs.declared.Record.the-variants.{Init, Line, Refused}
 use Rattle.trace.specs.declared.reading.TraceRead.{TraceRead}
 
 -- The longest text, and the most events.

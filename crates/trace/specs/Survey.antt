@@ -7,8 +7,8 @@ use Rattle.event.specs.Room.{putAt}
 use Rattle.event.specs.declared.memory.Memory.{Memory}
 use Rattle.trace.specs.Fault.{eventFault}
 use Rattle.trace.specs.Reading.{linesFault, eventsIn, settle}
-use Rattle.trace.specs.declared.record.Record.{Record}
-use Rattle.trace.specs.declared.record.Record.the-variants.{Init, Line, Refused}
+use Rattle.record.specs.declared.Record.{Record}
+use Rattle.record.specs.declared.Record.the-variants.{Init, Line, Refused}
 use Rattle.trace.specs.declared.reading.TraceRead.{TraceRead}
 
 -- Lines from line k on, all of which are to be events: line by line 2, 4, 3, then event by event 5, 6.

@@ -1,6 +1,6 @@
 -- Document 01, answer 5: how a location is used, as one number. Assumes nothing.
 use Prim.Native.Nat.{ℕ}
-use mathlib.Core.Bool.{Bool, true, false, cond, _&&_, _||_}
+use mathlib.Core.Bool.{Bool, cond, _&&_, _||_}
 use lib.Dec.{eqb}
 use Rattle.event.specs.Kind.{row, isLocation}
 

@@ -13,7 +13,7 @@ pub const PLAIN: Word = 1;
 pub const ATOMIC: Word = 2;
 
 // The way in which an event of a kind uses its location.
-pub fn way_of(kind: Word) -> Word
+pub(crate) fn way_of(kind: Word) -> Word
     ensures { λ r. ⌜ r ≡ wayOf kind ⌝ }
 {
     let row = row_of(kind);
@@ -28,7 +28,7 @@ pub fn way_of(kind: Word) -> Word
 }
 
 // Whether a location that was used in one way is now used in the other.
-pub fn are_opposed(was: Word, way: Word) -> bool
+pub(crate) fn are_opposed(was: Word, way: Word) -> bool
     ensures { λ r. ⌜ r ≡ opposed was way ⌝ }
 {
     if was == PLAIN {
@@ -41,7 +41,7 @@ pub fn are_opposed(was: Word, way: Word) -> bool
 }
 
 // How a location is used after one event more.
-pub fn joined_way(was: Word, way: Word) -> Word
+pub(crate) fn joined_way(was: Word, way: Word) -> Word
     ensures { λ r. ⌜ r ≡ joined was way ⌝ }
 {
     if way == UNUSED {

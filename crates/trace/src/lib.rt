@@ -1,8 +1,6 @@
 // Trace texts: read into a room (`read`), written from one (`write`).
 pub mod fault;
 pub mod reading;
-pub mod record;
-pub mod word;
 pub mod writing;
 
 ghost use mathlib.Core.Path.{_≡_};

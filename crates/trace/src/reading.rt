@@ -10,14 +10,15 @@ ghost use Rattle.trace.specs.Survey.{surveyEvents, placed, nextIndex};
 use crate::fault::are_opposed;
 use crate::fault::joined_way;
 use crate::fault::way_of;
-use crate::record::Record;
-use crate::record::record_of;
 use event::Answer;
 use event::WORDS;
 use event::Word;
 use event::index_of;
 use event::memory::Memory;
+use event::memory::Stepped;
 use event::room::put;
+use record::Record;
+use record::record_of;
 use text::line::line_end;
 use text::word::same_bytes;
 
@@ -33,7 +34,7 @@ pub struct TraceRead {
     pub memory: Memory,
 }
 
-pub fn refusal(answer: Answer) -> TraceRead
+fn refusal(answer: Answer) -> TraceRead
     ensures { λ r. ⌜ r ≡ refused answer ⌝ }
 {
     let memory = Memory::empty();
@@ -86,7 +87,10 @@ fn survey_events(text: &[u8], from: usize, line: usize, side: Word, start: Memor
     requires { ⌜ 0 < from ⌝ }
     ensures { λ r. ⌜ r ≡ surveyEvents side line start (splitFrom (now (text .entry)) from) ⌝ }
 {
-    let mut memory = start;
+    let mut last = Stepped {
+        memory: start,
+        right: true,
+    };
     let mut ways: [Word; 256] = [0; 256];
     let mut at = from;
     let mut k = line;
@@ -115,11 +119,10 @@ fn survey_events(text: &[u8], from: usize, line: usize, side: Word, start: Memor
             return refusal(after_fault(text, end + 1, k + 1, n + 1, Answer::new(5, side, n + 1)));
         }
         ways[place] = joined_way(was, way);
-        let stepped = memory.step(e);
-        if !stepped.right {
+        last = last.memory.step(e);
+        if !last.right {
             return refusal(after_fault(text, end + 1, k + 1, n + 1, Answer::new(6, side, n + 1)));
         }
-        memory = stepped.memory;
         n += 1;
         k += 1;
         at = end + 1;
@@ -169,7 +172,7 @@ fn survey_lines(text: &[u8], from: usize, side: Word) -> TraceRead
 }
 
 // Answers 1 to 6 of a text, with its number of events and its starting memory.
-pub fn survey(text: &[u8], side: Word) -> TraceRead
+fn survey(text: &[u8], side: Word) -> TraceRead
     ensures { λ r. ⌜ r ≡ surveyOf side (now (text .entry)) ⌝ }
 {
     if TEXT_LIMIT < text.len() {

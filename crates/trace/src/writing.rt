@@ -5,18 +5,15 @@ ghost use mathlib.Core.List.{[], _∷_, _++_, map};
 ghost use Prim.Native.Nat.{_≤_};
 ghost use lib.ListN.{length, set, take};
 ghost use Rattle.event.specs.Room.{onward};
-ghost use Rattle.trace.specs.Fault.{eventFault};
-ghost use Rattle.trace.specs.Layout.{kindWords, orderWords, wordAt, eventLine};
 ghost use Rattle.text.specs.Number.{decimal};
-ghost use Rattle.trace.specs.Put.{Put, Small, Named, tabIf, initPart};
+ghost use Rattle.record.specs.Layout.{orderWords, wordAt, eventLine};
+ghost use Rattle.trace.specs.Fault.{eventFault};
+ghost use Rattle.trace.specs.Put.{Put, Small, tabIf, initPart};
 ghost use Rattle.trace.specs.Writing.{countOf, layoutFault, textOf, initLines, traceText, roomFault};
 use crate::fault::are_opposed;
 use crate::fault::joined_way;
 use crate::fault::way_of;
 use crate::reading::EVENT_LIMIT;
-use crate::word::has_mark;
-use crate::word::has_order;
-use crate::word::has_place;
 use event::Answer;
 use event::Event;
 use event::WORDS;
@@ -25,11 +22,18 @@ use event::index_of;
 use event::kind::is_lawful;
 use event::kind::row_of;
 use event::memory::Memory;
+use event::memory::Stepped;
 use event::room::get;
+use record::name::Name;
+use record::name::kind_name;
+use record::name::order_name;
+use record::word::has_mark;
+use record::word::has_order;
+use record::word::has_place;
 use text::write::put_number;
 
 // How many events a part of a room has: one that is cut short at its end counts.
-pub fn count_of(room: &[Word]) -> usize
+pub(crate) fn count_of(room: &[Word]) -> usize
     ensures { λ r. ⌜ r ≡ countOf (now (room .entry)) ⌝ }
 {
     let whole = room.len() / WORDS;
@@ -60,7 +64,10 @@ fn event_fault(start: Memory, room: &[Word], n: usize) -> Answer
     requires { ⌜ layoutFault 1 (onward (now room) 0 n) .number ≡ 0 ⌝ }
     ensures { λ r. ⌜ r ≡ eventFault 0 1 start [] (onward (now (room .entry)) 0 n) ⌝ }
 {
-    let mut memory = start;
+    let mut last = Stepped {
+        memory: start,
+        right: true,
+    };
     let mut ways: [Word; 256] = [0; 256];
     let mut i: usize = 0;
     while i < n {
@@ -72,18 +79,17 @@ fn event_fault(start: Memory, room: &[Word], n: usize) -> Answer
             return Answer::new(5, 0, i + 1);
         }
         ways[place] = joined_way(was, way);
-        let stepped = memory.step(e);
-        if !stepped.right {
+        last = last.memory.step(e);
+        if !last.right {
             return Answer::new(6, 0, i + 1);
         }
-        memory = stepped.memory;
         i += 1;
     }
     Answer::new(0, 0, 0)
 }
 
 // Answers 3, 18, 5 and 6, in this order.
-pub fn room_fault(memory: Memory, room: &[Word]) -> Answer
+pub(crate) fn room_fault(memory: Memory, room: &[Word]) -> Answer
     ensures { λ r. ⌜ r ≡ roomFault memory (now (room .entry)) ⌝ }
 {
     let n = count_of(room);
@@ -117,53 +123,6 @@ fn put(out: &mut [u8], at: usize, bytes: &[u8]) -> usize
         i += 1;
     }
     at + i
-}
-
-// A word of at most six bytes: those that it has, and how many of them count.
-struct Name {
-    bytes: [u8; 6],
-    size: usize,
-}
-
-// The first so many of six bytes.
-fn name_of(bytes: [u8; 6], size: usize) -> Name
-    ensures { λ r. ⌜ (r .bytes ≡ bytes) × (r .size ≡ size) ⌝ }
-{
-    Name { bytes, size }
-}
-
-// A kind's word.
-fn kind_name(kind: Word) -> Name
-    ensures { λ r. ⌜ Named (r .bytes) (r .size) (wordAt kindWords kind) ⌝ }
-{
-    match kind {
-        1 => name_of(*b"load  ", 4),
-        2 => name_of(*b"store ", 5),
-        3 => name_of(*b"aload ", 5),
-        4 => name_of(*b"astore", 6),
-        5 => name_of(*b"rmw   ", 3),
-        6 => name_of(*b"add   ", 3),
-        7 => name_of(*b"fence ", 5),
-        8 => name_of(*b"lock  ", 4),
-        9 => name_of(*b"unlock", 6),
-        _ => name_of(*b"      ", 0),
-    }
-}
-
-// An order's or a mark's word.
-fn order_name(order: Word) -> Name
-    ensures { λ r. ⌜ Named (r .bytes) (r .size) (wordAt orderWords order) ⌝ }
-{
-    match order {
-        1 => name_of(*b"rlx   ", 3),
-        2 => name_of(*b"acq   ", 3),
-        3 => name_of(*b"rel   ", 3),
-        4 => name_of(*b"ar    ", 2),
-        5 => name_of(*b"sc    ", 2),
-        6 => name_of(*b"used  ", 4),
-        7 => name_of(*b"unused", 6),
-        _ => name_of(*b"      ", 0),
-    }
 }
 
 // The bytes of a word that count.
@@ -274,7 +233,7 @@ fn put_events(out: &mut [u8], at: usize, room: &[Word], n: usize) -> usize
 }
 
 // The whole text.
-pub fn put_text(out: &mut [u8], memory: Memory, room: &[Word], n: usize) -> usize
+pub(crate) fn put_text(out: &mut [u8], memory: Memory, room: &[Word], n: usize) -> usize
     requires { ⌜ Small 0 (traceText memory (onward (now room) 0 n)) ⌝ }
     ensures { λ r. ⌜ Put (now (out .entry)) 0 (traceText memory (onward (now (room .entry)) 0 n)) (now (out .exit)) r ⌝ }
 {
@@ -285,7 +244,7 @@ pub fn put_text(out: &mut [u8], memory: Memory, room: &[Word], n: usize) -> usiz
 }
 
 // How many bytes the text has.
-pub fn size_of(memory: Memory, room: &[Word], n: usize) -> usize
+pub(crate) fn size_of(memory: Memory, room: &[Word], n: usize) -> usize
     requires { ⌜ Small 0 (traceText memory (onward (now room) 0 n)) ⌝ }
     ensures { λ r. ⌜ r ≡ length (traceText memory (onward (now (room .entry)) 0 n)) ⌝ }
 {

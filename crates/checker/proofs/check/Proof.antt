@@ -1,10 +1,6 @@
 -- The readings decide one after the other, before anything is stored; then the filled rooms are judged. Assumes nothing.
-use Prim.Native.Nat.{ℕ, _≤_, _*_}
-use mathlib.Core.List.{List}
 use mathlib.Core.Path.{_≡_, sym, _∙_, ap}
-use native.Mathlib.Omega.{arith}
 use borrow.Author.Needs.{needs}
-use lib.ListN.{length}
 use Rattle.event.specs.declared.Answer.{Answer}
 use Rattle.trace.specs.Reading.{readOf}
 use Rattle.trace.specs.declared.reading.TraceRead.{TraceRead}
@@ -12,7 +8,7 @@ use Rattle.trace.proofs.Readings.{read-fits}
 use Rattle.matching.specs.Reading.{readOf as matchingRead}
 use Rattle.matching.specs.declared.MatchingRead.{MatchingRead}
 use Rattle.matching.proofs.Readings.{read-fits as entries-fit}
-use Rattle.checker.specs.Check.{Lent, lent, sourceRead, targetRead, entriesRead, readingAnswer, refused, verdictOf, judgedOf}
+use Rattle.checker.specs.Check.{Lent, lent, sourceRead, targetRead, entriesRead}
 use Rattle.checker.proofs.Answers.{by-source, by-target, by-entries, refuses, checks-judged}
 use Rattle.checker.proofs.Filled.{Filled, Entered, filled, entered, judged-is}
 use Rattle.checker.proofs.check.Statement.{statement}

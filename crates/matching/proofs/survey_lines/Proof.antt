@@ -1,11 +1,10 @@
 -- The reading from each line on is that from the next line on, until a line is refused or none is left. Assumes nothing.
-use Prim.Native.Nat.{ℕ, _+_, _-_, _≤_, _<_}
-use mathlib.Core.List.{List, [], _∷_}
+use Prim.Native.Nat.{ℕ, _+_, _-_, _≤_}
+use mathlib.Core.List.{List, _∷_}
 use mathlib.Core.Path.{_≡_, refl, sym, _∙_}
 use native.Mathlib.Omega.{arith}
 use borrow.Author.Needs.{needs}
-use lib.ListN.{length, drop}
-use Rattle.event.specs.Answer.{answer}
+use lib.ListN.{length}
 use Rattle.text.specs.Line.{splitFrom}
 use Rattle.text.proofs.Walk.{Some, line, parts-line, parts-open, parts-end, parts-some, line-in}
 use Rattle.matching.specs.Entry.{entryOf}

@@ -1,12 +1,35 @@
 -- The side decides which text the part is of. Assumes nothing.
+use Prim.Native.Nat.{ℕ}
+use mathlib.Core.List.{List}
+use mathlib.Core.Bool.{cond}
+use mathlib.Core.Path.{_≡_, ap, subst}
 use borrow.Author.Tests.{ne-eqb}
-use Rattle.checker.specs.Line.{offendingLine}
 use borrow.Author.Needs.{needs}
+use Rattle.checker.specs.Line.{offendingLine, sideText, Spans}
 use Rattle.checker.proofs.line.offending_line.Statement.{statement}
 use Rattle.checker.proofs.line.offending_line.Tie as tie
 
-fault-span-requires : tie.Need-fault-span-requires
-fault-span-requires c κs = search needs
+-- the part, as one of the text that the side names
+in-target : (c : tie.Then1)
+    → let a = c .before .before .before .before .before .args in
+    Spans (a .target .now) (offendingLine (a .source .now) (a .target .now) (a .answer)) (c .before .before .offending-span .result)
+in-target c =
+    let a = c .before .before .before .before .before .args in
+    subst (λ (t : List ℕ). Spans t (offendingLine (a .source .now) (a .target .now) (a .answer)) (c .before .before .offending-span .result))
+    (ap (λ (k : ℕ). sideText k (a .source .now) (a .target .now)) (c .if1 .taken))
+    (c .before .before .offending-span .ensures .0)
+
+in-source : (c : tie.Else1)
+    → let a = c .before .before .before .before .before .args in
+    Spans (a .source .now) (offendingLine (a .source .now) (a .target .now) (a .answer)) (c .before .before .offending-span .result)
+in-source c =
+    let a = c .before .before .before .before .before .args in
+    subst (λ (t : List ℕ). Spans t (offendingLine (a .source .now) (a .target .now) (a .answer)) (c .before .before .offending-span .result))
+    (ap (λ b. cond b (a .target .now) (a .source .now)) (ne-eqb _ _ (c .if1 .left)))
+    (c .before .before .offending-span .ensures .0)
+
+offending-span-requires : tie.Need-offending-span-requires
+offending-span-requires c κs = search needs
 
 sub-result : tie.Need-sub-result
 sub-result c = search needs
@@ -15,14 +38,10 @@ part-result-start : tie.Need-part-result-start
 part-result-start c = search needs
 
 part-result-end : tie.Need-part-result-end
-part-result-end c = search needs
+part-result-end c = in-target c .within
 
 returns : tie.Need-returns
-unfolding offendingLine
-returns c = rw (c .before .before .if1 .taken) (c .before .fault-span .ensures .is)
-
-fault-span-requires-2 : tie.Need-fault-span-requires-2
-fault-span-requires-2 c κs = search needs
+returns c = in-target (c .before) .is
 
 sub-result-2 : tie.Need-sub-result-2
 sub-result-2 c = search needs
@@ -31,40 +50,21 @@ part-result-start-2 : tie.Need-part-result-start-2
 part-result-start-2 c = search needs
 
 part-result-end-2 : tie.Need-part-result-end-2
-part-result-end-2 c = search needs
+part-result-end-2 c = in-source c .within
 
 returns-2 : tie.Need-returns-2
-unfolding offendingLine
-returns-2 c = rw (ne-eqb _ _ (c .before .before .before .if1 .left), c .before .before .if2 .taken) (c .before .fault-span2 .ensures .is)
-
-sub-result-3 : tie.Need-sub-result-3
-sub-result-3 c = search needs
-
-part-result-start-3 : tie.Need-part-result-start-3
-part-result-start-3 c = search needs
-
-part-result-end-3 : tie.Need-part-result-end-3
-part-result-end-3 c = search needs
-
-returns-3 : tie.Need-returns-3
-unfolding offendingLine
-returns-3 c = rw (ne-eqb _ _ (c .before .before .if1 .left), ne-eqb _ _ (c .before .if2 .left))
+returns-2 c = in-source (c .before) .is
 
 pub offending-line-spec : {M : Type 1} → statement M
 offending-line-spec =
     tie.close
     (tie.spec
-    fault-span-requires
+    offending-span-requires
     sub-result
     part-result-start
     part-result-end
     returns
-    fault-span-requires-2
     sub-result-2
     part-result-start-2
     part-result-end-2
-    returns-2
-    sub-result-3
-    part-result-start-3
-    part-result-end-3
-    returns-3)
+    returns-2)

@@ -1,20 +1,24 @@
 -- The line that is sought, from each line on, is that from the next line on with one less to count if it is counted. Assumes nothing.
-use Prim.Native.Nat.{ℕ, _+_, _-_, _≤_, _<_}
+use Prim.Native.Nat.{ℕ, _+_, _-_, _≤_}
 use mathlib.Core.List.{List, _∷_}
-use mathlib.Core.Path.{_≡_, refl, sym, _∙_, ap}
+use mathlib.Core.Path.{_≡_, sym, _∙_}
 use native.Mathlib.Omega.{arith}
-use lib.ListN.{length, take, drop}
+use lib.ListN.{length, take, drop, length-drop}
+use lib.Seq.{length-take-le}
 use Rattle.text.specs.Line.{split, splitFrom}
 use Rattle.text.proofs.Cuts.{from-start, from-out}
 use Rattle.text.proofs.Walk.{line, parts-line, line-in}
-use Rattle.checker.specs.Line.{nthLine, Spans}
-use Rattle.checker.proofs.Lines.{none-zero, none-left, line-found, line-passed, left-some}
+use Rattle.checker.specs.Line.{nthLine, nthSpan, span, Spans}
+use Rattle.checker.proofs.Lines.{none-zero, none-left, line-found, line-passed, left-some, nowhere-zero, nowhere-left, span-found, span-passed}
 use Rattle.checker.proofs.line.span_of.Statement.{statement}
 use Rattle.checker.proofs.line.span_of.Tie as tie
 
 abbrev Inv-loop : tie.InvT-loop
 Inv-loop text only k at₀ left₀ at left =
-    (at ≤ length text + 1) × ((1 ≤ left) × (nthLine only k (split text) ≡ nthLine only left (splitFrom text at)))
+    (at ≤ length text + 1)
+    × ((1 ≤ left)
+    × ((nthLine only k (split text) ≡ nthLine only left (splitFrom text at))
+    × (nthSpan only k 0 (split text) ≡ nthSpan only left at (splitFrom text at))))
 
 abbrev μ-loop : tie.MeasureT-loop
 μ-loop text only k at₀ left₀ at left = length text + 1 - at
@@ -42,22 +46,36 @@ this c = line (text (end c)) (at (end c)) (end c .line-end .result) (end c .line
 abbrev others : tie.After-ends-here Inv-loop μ-loop → List (List ℕ)
 others c = splitFrom (text (end c)) (end c .line-end .result + 1)
 
+size : (c : tie.After-ends-here Inv-loop μ-loop) → end c .line-end .result ≡ at (end c) + length (this c)
+size c =
+    let t = text (end c) in
+    let n = end c .line-end .result - at (end c) in
+    let q : n ≤ length (drop (at (end c)) t) = omega (arith, ends (end c), length-drop (at (end c)) t) in
+    omega (arith, ends (end c), length-take-le n (drop (at (end c)) t) q)
+
 whole : (c : tie.After-ends-here Inv-loop μ-loop) → nthLine (begin (end c) .args .only) (begin (end c) .args .k) (split (text (end c)))
     ≡ nthLine (begin (end c) .args .only) (end c .before .before .loop .left) (this c ∷ others c)
 whole c =
-    end c .before .before .loop .inv .1 .1
+    end c .before .before .loop .inv .1 .1 .0
+    ∙ rw (parts-line (text (end c)) (at (end c)) (end c .line-end .result) (end c .line-end .ensures) (omega arith))
+
+everywhere : (c : tie.After-ends-here Inv-loop μ-loop)
+    → nthSpan (begin (end c) .args .only) (begin (end c) .args .k) 0 (split (text (end c)))
+    ≡ nthSpan (begin (end c) .args .only) (end c .before .before .loop .left) (at (end c)) (this c ∷ others c)
+everywhere c =
+    end c .before .before .loop .inv .1 .1 .1
     ∙ rw (parts-line (text (end c)) (at (end c)) (end c .line-end .result) (end c .line-end .ensures) (omega arith))
 
 returns : tie.Need-returns Inv-loop μ-loop
-returns c = let t = c .before .before .args in record {
-  rises = omega arith;
-  within = omega arith;
-  is = rw (c .if1 .taken) (sym (none-zero (t .only)
-      (split (t .text .now))));
-}
+returns c =
+    let t = c .before .before .args in
+    let ls = split (t .text .now) in (
+      record { rises = omega arith; within = omega arith; is = rw (c .if1 .taken) (sym (none-zero (t .only) ls)) },
+      rw (c .if1 .taken) (sym (nowhere-zero (t .only) 0 ls)),
+    )
 
 loop-holds : tie.Need-loop-holds Inv-loop μ-loop
-loop-holds c = (omega arith, (omega arith, rw (from-start 10 (c .before .before .args .text .now))))
+loop-holds c = (omega arith, (omega arith, (rw (from-start 10 (c .before .before .args .text .now)), rw (from-start 10 (c .before .before .args .text .now)))))
 
 line-end-requires : tie.Need-line-end-requires Inv-loop μ-loop
 line-end-requires c κs = tt
@@ -80,11 +98,14 @@ ends-here-requires c κs = tt
 returns-2 : tie.Need-returns-2 Inv-loop μ-loop
 returns-2 c =
     let h = c .before in
-    record {
-      rises = omega (arith, ends (end h));
-      within = omega (arith, ends (end h));
-      is = sym (whole h ∙ line-found _ _ (this h) (others h) _ (h .before .is-counted .ensures) (sym (h .ends-here .ensures) ∙ c .if2 .taken));
-    }
+    let p = sym (h .ends-here .ensures) ∙ c .if2 .taken in (
+      record {
+        rises = omega (arith, ends (end h));
+        within = omega (arith, ends (end h));
+        is = sym (whole h ∙ line-found _ _ (this h) (others h) _ (h .before .is-counted .ensures) p);
+      },
+      sym (everywhere h ∙ span-found _ _ _ _ (this h) (others h) _ (size h) (h .before .is-counted .ensures) p),
+    )
 
 left-after-requires : tie.Need-left-after-requires Inv-loop μ-loop
 left-after-requires c κs = omega (arith, end (c .before) .before .before .loop .inv)
@@ -102,18 +123,24 @@ loop-again c =
       omega (arith, ends (end h)),
       (
         rw (c .left-after .ensures) (left-some (h .before .is-counted .result) (end h .before .before .loop .left) (end h .before .before .loop .inv .1 .0) p),
-        rw (c .left-after .ensures) (whole h ∙ line-passed _ _ (this h) (others h) _ (h .before .is-counted .ensures) p),
+        (
+          rw (c .left-after .ensures) (whole h ∙ line-passed _ _ (this h) (others h) _ (h .before .is-counted .ensures) p),
+          rw (c .left-after .ensures) (everywhere h ∙ span-passed _ _ _ _ (this h) (others h) _ (size h) (h .before .is-counted .ensures) p),
+        ),
       ),
     )
 
 returns-3 : tie.Need-returns-3 Inv-loop μ-loop
 returns-3 c =
     let a = c .before .before .before .before .args in
-    record {
-      rises = omega arith;
-      within = omega arith;
-      is = sym (c .before .loop .inv .1 .1 ∙ rw (from-out 10 (a .text .now) (c .before .loop .at) (omega arith)) (none-left _ _));
-    }
+    let l = c .before .loop in (
+      record {
+        rises = omega arith;
+        within = omega arith;
+        is = sym (l .inv .1 .1 .0 ∙ rw (from-out 10 (a .text .now) (l .at) (omega arith)) (none-left _ _));
+      },
+      sym (l .inv .1 .1 .1 ∙ rw (from-out 10 (a .text .now) (l .at) (omega arith)) (nowhere-left _ _ _)),
+    )
 
 pub span-of-spec : {M : Type 1} → statement M
 span-of-spec =

@@ -1,5 +1,5 @@
 -- A number field, the end, and not 0. Assumes nothing.
-use mathlib.Core.Path.{_≡_, sym, _∙_}
+use mathlib.Core.Path.{sym, _∙_}
 use native.Mathlib.Omega.{arith}
 use borrow.Author.Tests.{not-true, not-false, ne-eqb}
 use Rattle.matching.specs.Entry.{keepRest}

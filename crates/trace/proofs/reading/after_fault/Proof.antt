@@ -1,16 +1,16 @@
 -- The refusal from each line on is that from the next line on, until a line is refused or none is left. Assumes nothing.
 use Prim.Native.Nat.{ℕ, _+_, _-_, _≤_, _<_}
-use mathlib.Core.List.{List, [], _∷_}
-use mathlib.Core.Path.{_≡_, refl, sym, _∙_, ap}
+use mathlib.Core.List.{List, _∷_}
+use mathlib.Core.Path.{_≡_, refl, sym, _∙_}
 use native.Mathlib.Omega.{arith}
 use borrow.Author.Needs.{needs}
-use lib.ListN.{length, drop}
-use Rattle.event.specs.Answer.{answer, first}
+use lib.ListN.{length}
+use Rattle.event.specs.Answer.{answer}
 use Rattle.event.specs.declared.Answer.{Answer}
 use Rattle.text.specs.Line.{splitFrom}
-use Rattle.trace.specs.Record.{recordOf}
+use Rattle.record.specs.Record.{recordOf}
 use Rattle.trace.specs.Reading.{linesFault}
-use Rattle.trace.specs.declared.record.Record.{Record}
+use Rattle.record.specs.declared.Record.{Record}
 use Rattle.text.proofs.Walk.{Some, line, parts-line, parts-open, parts-end, parts-some, line-in}
 use Rattle.trace.proofs.Lines.{lines-open, lines-refused, lines-init, lines-full, lines-go, lines-end}
 use Rattle.trace.proofs.reading.after_fault.Statement.{statement}

@@ -1,9 +1,9 @@
 -- So many events of the text stand at the front of the room, and the lines from here on hold the others. Assumes nothing.
 use Prim.Native.Nat.{ℕ, _+_, _-_, _≤_, _<_}
-use mathlib.Core.List.{List, []}
-use mathlib.Core.Path.{_≡_, refl, sym, _∙_, subst}
+use mathlib.Core.List.{List}
+use mathlib.Core.Path.{subst}
 use native.Mathlib.Omega.{arith}
-use lib.ListN.{length, drop}
+use lib.ListN.{length}
 use Rattle.event.specs.declared.Event.{Event}
 use Rattle.text.specs.Line.{splitFrom}
 use Rattle.trace.specs.Reading.{eventsIn, eventsOf}

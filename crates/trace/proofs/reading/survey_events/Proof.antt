@@ -8,9 +8,8 @@ use native.Mathlib.Omega.{arith}
 use borrow.Author.Needs.{needs}
 use borrow.Author.Tests.{not-true, not-false}
 use lib.Dec.{eqb}
-use lib.ListN.{length, getD, set, drop, length-set}
+use lib.ListN.{length, getD, set, length-set}
 use Rattle.event.specs.Answer.{answer, first}
-use Rattle.event.specs.Kind.{lawful}
 use Rattle.event.specs.declared.Answer.{Answer}
 use Rattle.event.specs.declared.Event.{Event}
 use Rattle.event.specs.Memory.{stepped}
@@ -18,30 +17,30 @@ use Rattle.event.specs.declared.memory.Memory.{Memory}
 use Rattle.event.specs.declared.memory.Stepped.{Stepped}
 use Rattle.event.proofs.Lawful.{place-below}
 use Rattle.text.specs.Line.{splitFrom}
-use Rattle.trace.specs.Record.{recordOf}
+use Rattle.record.specs.Record.{recordOf}
 use Rattle.trace.specs.Fault.{clashes, eventFault}
 use Rattle.trace.specs.Reading.{refused, linesFault, eventsIn}
 use Rattle.trace.specs.Survey.{surveyEvents}
 use Rattle.trace.specs.Way.{wayOf, opposed, joined}
-use Rattle.trace.specs.declared.record.Record.{Record}
-use Rattle.trace.specs.declared.record.Record.the-variants.{Line}
+use Rattle.record.specs.declared.Record.{Record}
+use Rattle.record.specs.declared.Record.the-variants.{Line}
 use Rattle.trace.specs.declared.reading.TraceRead.{TraceRead}
 use Rattle.text.proofs.Walk.{Some, line, parts-line, parts-open, parts-end, parts-some, line-in}
 use Rattle.trace.proofs.Lines.{lines-open, lines-refused, lines-init, lines-full}
 use Rattle.trace.proofs.Surveys.{surveyOn, on-start, on-refused, on-fault, fault-five, fault-six, on-go, on-end}
-use Rattle.trace.proofs.Records.{line-lawful}
+use Rattle.record.proofs.Records.{line-lawful}
 use Rattle.trace.proofs.Ways.{Marks, marks-start, clash, marks-next}
 use Rattle.trace.proofs.reading.survey_events.Statement.{statement}
 use Rattle.trace.proofs.reading.survey_events.Tie as tie
 
 abbrev Inv-loop : tie.InvT-loop
-Inv-loop text from line side start memory₀ ways₀ at₀ k₀ n₀ memory ways at k n =
+Inv-loop text from line side start last₀ ways₀ at₀ k₀ n₀ last ways at k n =
     (at ≤ length text) × ((k ≤ at) × ((n < at) × ((length ways ≡ 256)
     × ((before : List Event) × (Marks ways before
-    × (surveyEvents side line start (splitFrom text from) ≡ surveyOn side k n memory before start (splitFrom text at)))))))
+    × (surveyEvents side line start (splitFrom text from) ≡ surveyOn side k n (last .memory) before start (splitFrom text at)))))))
 
 abbrev μ-loop : tie.MeasureT-loop
-μ-loop text from line side start memory₀ ways₀ at₀ k₀ n₀ memory ways at k n = length text - at
+μ-loop text from line side start last₀ ways₀ at₀ k₀ n₀ last ways at k n = length text - at
 
 -- the text, the loop's place in it and the events before it
 abbrev text : tie.After-line-end Inv-loop μ-loop → List ℕ
@@ -64,7 +63,7 @@ ends c = line-in (text c) (at c) (c .line-end .result) (c .line-end .ensures) (o
 
 -- the reading from the loop's place on, and so the whole
 abbrev on : tie.After-line-end Inv-loop μ-loop → List (List ℕ) → TraceRead
-on c ls = surveyOn (side c) (c .before .before .loop .k) (c .before .before .loop .n) (c .before .before .loop .memory) (before-it c) (start c) ls
+on c ls = surveyOn (side c) (c .before .before .loop .k) (c .before .before .loop .n) (c .before .before .loop .last .memory) (before-it c) (start c) ls
 
 abbrev whole : tie.After-line-end Inv-loop μ-loop → TraceRead
 whole c =
@@ -167,7 +166,7 @@ module _ (w : tie.After-way-of Inv-loop μ-loop) where
   loop-n = end r .before .before .loop .n
 
   abbrev loop-memory : Memory
-  loop-memory = end r .before .before .loop .memory
+  loop-memory = end r .before .before .loop .last .memory
 
   faulty : (x : ℕ) → eqb x 0 ≡ false
       → eventFault (side (end r)) (loop-n + 1) loop-memory (before-it (end r)) (event (its-e w) ∷ eventsIn (others r)) ≡ answer x (side (end r)) (loop-n + 1)
@@ -213,11 +212,11 @@ marks-after c =
     (opposed-is (c .before .before) ∙ apart c))
 
 memory-is : (c : tie.After-step Inv-loop μ-loop)
-    → stepped (end (its-r (joined-e (c .before))) .before .before .loop .memory) (event (its-e (joined-e (c .before)))) .memory ≡ c .step .result .memory
+    → stepped (end (its-r (joined-e (c .before))) .before .before .loop .last .memory) (event (its-e (joined-e (c .before)))) .memory ≡ c .step .result .memory
 memory-is c = ap (λ (r : Stepped). r .memory) (sym (c .step .ensures))
 
 right-is : (c : tie.After-step Inv-loop μ-loop) {b : Bool} → c .step .result .right ≡ b
-    → stepped (end (its-r (joined-e (c .before))) .before .before .loop .memory) (event (its-e (joined-e (c .before)))) .right ≡ b
+    → stepped (end (its-r (joined-e (c .before))) .before .before .loop .last .memory) (event (its-e (joined-e (c .before)))) .right ≡ b
 right-is c e = ap (λ (r : Stepped). r .right) (sym (c .step .ensures)) ∙ e
 
 loop-holds : tie.Need-loop-holds Inv-loop μ-loop
@@ -379,20 +378,20 @@ returns-6 c =
     (c .before .before .before .if4 .taken)))))
 
 add-n : tie.Need-add-n Inv-loop μ-loop
-add-n c = let r = its-r (joined-e (c .before .before .before .before)) in omega (arith, bounds r, begin r .good)
+add-n c = let r = its-r (joined-e (c .before .before .before)) in omega (arith, bounds r, begin r .good)
 
 add-k : tie.Need-add-k Inv-loop μ-loop
-add-k c = let r = its-r (joined-e (c .before .before .before .before)) in omega (arith, bounds r, begin r .good)
+add-k c = let r = its-r (joined-e (c .before .before .before)) in omega (arith, bounds r, begin r .good)
 
 add-at : tie.Need-add-at Inv-loop μ-loop
-add-at c = let r = its-r (joined-e (c .before .before .before .before)) in omega (arith, bounds r, begin r .good)
+add-at c = let r = its-r (joined-e (c .before .before .before)) in omega (arith, bounds r, begin r .good)
 
 loop-less : tie.Need-loop-less Inv-loop μ-loop
-loop-less c = let r = its-r (joined-e (c .before .before .before .before)) in omega (arith, bounds r, begin r .good)
+loop-less c = let r = its-r (joined-e (c .before .before .before)) in omega (arith, bounds r, begin r .good)
 
 loop-again : tie.Need-loop-again Inv-loop μ-loop
 loop-again c =
-    let j : tie.After-joined-way Inv-loop μ-loop = c .before .before .before .before in
+    let j : tie.After-joined-way Inv-loop μ-loop = c .before .before .before in
     let w : tie.After-way-of Inv-loop μ-loop = joined-e j in
     let b = bounds (its-r w) in (
       omega (arith, b),
@@ -407,8 +406,8 @@ loop-again c =
                   (its-e w) ∷ before-it (end (its-r w)),
               (
                 marks-after j,
-                goes-on w _ (free j) (right-is (c .before .before .before) (not-false _
-                    (c .before .if4 .left))) (memory-is (c .before .before .before)),
+                goes-on w _ (free j) (right-is (c .before .before) (not-false _
+                    (c .if4 .left))) (memory-is (c .before .before)),
               ),
             ),
           ),

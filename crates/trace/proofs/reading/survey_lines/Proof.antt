@@ -1,23 +1,21 @@
 -- The reading from each starting value on is that from the next line on, with the value in its cell; at the first line that is none it is
 -- the reading of events. Assumes nothing.
 use Prim.Native.Nat.{ℕ, _+_, _-_, _≤_, _<_}
-use mathlib.Core.List.{List, [], _∷_}
-use mathlib.Core.Path.{_≡_, refl, sym, _∙_, ap}
+use mathlib.Core.List.{List, _∷_}
+use mathlib.Core.Path.{_≡_, sym, _∙_, ap}
 use native.Mathlib.Omega.{arith}
 use borrow.Author.Needs.{needs}
-use lib.ListN.{length, drop, set, length-set}
-use Rattle.event.specs.Answer.{answer}
+use lib.ListN.{length, set, length-set}
 use Rattle.event.specs.Memory.{empty}
-use Rattle.event.specs.declared.memory.Memory.{Memory}
 use Rattle.text.specs.Line.{splitFrom}
-use Rattle.trace.specs.Record.{recordOf}
+use Rattle.record.specs.Record.{recordOf}
 use Rattle.trace.specs.Reading.{refused, surveyInits, initsFault, linesFault}
 use Rattle.trace.specs.Survey.{surveyEvents}
-use Rattle.trace.specs.declared.record.Record.{Record}
-use Rattle.trace.specs.declared.record.Record.the-variants.{Init}
+use Rattle.record.specs.declared.Record.{Record}
+use Rattle.record.specs.declared.Record.the-variants.{Init}
 use Rattle.trace.specs.declared.reading.TraceRead.{TraceRead}
 use Rattle.text.proofs.Walk.{Some, line, parts-line, parts-open, parts-end, parts-some, line-in}
-use Rattle.trace.proofs.Records.{init-place}
+use Rattle.record.proofs.Records.{init-place}
 use Rattle.trace.proofs.Inits.{inits-rest, inits-last, inits-refused, inits-event, inits-low, inits-go}
 use Rattle.trace.proofs.reading.survey_lines.Statement.{statement}
 use Rattle.trace.proofs.reading.survey_lines.Tie as tie

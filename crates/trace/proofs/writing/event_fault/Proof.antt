@@ -25,13 +25,13 @@ use Rattle.trace.proofs.writing.event_fault.Statement.{statement}
 use Rattle.trace.proofs.writing.event_fault.Tie as tie
 
 abbrev Inv-loop : tie.InvT-loop
-Inv-loop room n memory₀ ways₀ i₀ memory ways i =
+Inv-loop room n last₀ ways₀ i₀ last ways i =
     (i ≤ n) × ((length ways ≡ 256) × ((layoutFault (i + 1) (onward room i (n - i)) .number ≡ 0)
     × ((before : List Event) × (Marks ways before
-    × (eventFault 0 1 memory₀ [] (onward room 0 n) ≡ eventFault 0 (i + 1) memory before (onward room i (n - i)))))))
+    × (eventFault 0 1 (last₀ .memory) [] (onward room 0 n) ≡ eventFault 0 (i + 1) (last .memory) before (onward room i (n - i)))))))
 
 abbrev μ-loop : tie.MeasureT-loop
-μ-loop room n memory₀ ways₀ i₀ memory ways i = n - i
+μ-loop room n last₀ ways₀ i₀ last ways i = n - i
 
 -- the event at the loop's place
 module _ (c : tie.After-way-of Inv-loop μ-loop) where
@@ -74,7 +74,7 @@ module _ (c : tie.After-way-of Inv-loop μ-loop) where
   abbrev start : Memory
   start = l .before .before .args .start
 
-  whole : {r : Answer} → eventFault 0 (i + 1) (l .loop .memory) before-it (e ∷ others) ≡ r → eventFault 0 1 start [] (onward room 0 n) ≡ r
+  whole : {r : Answer} → eventFault 0 (i + 1) (l .loop .last .memory) before-it (e ∷ others) ≡ r → eventFault 0 1 start [] (onward room 0 n) ≡ r
   whole q = l .loop .inv .1 .1 .1 .1 .1 ∙ rw parts q
 
 -- whether it clashes with an earlier one
@@ -106,7 +106,7 @@ module _ (c : tie.After-step Inv-loop μ-loop) where
   abbrev v : tie.After-way-of Inv-loop μ-loop
   v = w (o (c .before))
 
-  right-is : {b : Bool} → c .step .result .right ≡ b → stepped (l v .loop .memory) (e v) .right ≡ b
+  right-is : {b : Bool} → c .step .result .right ≡ b → stepped (l v .loop .last .memory) (e v) .right ≡ b
   right-is q = ap (λ (r : Stepped). r .right) (sym (c .step .ensures)) ∙ q
 
   goes-on : c .step .result .right ≡ true
@@ -181,13 +181,13 @@ loop-less c = omega arith
 
 loop-again : tie.Need-loop-again Inv-loop μ-loop
 loop-again c =
-    let s = c .before .before .before in (
+    let s = c .before .before in (
       omega arith,
       (
         simp length-set (l (v s) .loop .inv .1 .0),
         (
           sound (v s) .1,
-          (e (v s) ∷ before-it (v s), (marks-after (s .before), goes-on s (not-false _ (c .before .if2 .left)))),
+          (e (v s) ∷ before-it (v s), (marks-after (s .before), goes-on s (not-false _ (c .if2 .left)))),
         ),
       ),
     )

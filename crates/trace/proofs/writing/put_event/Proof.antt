@@ -9,7 +9,7 @@ use Rattle.event.specs.Kind.{row}
 use Rattle.event.specs.declared.Event.{Event}
 use Rattle.event.specs.declared.kind.Row.{Row}
 use Rattle.text.specs.Number.{decimal}
-use Rattle.trace.specs.Layout.{orderWords, wordAt, hasPlace, hasOrder, hasMark, eventLine}
+use Rattle.record.specs.Layout.{orderWords, wordAt, hasPlace, hasOrder, hasMark, eventLine}
 use Rattle.trace.specs.Put.{Put, tabIf}
 use Rattle.trace.proofs.Puts.{Left, left-all, left-next, left-none, left-small, put-length}
 use Rattle.trace.proofs.Texts.{event-parts, partsOf, placeIn, orderIn, firstIn, secondIn, markIn}

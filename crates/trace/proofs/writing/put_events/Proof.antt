@@ -4,7 +4,7 @@ use mathlib.Core.List.{[], _∷_, _++_, map, append-nil}
 use mathlib.Core.Path.{sym}
 use native.Mathlib.Omega.{arith}
 use Rattle.event.specs.Room.{eventAt, onward}
-use Rattle.trace.specs.Layout.{eventLine}
+use Rattle.record.specs.Layout.{eventLine}
 use Rattle.trace.specs.Put.{Put}
 use Rattle.trace.specs.Writing.{textOf}
 use Rattle.trace.proofs.Puts.{Left, left-all, left-next, left-cut, left-end, left-small, put-length}

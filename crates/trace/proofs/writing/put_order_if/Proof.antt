@@ -5,7 +5,7 @@ use mathlib.Core.Path.{_≡_, refl, _∙_}
 use native.Mathlib.Omega.{arith}
 use borrow.Author.Tests.{not-true, not-false}
 use lib.ListN.{length}
-use Rattle.trace.specs.Layout.{orderWords, wordAt}
+use Rattle.record.specs.Layout.{orderWords, wordAt}
 use Rattle.trace.proofs.Puts.{put-none, then}
 use Rattle.trace.proofs.writing.put_order_if.Statement.{statement}
 use Rattle.trace.proofs.writing.put_order_if.Tie as tie

@@ -1,12 +1,13 @@
--- A lawful event's place is a cell; each arm is the definition at that kind. Assumes nothing.
+-- A lawful event's place is a cell. Assumes nothing.
 use Prim.Native.Nat.{_<_}
 use mathlib.Core.Bool.{true}
 use mathlib.Core.Path.{_≡_, sym, _∙_}
 use native.Mathlib.Omega.{arith}
-use borrow.Author.Tests.{ne-eqb, not-true, not-false}
+use borrow.Author.Tests.{not-true, not-false}
 use Rattle.event.specs.Kind.{lawful}
-use Rattle.event.specs.Memory.{stepped, after, latest}
+use Rattle.event.specs.Memory.{stepped, latest}
 use Rattle.event.proofs.Lawful.{place-below}
+use Rattle.event.proofs.Left.{after-left}
 use borrow.Author.Needs.{needs}
 use Rattle.event.proofs.memory.Memory.step.Statement.{statement}
 use Rattle.event.proofs.memory.Memory.step.Tie as tie
@@ -21,7 +22,7 @@ is-lawful-requires : tie.Need-is-lawful-requires
 is-lawful-requires c κs = search needs
 
 returns : tie.Need-returns
-unfolding stepped after latest
+unfolding stepped
 returns c = rw (sym (c .before .is-lawful .ensures) ∙ not-true _ (c .if1 .taken))
 
 index-of-requires : tie.Need-index-of-requires
@@ -33,70 +34,21 @@ mul-was c = search needs
 element-copy-out-was : tie.Need-element-copy-out-was
 element-copy-out-was c = inside c
 
-mul-next : tie.Need-mul-next
-mul-next c = search needs
+is-latest-requires : tie.Need-is-latest-requires
+is-latest-requires c κs = search needs
 
-element-write-next : tie.Need-element-write-next
-element-write-next c = inside (c .before .before)
+left-by-requires : tie.Need-left-by-requires
+left-by-requires c κs = search needs
 
-mul-next-2 : tie.Need-mul-next-2
-mul-next-2 c = search needs
+mul-self : tie.Need-mul-self
+mul-self c = search needs
 
-element-write-next-2 : tie.Need-element-write-next-2
-element-write-next-2 c = inside (c .before .before)
-
-mul-next-3 : tie.Need-mul-next-3
-mul-next-3 c = search needs
-
-element-write-next-3 : tie.Need-element-write-next-3
-element-write-next-3 c = inside (c .before .before)
-
-wrapped-sum-requires : tie.Need-wrapped-sum-requires
-wrapped-sum-requires c κs = search needs
-
-mul-next-4 : tie.Need-mul-next-4
-mul-next-4 c = search needs
-
-element-write-next-4 : tie.Need-element-write-next-4
-element-write-next-4 c = inside (c .before .before .before)
+element-write-self : tie.Need-element-write-self
+element-write-self c = inside (c .before .before .before)
 
 returns-2 : tie.Need-returns-2
-unfolding stepped after latest
-returns-2 c = rw (law (c .before .before), c .before .before .index-of .ensures, c .match .keys1)
-
-returns-3 : tie.Need-returns-3
-unfolding stepped after latest
-returns-3 c = rw (law (c .before .before), c .before .before .index-of .ensures, c .match .keys2)
-
-returns-4 : tie.Need-returns-4
-unfolding stepped after latest
-returns-4 c = rw (law (c .before .before), c .before .before .index-of .ensures, c .match .keys3)
-
-returns-5 : tie.Need-returns-5
-unfolding stepped after latest
-returns-5 c = rw (law (c .before .before), c .before .before .index-of .ensures, c .match .keys4)
-
-returns-6 : tie.Need-returns-6
-unfolding stepped after latest
-returns-6 c = rw (law (c .before .before), c .before .before .index-of .ensures, c .match .keys5)
-
-returns-7 : tie.Need-returns-7
-unfolding stepped after latest
-returns-7 c =
-    rw (law (c .before .before .before), c .wrapped-sum .ensures, c .before .before .before .index-of .ensures, c .before .match .keys6)
-
-returns-8 : tie.Need-returns-8
-unfolding stepped after latest
-returns-8 c =
-    simp (
-      law (c .before .before),
-      ne-eqb _ _ (c .match .rest .1),
-      ne-eqb _ _ (c .match .rest .0 .1),
-      ne-eqb _ _ (c .match .rest .0 .0 .1),
-      ne-eqb _ _ (c .match .rest .0 .0 .0 .1),
-      ne-eqb _ _ (c .match .rest .0 .0 .0 .0 .1),
-      ne-eqb _ _ (c .match .rest .0 .0 .0 .0 .0 .1),
-    )
+unfolding stepped latest
+returns-2 c = rw (law (c .before .before .before), after-left, c .before .is-latest .ensures, c .left-by .ensures, c .before .before .before .index-of .ensures)
 
 pub step-spec : {M : Type 1} → statement M
 step-spec =
@@ -107,19 +59,8 @@ step-spec =
     index-of-requires
     mul-was
     element-copy-out-was
-    mul-next
-    element-write-next
-    mul-next-2
-    element-write-next-2
-    mul-next-3
-    element-write-next-3
-    wrapped-sum-requires
-    mul-next-4
-    element-write-next-4
-    returns-2
-    returns-3
-    returns-4
-    returns-5
-    returns-6
-    returns-7
-    returns-8)
+    is-latest-requires
+    left-by-requires
+    mul-self
+    element-write-self
+    returns-2)

@@ -1,0 +1,72 @@
+-- The tests, in the definition's order. Assumes nothing.
+use mathlib.Core.Bool.{Bool, true, false}
+use mathlib.Core.Path.{_≡_, sym, _∙_}
+use borrow.Author.Tests.{not-true, not-false}
+use Rattle.event.specs.Kind.{row, takes, fitsPlace, fitsValues, lawful}
+use Rattle.laws.proofs.Bools.{and-true}
+use borrow.Author.Needs.{needs}
+use Rattle.event.proofs.kind.suits.Statement.{statement}
+use Rattle.event.proofs.kind.suits.Tie as tie
+
+-- what each test says
+orders :
+    (c : tie.After-takes-order) → takes (row (c .before .before .args .kind) .orders) (c .before .before .args .order) ≡ c .takes-order .result
+orders c = rw (← c .before .row-of .ensures) (sym (c .takes-order .ensures))
+
+orders-held :
+    (c : tie.Else1) → takes (row (c .before .before .before .args .kind) .orders) (c .before .before .before .args .order) ≡ true
+orders-held c = orders (c .before) ∙ not-false _ (c .if1 .left)
+
+place :
+    (c : tie.After-fits-place)
+    → fitsPlace (row (c .before .before .before .before .args .kind) .place) (c .before .before .before .before .args .place)
+    ≡ c .fits-place .result
+place c = rw (← c .before .before .before .row-of .ensures) (sym (c .fits-place .ensures))
+
+place-held :
+    (c : tie.Else2)
+    → fitsPlace (row (c .before .before .before .before .before .args .kind) .place) (c .before .before .before .before .before .args .place)
+    ≡ true
+place-held c = place (c .before) ∙ not-false _ (c .if2 .left)
+
+values :
+    (c : tie.After-fits-values)
+    → fitsValues (row (c .before .before .before .before .before .before .args .kind) .values) (c .before .before .before .before .before .before .args .first) (c .before .before .before .before .before .before .args .second)
+    ≡ c .fits-values .result
+values c = rw (← c .before .before .before .before .before .row-of .ensures) (sym (c .fits-values .ensures))
+
+row-of-requires : tie.Need-row-of-requires
+row-of-requires c κs = search needs
+
+takes-order-requires : tie.Need-takes-order-requires
+takes-order-requires c κs = search needs
+
+returns : tie.Need-returns
+unfolding lawful
+returns c = rw (orders (c .before) ∙ not-true _ (c .if1 .taken))
+
+fits-place-requires : tie.Need-fits-place-requires
+fits-place-requires c κs = search needs
+
+returns-2 : tie.Need-returns-2
+unfolding lawful
+returns-2 c = rw (orders-held (c .before .before), place (c .before) ∙ not-true _ (c .if2 .taken))
+
+fits-values-requires : tie.Need-fits-values-requires
+fits-values-requires c κs = search needs
+
+returns-3 : tie.Need-returns-3
+unfolding lawful
+returns-3 c = rw (orders-held (c .before .before .before), place-held (c .before), values c, and-true (c .fits-values .result))
+
+pub suits-spec : {M : Type 1} → statement M
+suits-spec =
+    tie.close
+    (tie.spec
+    row-of-requires
+    takes-order-requires
+    returns
+    fits-place-requires
+    returns-2
+    fits-values-requires
+    returns-3)

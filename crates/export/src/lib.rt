@@ -1,0 +1,140 @@
+// The library for C and Rust: reading, writing, checking and the line at fault, on numbers, slices and arrays.
+// `door/laprunto.h` declares them for C; a slice is a pointer and a length there, an array a pointer.
+ghost use mathlib.Core.Path.{_≡_};
+ghost use Rattle.event.specs.Answer.{answer};
+ghost use Rattle.trace.specs.Reading.{readOf, roomAfter};
+ghost use Rattle.trace.specs.Writing.{writeOf, outAfter};
+ghost use Rattle.matching.specs.Reading.{readOf as matchingOf, roomAfter as entriesAfter};
+ghost use Rattle.checker.specs.Check.{lent};
+ghost use Rattle.checker.specs.Line.{offendingLine, offendingSpan, sideText, span, Spans};
+ghost use Rattle.export.specs.Numbers.{answerNumbers, traceNumbers, matchingNumbers, starting, Leaves};
+use checker::check;
+use checker::line::offending_span;
+use event::Answer;
+use event::Word;
+use event::index_of;
+use event::memory::Memory;
+
+// A trace text read alone: number, side, place and events, the starting memory, and the room.
+#[no_mangle]
+pub extern "C" fn laprunto_read_trace(
+    text: &[u8],
+    room: &mut [Word],
+    memory: &mut [Word; 256],
+    result: &mut [usize; 4],
+)
+    ensures { λ _. ⌜ now (result .exit) ≡ traceNumbers (readOf 1 (now (text .entry)) (now (room .entry))) ⌝ }
+    ensures { λ _. ⌜ now (memory .exit) ≡ readOf 1 (now (text .entry)) (now (room .entry)) .memory .cells ⌝ }
+    ensures { λ _. ⌜ now (room .exit) ≡ roomAfter 1 (now (text .entry)) (now (room .entry)) ⌝ }
+{
+    let read = trace::read(text, room);
+    let found = read.answer;
+    let start = read.memory;
+    let cells = start.cells;
+    *memory = cells;
+    *result = [
+        index_of(found.number),
+        index_of(found.side),
+        found.place,
+        read.events,
+    ];
+}
+
+// A matching text read alone: number, side, place and entries, and the room.
+#[no_mangle]
+pub extern "C" fn laprunto_read_matching(text: &[u8], room: &mut [Word], result: &mut [usize; 4])
+    ensures { λ _. ⌜ now (result .exit) ≡ matchingNumbers (matchingOf (now (text .entry)) (now (room .entry))) ⌝ }
+    ensures { λ _. ⌜ now (room .exit) ≡ entriesAfter (now (text .entry)) (now (room .entry)) ⌝ }
+{
+    let read = matching::read(text, room);
+    let found = read.answer;
+    *result = [
+        index_of(found.number),
+        index_of(found.side),
+        found.place,
+        read.entries,
+    ];
+}
+
+// A starting memory and the events of a part of a room, written as a text: number, side and place, and the bytes.
+#[no_mangle]
+pub extern "C" fn laprunto_write_trace(
+    memory: &[Word; 256],
+    room: &[Word],
+    out: &mut [u8],
+    result: &mut [usize; 3],
+)
+    ensures { λ _. ⌜ now (result .exit) ≡ answerNumbers (writeOf (starting (now (memory .entry))) (now (room .entry)) (now (out .entry))) ⌝ }
+    ensures { λ _. ⌜ now (out .exit) ≡ outAfter (starting (now (memory .entry))) (now (room .entry)) (now (out .entry)) ⌝ }
+{
+    let cells = *memory;
+    let found = trace::write(Memory { cells }, room, out);
+    *result = [index_of(found.number), index_of(found.side), found.place];
+}
+
+// A check: number, side, place, source events, target events and entries, both starting memories, and the three rooms.
+#[no_mangle]
+pub extern "C" fn laprunto_check(
+    source: &[u8],
+    target: &[u8],
+    matching: &[u8],
+    source_room: &mut [Word],
+    target_room: &mut [Word],
+    entry_room: &mut [Word],
+    source_memory: &mut [Word; 256],
+    target_memory: &mut [Word; 256],
+    result: &mut [usize; 6],
+)
+    ensures { λ _. ⌜ Leaves
+        (lent (now (source .entry)) (now (target .entry)) (now (matching .entry))
+        (now («source_room» .entry)) (now («target_room» .entry)) (now («entry_room» .entry)))
+        (now (result .exit)) (now («source_memory» .exit)) (now («target_memory» .exit))
+        (now («source_room» .exit)) (now («target_room» .exit)) (now («entry_room» .exit)) ⌝ }
+{
+    let checked = check(
+        source,
+        target,
+        matching,
+        source_room,
+        target_room,
+        entry_room,
+    );
+    let found = checked.answer;
+    let source_held = checked.source;
+    let target_held = checked.target;
+    let source_start = source_held.memory;
+    let target_start = target_held.memory;
+    let source_cells = source_start.cells;
+    let target_cells = target_start.cells;
+    *source_memory = source_cells;
+    *target_memory = target_cells;
+    *result = [
+        index_of(found.number),
+        index_of(found.side),
+        found.place,
+        source_held.events,
+        target_held.events,
+        checked.entries,
+    ];
+}
+
+// Where the offending line of a check stands in the target text, for side 2, else in the source text: its start and its end.
+#[no_mangle]
+pub extern "C" fn laprunto_offending_line(
+    source: &[u8],
+    target: &[u8],
+    number: Word,
+    side: Word,
+    place: usize,
+    from: &mut usize,
+    to: &mut usize,
+)
+    ensures { λ _. ⌜ Spans (sideText side (now (source .entry)) (now (target .entry)))
+        (offendingLine (now (source .entry)) (now (target .entry)) (answer number side place))
+        (span (now (from .exit)) (now (to .exit))) ⌝ }
+    ensures { λ _. ⌜ span (now (from .exit)) (now (to .exit)) ≡ offendingSpan (now (source .entry)) (now (target .entry)) (answer number side place) ⌝ }
+{
+    let part = offending_span(source, target, Answer::new(number, side, place));
+    *from = part.from;
+    *to = part.to;
+}

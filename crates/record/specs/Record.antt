@@ -1,0 +1,56 @@
+-- Document 01, "Trace text": what a line is, read field by field. Assumes nothing.
+use Prim.Native.Nat.{ℕ}
+use mathlib.Core.Bool.{Bool, true, false, cond}
+use mathlib.Core.List.{List}
+use lib.Dec.{eqb, leb}
+use Rattle.event.specs.Kind.{row, lawful}
+use Rattle.event.specs.Kind.{fields as event}
+use Rattle.event.specs.declared.Event.{Event}
+use Rattle.text.specs.Field.{fields, onField, onEnd}
+use Rattle.text.specs.Number.{numberOf, onNumber}
+use Rattle.text.specs.Word.{same}
+use Rattle.record.specs.Layout.{initWord, kindOf, orderOf, hasPlace, hasOrder, hasMark}
+use Rattle.record.specs.declared.Record.{Record}
+use Rattle.record.specs.declared.Record.the-variants.{Init, Line, Refused}
+
+-- The greatest location or mutex, and the greatest value.
+abbrev pub lastPlace : ℕ
+lastPlace = 255
+
+abbrev pub lastValue : ℕ
+lastValue = 4294967295
+
+-- A number field that is there or not; where it is not, the number is 0.
+unfoldable pub numberIf : Bool → ℕ → List (List ℕ) → (ℕ → List (List ℕ) → Record) → Record
+numberIf false max fs k = k 0 fs
+numberIf true max fs k = onField Refused fs (λ f rest. onNumber Refused (numberOf max f) (λ n. k n rest))
+
+-- An order or a mark that is there or not; where it is not, the number is the one in hand.
+unfoldable pub orderIf : Bool → ℕ → List (List ℕ) → (ℕ → List (List ℕ) → Record) → Record
+orderIf false o fs k = k o fs
+orderIf true o fs k = onField Refused fs (λ f rest. k (orderOf f) rest)
+
+-- The event of a kind, if it is lawful.
+abbrev pub lawfulLine : Event → Record
+lawfulLine e = cond (lawful e) (Line e) Refused
+
+-- An event's line, after its word: place, order, values, mark, and nothing more.
+unfoldable pub eventRest : ℕ → List (List ℕ) → Record
+eventRest kind fs =
+    numberIf (hasPlace (row kind .place)) lastPlace fs (λ place fs₁.
+    orderIf (hasOrder (row kind .orders)) 0 fs₁ (λ order fs₂.
+    numberIf (leb 1 (row kind .values)) lastValue fs₂ (λ first fs₃.
+    numberIf (leb 2 (row kind .values)) lastValue fs₃ (λ second fs₄.
+    orderIf (hasMark (row kind .orders)) order fs₄ (λ mark fs₅.
+    onEnd Refused fs₅ (lawfulLine (event kind place mark first second)))))))
+
+-- An `init` line, after its word: location, value, and nothing more; the value is never 0.
+unfoldable pub initRest : List (List ℕ) → Record
+initRest fs =
+    numberIf true lastPlace fs (λ place fs₁.
+    numberIf true lastValue fs₁ (λ value fs₂.
+    onEnd Refused fs₂ (cond (eqb value 0) Refused (Init place value))))
+
+-- What a line is: a starting value, an event, or not of the layout.
+unfoldable pub recordOf : List ℕ → Record
+recordOf line = onField Refused (fields line) (λ word fs. cond (same word initWord) (initRest fs) (eventRest (kindOf word) fs))

@@ -1,0 +1,128 @@
+// What a line of a trace is: a starting value, an event, or not of the layout. Its fields come through the small reader.
+pub mod name;
+pub mod part;
+pub mod word;
+
+ghost use mathlib.Core.Path.{_≡_};
+ghost use Rattle.text.specs.Field.{fieldsFrom};
+ghost use Rattle.record.specs.Record.{eventRest, initRest, recordOf};
+use event::Event;
+use event::Word;
+use event::kind::row_of;
+use event::kind::suits;
+use part::Part;
+use part::number_if;
+use part::order_if;
+use text::field::FieldStep;
+use text::reader::field_of;
+use text::take::ends_at;
+use text::word::same_bytes;
+use word::has_mark;
+use word::has_order;
+use word::has_place;
+use word::kind_of;
+
+// The greatest location or mutex, and the greatest value.
+pub const LAST_PLACE: Word = 255;
+
+pub const LAST_VALUE: Word = 4294967295;
+
+// A line as it was read.
+pub enum Record {
+    Init { place: Word, value: Word },
+    Line(Event),
+    Refused,
+}
+
+// An `init` line from the field after its word on.
+fn init_rest(line: &[u8], at: usize) -> Record
+    ensures { λ r. ⌜ r ≡ initRest (fieldsFrom (now (line .entry)) at) ⌝ }
+{
+    let Part::Given {
+        value: place,
+        next: after_place,
+    } = number_if(true, line, at, LAST_PLACE)
+    else {
+        return Record::Refused;
+    };
+    let Part::Given { value, next } = number_if(true, line, after_place, LAST_VALUE) else {
+        return Record::Refused;
+    };
+    if !ends_at(line, next) {
+        return Record::Refused;
+    }
+    if value == 0 {
+        return Record::Refused;
+    }
+    Record::Init { place, value }
+}
+
+// An event's line from the field after its word on.
+fn event_rest(kind: Word, line: &[u8], at: usize) -> Record
+    ensures { λ r. ⌜ r ≡ eventRest kind (fieldsFrom (now (line .entry)) at) ⌝ }
+{
+    let row = row_of(kind);
+    let orders = row.orders;
+    let located = row.place;
+    let values = row.values;
+    let Part::Given {
+        value: place,
+        next: after_place,
+    } = number_if(has_place(located), line, at, LAST_PLACE)
+    else {
+        return Record::Refused;
+    };
+    let Part::Given {
+        value: order,
+        next: after_order,
+    } = order_if(has_order(orders), line, after_place, 0)
+    else {
+        return Record::Refused;
+    };
+    let Part::Given {
+        value: first,
+        next: after_first,
+    } = number_if(1 <= values, line, after_order, LAST_VALUE)
+    else {
+        return Record::Refused;
+    };
+    let Part::Given {
+        value: second,
+        next: after_second,
+    } = number_if(2 <= values, line, after_first, LAST_VALUE)
+    else {
+        return Record::Refused;
+    };
+    let Part::Given { value: mark, next } = order_if(has_mark(orders), line, after_second, order)
+    else {
+        return Record::Refused;
+    };
+    if !ends_at(line, next) {
+        return Record::Refused;
+    }
+    if !suits(kind, place, mark, first, second) {
+        return Record::Refused;
+    }
+    Record::Line(Event {
+        kind,
+        place,
+        order: mark,
+        first,
+        second,
+        code: 0,
+    })
+}
+
+// What a line is.
+pub fn record_of(line: &[u8]) -> Record
+    ensures { λ r. ⌜ r ≡ recordOf (now (line .entry)) ⌝ }
+{
+    let FieldStep::Field { from, to } = field_of(line, 0) else {
+        return Record::Refused;
+    };
+    let word = &line[from..to];
+    if same_bytes(word, b"init") {
+        return init_rest(line, to + 1);
+    }
+    event_rest(kind_of(word), line, to + 1)
+}

@@ -1,0 +1,50 @@
+// A field that a line has or has not, taken at a place of the line.
+ghost use mathlib.Core.Path.{_≡_};
+ghost use Rattle.record.specs.Part.{numberPart, orderPart};
+use crate::word::order_of;
+use event::Word;
+use text::field::FieldStep;
+use text::reader::field_of;
+use text::take::Taken;
+use text::take::take_number;
+
+// A field's number, with the place of the next field.
+pub enum Part {
+    Given { value: Word, next: usize },
+    Bad,
+}
+
+// The number field at a place, if the line is to have one there; else 0, and no field is passed.
+pub(crate) fn number_if(wanted: bool, line: &[u8], at: usize, max: Word) -> Part
+    ensures { λ r. ⌜ r ≡ numberPart wanted (now (line .entry)) at max ⌝ }
+{
+    if !wanted {
+        return Part::Given { value: 0, next: at };
+    }
+    let Taken::Number { value, next } = take_number(line, at, max as u64) else {
+        return Part::Bad;
+    };
+    Part::Given {
+        value: value as Word,
+        next,
+    }
+}
+
+// The order or mark at a place, if the line is to have one there; else the one in hand.
+pub(crate) fn order_if(wanted: bool, line: &[u8], at: usize, other: Word) -> Part
+    ensures { λ r. ⌜ r ≡ orderPart wanted (now (line .entry)) at other ⌝ }
+{
+    if !wanted {
+        return Part::Given {
+            value: other,
+            next: at,
+        };
+    }
+    let FieldStep::Field { from, to } = field_of(line, at) else {
+        return Part::Bad;
+    };
+    Part::Given {
+        value: order_of(&line[from..to]),
+        next: to + 1,
+    }
+}

@@ -1,0 +1,95 @@
+/* Checks three files, source, target and matching, and prints what the program laprunto prints. Then both traces that were read are
+ * written again, and what was written is read back: status 1 if anything came back otherwise. */
+#include "laprunto.h"
+
+#include <stdio.h>
+#include <string.h>
+
+/* One byte more than the longest text: a longer file is answer 1 whatever its size. */
+enum { FILE_BYTES = LAPRUNTO_TEXT_BYTES + 1 };
+
+struct text {
+    uint8_t bytes[FILE_BYTES];
+    size_t size;
+};
+
+struct trace {
+    uint32_t words[LAPRUNTO_TRACE_WORDS];
+    uint32_t memory[LAPRUNTO_CELLS];
+    size_t events;
+};
+
+/* A file that cannot be opened counts as an empty text. */
+static void read_file(const char *name, struct text *text) {
+    FILE *file = fopen(name, "rb");
+    text->size = 0;
+    if (file != NULL) {
+        text->size = fread(text->bytes, 1, FILE_BYTES, file);
+        fclose(file);
+    }
+}
+
+static void print_line(const struct text *text, size_t from, size_t to) {
+    if (from < to) {
+        fwrite(text->bytes + from, 1, to - from, stdout);
+        putchar('\n');
+    }
+}
+
+/* Whether a trace, written, is the text that it was read from, and is read back as it was. */
+static int comes_back(const struct text *text, const struct trace *trace) {
+    static struct text written;
+    static struct trace again;
+    size_t result[LAPRUNTO_READ];
+    size_t words = trace->events * 6;
+    laprunto_write_trace(trace->memory, trace->words, words, written.bytes, FILE_BYTES, result);
+    written.size = result[LAPRUNTO_PLACE];
+    if (result[LAPRUNTO_NUMBER] != 0 || written.size != text->size || memcmp(written.bytes, text->bytes, text->size) != 0) {
+        return 0;
+    }
+    laprunto_read_trace(written.bytes, written.size, again.words, LAPRUNTO_TRACE_WORDS, again.memory, result);
+    return result[LAPRUNTO_NUMBER] == 0 && result[LAPRUNTO_COUNT] == trace->events &&
+           memcmp(again.words, trace->words, words * sizeof(uint32_t)) == 0 &&
+           memcmp(again.memory, trace->memory, sizeof trace->memory) == 0;
+}
+
+/* Whether a matching, read alone, gives the entries of the check. */
+static int same_entries(const struct text *text, const uint32_t *entries, size_t count) {
+    static uint32_t again[LAPRUNTO_ENTRY_WORDS];
+    size_t result[LAPRUNTO_READ];
+    laprunto_read_matching(text->bytes, text->size, again, LAPRUNTO_ENTRY_WORDS, result);
+    return result[LAPRUNTO_NUMBER] == 0 && result[LAPRUNTO_COUNT] == count &&
+           memcmp(again, entries, count * sizeof(uint32_t)) == 0;
+}
+
+int main(int count, char **names) {
+    static struct text texts[3];
+    static struct trace source, target;
+    static uint32_t entries[LAPRUNTO_ENTRY_WORDS];
+    size_t result[LAPRUNTO_CHECKED];
+    size_t from, to;
+    for (int i = 0; i < 3; i++) {
+        read_file(i + 1 < count ? names[i + 1] : "", &texts[i]);
+    }
+    laprunto_check(texts[0].bytes, texts[0].size, texts[1].bytes, texts[1].size, texts[2].bytes, texts[2].size, source.words,
+                   LAPRUNTO_TRACE_WORDS, target.words, LAPRUNTO_TRACE_WORDS, entries, LAPRUNTO_ENTRY_WORDS, source.memory,
+                   target.memory, result);
+    source.events = result[LAPRUNTO_SOURCE_EVENTS];
+    target.events = result[LAPRUNTO_TARGET_EVENTS];
+    printf("%s\t%zu\t%zu\t%zu\n", result[LAPRUNTO_NUMBER] == 0 ? "accepted" : "refused", result[LAPRUNTO_NUMBER],
+           result[LAPRUNTO_SIDE], result[LAPRUNTO_PLACE]);
+    laprunto_offending_line(texts[0].bytes, texts[0].size, texts[1].bytes, texts[1].size, (uint32_t)result[LAPRUNTO_NUMBER],
+                            (uint32_t)result[LAPRUNTO_SIDE], result[LAPRUNTO_PLACE], &from, &to);
+    print_line(&texts[result[LAPRUNTO_SIDE] == 2], from, to);
+
+    /* A reading's refusal stores nothing; 0 and 7 to 16 come after all three texts were read. */
+    size_t number = result[LAPRUNTO_NUMBER];
+    if (number == 0 || (7 <= number && number <= 16)) {
+        if (!comes_back(&texts[0], &source) || !comes_back(&texts[1], &target) ||
+            !same_entries(&texts[2], entries, result[LAPRUNTO_ENTRIES])) {
+            fprintf(stderr, "what was written is not read back\n");
+            return 1;
+        }
+    }
+    return 0;
+}

@@ -1,0 +1,167 @@
+//! Checks three files, source, target and matching, and prints what the program
+//! `laprunto` prints. Then both traces that were read are written again, and what
+//! was written is read back: status 1 if anything came back otherwise.
+
+use std::io::{Read, Write};
+
+const TEXT_BYTES: usize = 32_400;
+const EVENTS: usize = 800;
+const WORDS: usize = 6;
+
+type Memory = [u32; 256];
+
+// As `laprunto.h` declares them: a slice is its pointer and its length.
+#[rustfmt::skip]
+extern "C" {
+    fn laprunto_read_trace(text: *const u8, bytes: usize, room: *mut u32, words: usize, memory: *mut Memory, result: *mut [usize; 4]);
+    fn laprunto_read_matching(text: *const u8, bytes: usize, room: *mut u32, words: usize, result: *mut [usize; 4]);
+    fn laprunto_write_trace(memory: *const Memory, room: *const u32, words: usize, out: *mut u8, bytes: usize, result: *mut [usize; 3]);
+    fn laprunto_check(
+        source: *const u8, source_bytes: usize, target: *const u8, target_bytes: usize, matching: *const u8, matching_bytes: usize,
+        source_room: *mut u32, source_words: usize, target_room: *mut u32, target_words: usize, entry_room: *mut u32, entry_words: usize,
+        source_memory: *mut Memory, target_memory: *mut Memory, result: *mut [usize; 6],
+    );
+    fn laprunto_offending_line(
+        source: *const u8, source_bytes: usize, target: *const u8, target_bytes: usize, number: u32, side: u32, place: usize,
+        from: *mut usize, to: *mut usize,
+    );
+}
+
+#[derive(PartialEq)]
+struct Trace {
+    words: Vec<u32>,
+    memory: Memory,
+}
+
+struct Checked {
+    number: usize,
+    side: usize,
+    place: usize,
+    source: Trace,
+    target: Trace,
+    entries: Vec<u32>,
+}
+
+fn check(source: &[u8], target: &[u8], matching: &[u8]) -> Checked {
+    let [mut source_room, mut target_room] = [vec![0; EVENTS * WORDS], vec![0; EVENTS * WORDS]];
+    let mut entry_room = vec![0; EVENTS];
+    let [mut source_memory, mut target_memory] = [[0; 256]; 2];
+    let mut result = [0; 6];
+    // Each pointer is that of a slice and comes with its length.
+    unsafe {
+        laprunto_check(
+            source.as_ptr(),
+            source.len(),
+            target.as_ptr(),
+            target.len(),
+            matching.as_ptr(),
+            matching.len(),
+            source_room.as_mut_ptr(),
+            source_room.len(),
+            target_room.as_mut_ptr(),
+            target_room.len(),
+            entry_room.as_mut_ptr(),
+            entry_room.len(),
+            &mut source_memory,
+            &mut target_memory,
+            &mut result,
+        );
+    }
+    let [number, side, place, source_events, target_events, entries] = result;
+    source_room.truncate(source_events * WORDS);
+    target_room.truncate(target_events * WORDS);
+    entry_room.truncate(entries);
+    let source = Trace { words: source_room, memory: source_memory };
+    let target = Trace { words: target_room, memory: target_memory };
+    Checked { number, side, place, source, target, entries: entry_room }
+}
+
+fn offending_line<'a>(source: &'a [u8], target: &'a [u8], checked: &Checked) -> &'a [u8] {
+    let (number, side) = (checked.number as u32, checked.side as u32);
+    let (mut from, mut to) = (0, 0);
+    unsafe {
+        laprunto_offending_line(
+            source.as_ptr(),
+            source.len(),
+            target.as_ptr(),
+            target.len(),
+            number,
+            side,
+            checked.place,
+            &mut from,
+            &mut to,
+        );
+    }
+    let text = if side == 2 { target } else { source };
+    &text[from..to]
+}
+
+fn write_trace(trace: &Trace) -> Option<Vec<u8>> {
+    let mut out = vec![0; TEXT_BYTES];
+    let mut result = [0; 3];
+    unsafe {
+        let (words, room) = (trace.words.len(), trace.words.as_ptr());
+        laprunto_write_trace(&trace.memory, room, words, out.as_mut_ptr(), out.len(), &mut result);
+    }
+    let [number, _, bytes] = result;
+    out.truncate(bytes);
+    (number == 0).then_some(out)
+}
+
+fn read_trace(text: &[u8]) -> Option<Trace> {
+    let mut words = vec![0; EVENTS * WORDS];
+    let mut memory = [0; 256];
+    let mut result = [0; 4];
+    unsafe {
+        laprunto_read_trace(text.as_ptr(), text.len(), words.as_mut_ptr(), words.len(), &mut memory, &mut result);
+    }
+    let [number, _, _, events] = result;
+    words.truncate(events * WORDS);
+    (number == 0).then_some(Trace { words, memory })
+}
+
+fn read_matching(text: &[u8]) -> Option<Vec<u32>> {
+    let mut entries = vec![0; EVENTS];
+    let mut result = [0; 4];
+    unsafe {
+        laprunto_read_matching(text.as_ptr(), text.len(), entries.as_mut_ptr(), entries.len(), &mut result);
+    }
+    let [number, _, _, count] = result;
+    entries.truncate(count);
+    (number == 0).then_some(entries)
+}
+
+/// Whether a trace, written, is the text that it was read from, and is read back as it was.
+fn comes_back(text: &[u8], trace: &Trace) -> bool {
+    write_trace(trace).is_some_and(|written| written == text && read_trace(&written).as_ref() == Some(trace))
+}
+
+/// A file that cannot be opened counts as an empty text; one byte too many is enough for answer 1.
+fn read_file(name: Option<String>) -> Vec<u8> {
+    let mut text = vec![];
+    if let Some(file) = name.and_then(|name| std::fs::File::open(name).ok()) {
+        file.take(TEXT_BYTES as u64 + 1).read_to_end(&mut text).expect("the file can be read");
+    }
+    text
+}
+
+fn main() {
+    let mut names = std::env::args().skip(1);
+    let [source, target, matching] = [(); 3].map(|()| read_file(names.next()));
+    let checked = check(&source, &target, &matching);
+    let word = if checked.number == 0 { "accepted" } else { "refused" };
+    println!("{word}\t{}\t{}\t{}", checked.number, checked.side, checked.place);
+    let line = offending_line(&source, &target, &checked);
+    if !line.is_empty() {
+        std::io::stdout().write_all(&[line, b"\n"].concat()).expect("the line can be printed");
+    }
+    // A reading's refusal stores nothing; 0 and 7 to 16 come after all three texts were read.
+    let read = checked.number == 0 || (7..=16).contains(&checked.number);
+    let back = comes_back(&source, &checked.source)
+        && comes_back(&target, &checked.target)
+        && read_matching(&matching) == Some(checked.entries);
+    if read && !back {
+        eprintln!("what was written is not read back");
+        std::process::exit(1);
+    }
+}

@@ -1,0 +1,157 @@
+//! The proved library, linked in as `libexport.a` and called through its C
+//! functions, with the results of `peer.rs`.
+
+use crate::peer::{Answer, Checked, MatchingRead, Memory, TraceRead, CELLS};
+
+mod door {
+    extern "C" {
+        pub fn laprunto_read_trace(
+            text: *const u8,
+            text_bytes: usize,
+            room: *mut u32,
+            room_words: usize,
+            memory: *mut [u32; 256],
+            result: *mut [usize; 4],
+        );
+        pub fn laprunto_read_matching(
+            text: *const u8,
+            text_bytes: usize,
+            room: *mut u32,
+            room_words: usize,
+            result: *mut [usize; 4],
+        );
+        pub fn laprunto_write_trace(
+            memory: *const [u32; 256],
+            room: *const u32,
+            room_words: usize,
+            out: *mut u8,
+            out_bytes: usize,
+            result: *mut [usize; 3],
+        );
+        pub fn laprunto_check(
+            source: *const u8,
+            source_bytes: usize,
+            target: *const u8,
+            target_bytes: usize,
+            matching: *const u8,
+            matching_bytes: usize,
+            source_room: *mut u32,
+            source_room_words: usize,
+            target_room: *mut u32,
+            target_room_words: usize,
+            entry_room: *mut u32,
+            entry_room_words: usize,
+            source_memory: *mut [u32; 256],
+            target_memory: *mut [u32; 256],
+            result: *mut [usize; 6],
+        );
+        pub fn laprunto_offending_line(
+            source: *const u8,
+            source_bytes: usize,
+            target: *const u8,
+            target_bytes: usize,
+            number: u32,
+            side: u32,
+            place: usize,
+            from: *mut usize,
+            to: *mut usize,
+        );
+    }
+}
+
+fn answer(number: usize, side: usize, place: usize) -> Answer {
+    Answer { number: number as u32, side: side as u32, place: place as u32 }
+}
+
+/// The call itself: number, side, place, events.
+pub fn read_trace_to(text: &[u8], room: &mut [u32], memory: &mut Memory) -> [usize; 4] {
+    let mut result = [STALE; 4];
+    // Each pointer is that of a slice and comes with its length.
+    unsafe {
+        door::laprunto_read_trace(text.as_ptr(), text.len(), room.as_mut_ptr(), room.len(), memory, &mut result);
+    }
+    result
+}
+
+/// The call itself: number, side, place, source events, target events, entries.
+pub fn check_to(texts: [&[u8]; 3], rooms: [&mut [u32]; 3], memories: &mut [Memory; 2]) -> [usize; 6] {
+    let [source, target, matching] = texts;
+    let [source_room, target_room, entry_room] = rooms;
+    let [source_memory, target_memory] = memories;
+    let mut result = [STALE; 6];
+    unsafe {
+        door::laprunto_check(
+            source.as_ptr(),
+            source.len(),
+            target.as_ptr(),
+            target.len(),
+            matching.as_ptr(),
+            matching.len(),
+            source_room.as_mut_ptr(),
+            source_room.len(),
+            target_room.as_mut_ptr(),
+            target_room.len(),
+            entry_room.as_mut_ptr(),
+            entry_room.len(),
+            source_memory,
+            target_memory,
+            &mut result,
+        );
+    }
+    result
+}
+
+/// What is not written by a call would be seen.
+const STALE: usize = 77_777;
+const STALE_MEMORY: Memory = [77_777; CELLS];
+
+pub fn read_trace(text: &[u8], room: &mut [u32]) -> TraceRead {
+    let mut memory = STALE_MEMORY;
+    let [number, side, place, events] = read_trace_to(text, room, &mut memory);
+    TraceRead { answer: answer(number, side, place), events, memory }
+}
+
+pub fn read_matching(text: &[u8], room: &mut [u32]) -> MatchingRead {
+    let mut result = [STALE; 4];
+    unsafe {
+        door::laprunto_read_matching(text.as_ptr(), text.len(), room.as_mut_ptr(), room.len(), &mut result);
+    }
+    let [number, side, place, entries] = result;
+    MatchingRead { answer: answer(number, side, place), entries }
+}
+
+pub fn write_trace(memory: &Memory, room: &[u32], out: &mut [u8]) -> Answer {
+    let mut result = [STALE; 3];
+    unsafe {
+        door::laprunto_write_trace(memory, room.as_ptr(), room.len(), out.as_mut_ptr(), out.len(), &mut result);
+    }
+    let [number, side, place] = result;
+    answer(number, side, place)
+}
+
+pub fn check(texts: [&[u8]; 3], rooms: [&mut [u32]; 3]) -> Checked {
+    let mut memories = [STALE_MEMORY; 2];
+    let [number, side, place, source_events, target_events, entries] = check_to(texts, rooms, &mut memories);
+    let answer = answer(number, side, place);
+    let [source_memory, target_memory] = memories;
+    Checked { answer, source_events, target_events, entries, source_memory, target_memory }
+}
+
+/// Where the line stands: in the target text for side 2, else in the source text.
+pub fn offending_part(source: &[u8], target: &[u8], answer: Answer) -> (usize, usize) {
+    let (mut from, mut to) = (STALE, STALE);
+    unsafe {
+        door::laprunto_offending_line(
+            source.as_ptr(),
+            source.len(),
+            target.as_ptr(),
+            target.len(),
+            answer.number,
+            answer.side,
+            answer.place as usize,
+            &mut from,
+            &mut to,
+        );
+    }
+    (from, to)
+}
