@@ -6,7 +6,7 @@ use Rattle.event.specs.Kind.{row, takes, lawful}
 use Rattle.event.specs.Memory.{stepped, after, latest}
 use Rattle.text.specs.Cut.{cut}
 use Rattle.text.specs.Number.{allDigits, valueOn, digitsOn, numberOf}
-use Rattle.text.specs.Word.{same}
+use Rattle.text.specs.Word.{bytes, same}
 use Rattle.record.specs.Layout.{numberIn}
 use Rattle.record.specs.Record.{numberIf, orderIf, eventRest, initRest, recordOf}
 use Rattle.trace.specs.Fault.{uses, eventFault}
@@ -17,7 +17,7 @@ use Rattle.matching.specs.Reading.{linesFault as entryLinesFault, surveyParts a
 use Rattle.rules.specs.Verdict.{startAnswer, countAnswer, entryAnswer, sourceAnswer, targetAnswer, verdict}
 use Rattle.checker.specs.Check.{readingAnswer, verdictOf, checkOf}
 use Rattle.checker.specs.Line.{counted, nthLine, lineOf, offendingLine}
-use Rattle.checker.specs.Cases.{bytes, table, all-hold}
+use Rattle.checker.specs.Cases.{table, all-hold}
 
 pub P1-to-P12 : all-hold table ≡ true
 unfolding checkOf readingAnswer verdictOf verdict startAnswer countAnswer entryAnswer sourceAnswer targetAnswer readOf surveyOf surveyParts surveyInits initsFault linesFault eventsIn startIn eventsOf eventFault uses recordOf eventRest initRest numberIf orderIf numberIn matchingRead matchingSurvey matchingParts surveyLines entryLinesFault entriesIn entriesOf entryOf keepRest goneRest numberOf digitsOn valueOn allDigits cut same stepped after latest lawful takes row

@@ -2,19 +2,13 @@
 use mathlib.Core.Bool.{Bool, true, _&&_}
 use mathlib.Core.List.{List, [], _∷_}
 use Prim.Native.Nat.{ℕ}
-use Prim.Native.Char.{code}
 use Prim.Native.String.{String}
-use Prim.Native.String.{[] as end, _∷_ as _then_}
 use lib.Dec.{eqb}
 use lib.ListN.{replicate}
 use Rattle.event.specs.Answer.{answer, done}
 use Rattle.event.specs.declared.Answer.{Answer}
+use Rattle.text.specs.Word.{bytes}
 use Rattle.checker.specs.Check.{lent, checkOf}
-
--- The bytes of a text, all of whose characters are ASCII.
-abbrev pub bytes : String → List ℕ
-bytes end = []
-bytes (c then s) = code c ∷ bytes s
 
 -- A case: a source, a target and a matching as texts, and the answer.
 pub record Case : Type 0 where

@@ -70,7 +70,14 @@ impl Memory {
         let at = index_of(e.place);
         let was = self.cells[at];
         let right = is_latest(e, was);
-        self.cells[at] = left_by(e, was);
+        let left = left_by(e, was);
+        if left == was {
+            return Stepped {
+                memory: self,
+                right,
+            };
+        }
+        self.cells[at] = left;
         Stepped {
             memory: self,
             right,

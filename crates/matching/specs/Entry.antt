@@ -5,7 +5,7 @@ use mathlib.Core.List.{List, [], _∷_}
 use lib.Dec.{eqb}
 use Rattle.text.specs.Field.{fields, onField, onEnd, join}
 use Rattle.text.specs.Number.{numberOf, onNumber, decimal}
-use Rattle.text.specs.Word.{same}
+use Rattle.text.specs.Word.{bytes, same}
 use Rattle.matching.specs.declared.entry.EntryRead.{EntryRead}
 use Rattle.matching.specs.declared.entry.EntryRead.the-variants.{Entry, Refused}
 
@@ -14,14 +14,14 @@ abbrev pub lastNumber : ℕ
 lastNumber = 800
 
 abbrev pub keepWord : List ℕ
-keepWord = 107 ∷ 101 ∷ 101 ∷ 112 ∷ []
+keepWord = bytes "keep"
 
 abbrev pub goneWord : List ℕ
-goneWord = 103 ∷ 111 ∷ 110 ∷ 101 ∷ []
+goneWord = bytes "gone"
 
 -- Line 1 of a matching, form 1.
 abbrev pub header : List ℕ
-header = 109 ∷ 97 ∷ 116 ∷ 99 ∷ 104 ∷ 9 ∷ 49 ∷ []
+header = bytes "match\t1"
 
 -- `keep`, after the word: a target number, and nothing more.
 unfoldable pub keepRest : List (List ℕ) → EntryRead

@@ -12,41 +12,40 @@ use Rattle.event.specs.declared.kind.Place.{Place}
 use Rattle.event.specs.declared.kind.Place.the-variants.{Location, Mutex, Nowhere}
 use Rattle.text.specs.Field.{join}
 use Rattle.text.specs.Number.{decimal}
-use Rattle.text.specs.Word.{same}
+use Rattle.text.specs.Word.{bytes, same}
 
 -- The words of the kinds, by their numbers.
 abbrev pub kindWords : List (List ℕ)
 kindWords =
-    (108 ∷ 111 ∷ 97 ∷ 100 ∷ [])  -- 1 load
-    ∷ (115 ∷ 116 ∷ 111 ∷ 114 ∷ 101 ∷ [])  -- 2 store
-    ∷ (97 ∷ 108 ∷ 111 ∷ 97 ∷ 100 ∷ [])  -- 3 aload
-    ∷ (97 ∷ 115 ∷ 116 ∷ 111 ∷ 114 ∷ 101 ∷ [])  -- 4 astore
-    ∷ (114 ∷ 109 ∷ 119 ∷ [])  -- 5 rmw
-    ∷ (97 ∷ 100 ∷ 100 ∷ [])  -- 6 add
-    ∷ (102 ∷ 101 ∷ 110 ∷ 99 ∷ 101 ∷ [])  -- 7 fence
-    ∷ (108 ∷ 111 ∷ 99 ∷ 107 ∷ [])  -- 8 lock
-    ∷ (117 ∷ 110 ∷ 108 ∷ 111 ∷ 99 ∷ 107 ∷ [])  -- 9 unlock
+    bytes "load"  -- 1
+    ∷ bytes "store"  -- 2
+    ∷ bytes "aload"  -- 3
+    ∷ bytes "astore"  -- 4
+    ∷ bytes "rmw"  -- 5
+    ∷ bytes "add"  -- 6
+    ∷ bytes "fence"  -- 7
+    ∷ bytes "lock"  -- 8
+    ∷ bytes "unlock"  -- 9
     ∷ []
 
 -- The words of the orders and marks, by their numbers.
 abbrev pub orderWords : List (List ℕ)
 orderWords =
-    (114 ∷ 108 ∷ 120 ∷ [])  -- 1 rlx
-    ∷ (97 ∷ 99 ∷ 113 ∷ [])  -- 2 acq
-    ∷ (114 ∷ 101 ∷ 108 ∷ [])  -- 3 rel
-    ∷ (97 ∷ 114 ∷ [])  -- 4 ar
-    ∷ (115 ∷ 99 ∷ [])  -- 5 sc
-    ∷ (117 ∷ 115 ∷ 101 ∷ 100 ∷ [])  -- 6 used
-    ∷ (117 ∷ 110 ∷ 117 ∷ 115 ∷ 101 ∷ 100 ∷ [])  -- 7 unused
+    bytes "rlx"  -- 1
+    ∷ bytes "acq"  -- 2
+    ∷ bytes "rel"  -- 3
+    ∷ bytes "ar"  -- 4
+    ∷ bytes "sc"  -- 5
+    ∷ bytes "used"  -- 6
+    ∷ bytes "unused"  -- 7
     ∷ []
 
--- `init`
 abbrev pub initWord : List ℕ
-initWord = 105 ∷ 110 ∷ 105 ∷ 116 ∷ []
+initWord = bytes "init"
 
 -- Line 1 of a trace, form 1.
 abbrev pub header : List ℕ
-header = 116 ∷ 114 ∷ 97 ∷ 99 ∷ 101 ∷ 9 ∷ 49 ∷ []
+header = bytes "trace\t1"
 
 -- The word of a number, counted from 1; none for another number.
 abbrev pub wordAt : List (List ℕ) → ℕ → List ℕ

@@ -2,7 +2,15 @@
 use Prim.Native.Nat.{ℕ}
 use mathlib.Core.Bool.{Bool, true, false, _&&_}
 use mathlib.Core.List.{List, [], _∷_}
+use Prim.Native.Char.{code}
+use Prim.Native.String.{String}
+use Prim.Native.String.{[] as none, _∷_ as _then_}
 use lib.Dec.{eqb}
+
+-- The bytes of a word of ASCII characters.
+abbrev pub bytes : String → List ℕ
+bytes none = []
+bytes (c then s) = code c ∷ bytes s
 
 -- Whether two words are the same.
 unfoldable pub same : List ℕ → List ℕ → Bool

@@ -4,6 +4,7 @@ use mathlib.Core.Bool.{true}
 use mathlib.Core.Path.{_≡_, sym, _∙_}
 use native.Mathlib.Omega.{arith}
 use borrow.Author.Tests.{not-true, not-false}
+use lib.Seq.{set-getD}
 use Rattle.event.specs.Kind.{lawful}
 use Rattle.event.specs.Memory.{stepped, latest}
 use Rattle.event.proofs.Lawful.{place-below}
@@ -44,11 +45,27 @@ mul-self : tie.Need-mul-self
 mul-self c = search needs
 
 element-write-self : tie.Need-element-write-self
-element-write-self c = inside (c .before .before .before)
+element-write-self c = inside (c .before .before .before .before)
 
+-- an event that leaves its cell as it was
 returns-2 : tie.Need-returns-2
 unfolding stepped latest
-returns-2 c = rw (law (c .before .before .before), after-left, c .before .is-latest .ensures, c .left-by .ensures, c .before .before .before .index-of .ensures)
+returns-2 c =
+    let i = c .before .before .before .before in
+    rw (
+      law i,
+      after-left,
+      c .before .before .is-latest .ensures,
+      i .index-of .ensures,
+      (rw (i .index-of .ensures) at (sym (c .before .left-by .ensures) ∙ c .if2 .taken)),
+      set-getD (i .before .before .before .args .t1 .cells) (i .before .before .before .args .e .place) 0,
+    )
+
+returns-3 : tie.Need-returns-3
+unfolding stepped latest
+returns-3 c =
+    let i = c .before .before .before .before in
+    rw (law i, after-left, c .before .before .is-latest .ensures, c .before .left-by .ensures, i .index-of .ensures)
 
 pub step-spec : {M : Type 1} → statement M
 step-spec =
@@ -61,6 +78,7 @@ step-spec =
     element-copy-out-was
     is-latest-requires
     left-by-requires
+    returns-2
     mul-self
     element-write-self
-    returns-2)
+    returns-3)
