@@ -30,7 +30,7 @@ struct Ran {
 }
 
 // What a vector gives, and which of it is what the vector says.
-pub struct Outcome {
+pub(crate) struct Outcome {
     pub answer: Answer,
     pub answer_right: bool,
     pub line_right: bool,
@@ -133,7 +133,7 @@ fn is_said(header: &[u8], answer: Answer) -> bool {
 }
 
 // A vector's texts checked, and all that comes back compared.
-pub fn outcome_of<'a>(
+pub(crate) fn outcome_of<'a>(
     source: &'a [u8],
     target: &'a [u8],
     matching: &[u8],

@@ -11,30 +11,30 @@ const BLANK: u8 = 32;
 const MOST: u64 = 4294967295;
 
 // Which number of a header is which.
-pub const SOURCE_BYTES: usize = 0;
+pub(crate) const SOURCE_BYTES: usize = 0;
 
-pub const TARGET_BYTES: usize = 1;
+pub(crate) const TARGET_BYTES: usize = 1;
 
-pub const MATCHING_BYTES: usize = 2;
+pub(crate) const MATCHING_BYTES: usize = 2;
 
-pub const SOURCE_WORDS: usize = 3;
+pub(crate) const SOURCE_WORDS: usize = 3;
 
-pub const TARGET_WORDS: usize = 4;
+pub(crate) const TARGET_WORDS: usize = 4;
 
-pub const ENTRY_WORDS: usize = 5;
+pub(crate) const ENTRY_WORDS: usize = 5;
 
-pub const NUMBER: usize = 6;
+pub(crate) const NUMBER: usize = 6;
 
-pub const SIDE: usize = 7;
+pub(crate) const SIDE: usize = 7;
 
-pub const PLACE: usize = 8;
+pub(crate) const PLACE: usize = 8;
 
-pub const LINE_BYTES: usize = 9;
+pub(crate) const LINE_BYTES: usize = 9;
 
 const NAME: usize = 10;
 
 // Where the parts of a vector begin; each ends where the next begins.
-pub struct Vector {
+pub(crate) struct Vector {
     pub header_end: usize,
     pub source: usize,
     pub target: usize,
@@ -44,7 +44,7 @@ pub struct Vector {
 }
 
 // The part of the data between two places; empty if they are not places of it in this order.
-pub fn between(data: &[u8], from: usize, to: usize) -> &[u8] {
+pub(crate) fn between(data: &[u8], from: usize, to: usize) -> &[u8] {
     if to < from {
         return &data[0..0];
     }
@@ -55,7 +55,7 @@ pub fn between(data: &[u8], from: usize, to: usize) -> &[u8] {
 }
 
 // The place that lies `count` bytes after another; the end of the data, if it is not that long.
-pub fn forth(data: &[u8], at: usize, count: usize) -> usize {
+pub(crate) fn forth(data: &[u8], at: usize, count: usize) -> usize {
     let end = data.len();
     if end < at {
         return end;
@@ -78,7 +78,7 @@ fn field_start(header: &[u8], k: usize) -> usize {
 }
 
 // Number k of a header, from 0; 0 if it is none.
-pub fn number_at(header: &[u8], k: usize) -> usize {
+pub(crate) fn number_at(header: &[u8], k: usize) -> usize {
     let from = field_start(header, k);
     let to = find(header, from, BLANK);
     match number_of(between(header, from, to), MOST) {
@@ -88,13 +88,13 @@ pub fn number_at(header: &[u8], k: usize) -> usize {
 }
 
 // The name of a vector: all that follows its numbers.
-pub fn name_of(header: &[u8]) -> &[u8] {
+pub(crate) fn name_of(header: &[u8]) -> &[u8] {
     let from = field_start(header, NAME);
     between(header, from, header.len())
 }
 
 // The vector that begins at a place.
-pub fn vector_at(data: &[u8], at: usize) -> Vector {
+pub(crate) fn vector_at(data: &[u8], at: usize) -> Vector {
     let header_end = line_end(data, at);
     let header = between(data, at, header_end);
     let source = forth(data, header_end, 1);

@@ -59,21 +59,25 @@ lineSpan number place t =
     cond (has number lineFaults) (nthSpan false place 0 (split t))
     (cond (has number eventFaults) (nthSpan true place 0 (split t)) (span 0 0))
 
+-- The side whose text has the line at fault: none where the number has no line.
+unfoldable pub faultSide : Answer → ℕ
+faultSide a = cond (has (a .number) lineFaults || has (a .number) eventFaults) (a .side) 0
+
 -- The offending line of a check: of the source text, side 1, or the target text, side 2; else nothing.
 unfoldable pub offendingLine : List ℕ → List ℕ → Answer → List ℕ
 offendingLine source target a =
-    cond (eqb (a .side) 1) (lineOf (a .number) (a .place) source)
-    (cond (eqb (a .side) 2) (lineOf (a .number) (a .place) target) [])
+    cond (eqb (faultSide a) 1) (lineOf (a .number) (a .place) source)
+    (cond (eqb (faultSide a) 2) (lineOf (a .number) (a .place) target) [])
 
--- Where it stands, in the text that the side names.
+-- Where it stands.
 unfoldable pub offendingSpan : List ℕ → List ℕ → Answer → Span
 offendingSpan source target a =
-    cond (eqb (a .side) 1) (lineSpan (a .number) (a .place) source)
-    (cond (eqb (a .side) 2) (lineSpan (a .number) (a .place) target) (span 0 0))
+    cond (eqb (faultSide a) 1) (lineSpan (a .number) (a .place) source)
+    (cond (eqb (faultSide a) 2) (lineSpan (a .number) (a .place) target) (span 0 0))
 
--- The text that a side names: the target, side 2, else the source.
-abbrev pub sideText : ℕ → List ℕ → List ℕ → List ℕ
-sideText side source target = cond (eqb side 2) target source
+-- The text that it is a part of: the target, side 2, else the source.
+abbrev pub faultText : List ℕ → List ℕ → Answer → List ℕ
+faultText source target a = cond (eqb (faultSide a) 2) target source
 
 -- A part of a text that is a given line.
 pub record Spans (t line : List ℕ) (s : Span) : Type 0 where

@@ -3,7 +3,22 @@ ghost use mathlib.Core.Path.{_≡_};
 ghost use mathlib.Core.Bool.{_&&_, cond};
 ghost use Prim.Native.Nat.{_≤_, _-_};
 ghost use lib.Dec.{eqb};
-ghost use Rattle.checker.specs.Line.{isEvent, counted, nthLine, nthSpan, lineOf, lineSpan, sideText, offendingLine, offendingSpan, Spans};
+ghost use Rattle.event.specs.Kind.{has};
+ghost use Rattle.checker.specs.Line.{
+  isEvent,
+  counted,
+  nthLine,
+  nthSpan,
+  lineFaults,
+  eventFaults,
+  lineOf,
+  lineSpan,
+  faultSide,
+  faultText,
+  offendingLine,
+  offendingSpan,
+  Spans,
+};
 ghost use Rattle.text.specs.Line.{split};
 use event::Answer;
 use event::Word;
@@ -81,27 +96,54 @@ fn span_of(text: &[u8], only: bool, k: usize) -> Span
     Span { from: 0, to: 0 }
 }
 
-// The part of a text that an answer's number and place name: the place of 2, 3 and 4 is a line, that of the others an event.
+// Whether the place of an answer of this number is a line.
+fn is_at_a_line(number: Word) -> bool
+    ensures { λ r. ⌜ r ≡ has number lineFaults ⌝ }
+{
+    is_in(number, &[2, 3, 4])
+}
+
+// Whether it is an event.
+fn is_at_an_event(number: Word) -> bool
+    ensures { λ r. ⌜ r ≡ has number eventFaults ⌝ }
+{
+    is_in(number, &[5, 6, 10, 11, 12, 13, 14, 15, 16])
+}
+
+// The part of a text that an answer's number and place name.
 fn fault_span(text: &[u8], number: Word, place: usize) -> Span
     ensures { λ r. ⌜ Spans (now (text .entry)) (lineOf number place (now (text .entry))) r ⌝ }
     ensures { λ r. ⌜ r ≡ lineSpan number place (now (text .entry)) ⌝ }
 {
-    if is_in(number, &[2, 3, 4]) {
+    if is_at_a_line(number) {
         return span_of(text, false, place);
     }
-    if is_in(number, &[5, 6, 10, 11, 12, 13, 14, 15, 16]) {
+    if is_at_an_event(number) {
         return span_of(text, true, place);
     }
     Span { from: 0, to: 0 }
 }
 
-// Where the offending line of a check stands, without its LF, in the text that the answer's side names; else an empty part.
+// The side whose text has the line at fault: none where the number has no line.
+fn fault_side(answer: Answer) -> Word
+    ensures { λ r. ⌜ r ≡ faultSide answer ⌝ }
+{
+    if is_at_a_line(answer.number) {
+        return answer.side;
+    }
+    if is_at_an_event(answer.number) {
+        return answer.side;
+    }
+    0
+}
+
+// Where the offending line of a check stands, without its LF, in the text of its side; else an empty part of the source.
 pub fn offending_span(source: &[u8], target: &[u8], answer: Answer) -> Span
-    ensures { λ r. ⌜ Spans (sideText (answer .side) (now (source .entry)) (now (target .entry)))
+    ensures { λ r. ⌜ Spans (faultText (now (source .entry)) (now (target .entry)) answer)
         (offendingLine (now (source .entry)) (now (target .entry)) answer) r ⌝ }
     ensures { λ r. ⌜ r ≡ offendingSpan (now (source .entry)) (now (target .entry)) answer ⌝ }
 {
-    let side = answer.side;
+    let side = fault_side(answer);
     if side == 1 {
         return fault_span(source, answer.number, answer.place);
     }
@@ -118,7 +160,7 @@ pub fn offending_line<'a>(source: &'a [u8], target: &'a [u8], answer: Answer) ->
     let span = offending_span(source, target, answer);
     let from = span.from;
     let to = span.to;
-    if answer.side == 2 {
+    if fault_side(answer) == 2 {
         return &target[from..to];
     }
     &source[from..to]

@@ -5,18 +5,11 @@ use mathlib.Core.Path.{_≡_, refl, sym}
 use native.Mathlib.Omega.{arith}
 use lib.Dec.{leb, eqb}
 use borrow.Author.Tests.{leb-true, eqb-true}
+use Rattle.laws.proofs.Bools.{and-left, and-right}
 use Rattle.event.specs.Kind.{row, takes, fitsPlace, fitsValues, fields, lawful}
 use Rattle.event.specs.declared.Event.{Event}
 use Rattle.event.specs.declared.kind.Place.{Place}
 use Rattle.event.specs.declared.kind.Place.the-variants.{Location, Mutex, Nowhere}
-
-pub and-left : (a b : Bool) → (a && b) ≡ true → a ≡ true
-and-left true b h = refl
-and-left false b h = h
-
-pub and-right : (a b : Bool) → (a && b) ≡ true → b ≡ true
-and-right true b h = h
-and-right false b h = absurd (false≢true h)
 
 pub place-in : (p : Place) (n : ℕ) → fitsPlace p n ≡ true → n < 256
 place-in Location n h = omega (arith, leb-true n 255 h)

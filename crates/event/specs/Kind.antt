@@ -75,10 +75,14 @@ rows =
 unfoldable pub row : ℕ → Row
 row k = getD rows k noKind
 
+-- the greatest location or mutex
+abbrev pub lastPlace : ℕ
+lastPlace = 255
+
 -- locations and mutexes are 0 to 255; an event that has neither has 0 there
 abbrev pub fitsPlace : Place → ℕ → Bool
-fitsPlace Location n = leb n 255
-fitsPlace Mutex n = leb n 255
+fitsPlace Location n = leb n lastPlace
+fitsPlace Mutex n = leb n lastPlace
 fitsPlace Nowhere n = eqb n 0
 
 -- a value that the kind lacks is 0

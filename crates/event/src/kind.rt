@@ -77,9 +77,12 @@ const AR: Word = 4;
 
 const SC: Word = 5;
 
-const USED: Word = 6;
+pub const USED: Word = 6;
 
 const UNUSED: Word = 7;
+
+// The greatest location or mutex.
+pub const LAST_PLACE: Word = 255;
 
 // Whether a number is in a list.
 pub fn is_in(n: Word, list: &[Word]) -> bool
@@ -114,8 +117,8 @@ fn fits_place(place: Place, at: Word) -> bool
     ensures { λ r. ⌜ r ≡ fitsPlace place at ⌝ }
 {
     match place {
-        Place::Location => at <= 255,
-        Place::Mutex => at <= 255,
+        Place::Location => at <= LAST_PLACE,
+        Place::Mutex => at <= LAST_PLACE,
         Place::Nowhere => at == 0,
     }
 }

@@ -6,7 +6,8 @@ pub mod room;
 ghost use mathlib.Core.Path.{_≡_};
 ghost use Rattle.event.specs.Answer.{answer};
 
-// A number of the trace and a word of a room. Its width is named here, in `index_of` and in `memory::wrapped_sum`, and nowhere else.
+// A number of the trace and a word of a room. Its width is named here, in `memory::wrapped_sum` and, by the greatest value, in the
+// crate `record`.
 pub type Word = u32;
 
 // The words of an event in a room.

@@ -1,6 +1,6 @@
 -- Document 01, "Numbers that come back": how what a call hands back lies in the arrays that C and Rust lend. Assumes nothing.
 use Prim.Native.Nat.{ℕ}
-use mathlib.Core.List.{List, [], _∷_}
+use mathlib.Core.List.{List, [], _∷_, _++_}
 use mathlib.Core.Path.{_≡_}
 use Rattle.event.specs.declared.Answer.{Answer}
 use Rattle.event.specs.declared.memory.Memory.{Memory}
@@ -15,16 +15,15 @@ answerNumbers a = a .number ∷ a .side ∷ a .place ∷ []
 
 -- A trace read: its answer, then its events.
 abbrev pub traceNumbers : TraceRead → List ℕ
-traceNumbers r = r .answer .number ∷ r .answer .side ∷ r .answer .place ∷ r .events ∷ []
+traceNumbers r = answerNumbers (r .answer) ++ r .events ∷ []
 
 -- A matching read: its answer, then its entries.
 abbrev pub matchingNumbers : MatchingRead → List ℕ
-matchingNumbers r = r .answer .number ∷ r .answer .side ∷ r .answer .place ∷ r .entries ∷ []
+matchingNumbers r = answerNumbers (r .answer) ++ r .entries ∷ []
 
 -- A check: its answer, then the events of the source, those of the target, and the entries.
 abbrev pub checkNumbers : Checked → List ℕ
-checkNumbers c =
-    c .answer .number ∷ c .answer .side ∷ c .answer .place ∷ c .source .events ∷ c .target .events ∷ c .entries ∷ []
+checkNumbers c = answerNumbers (c .answer) ++ c .source .events ∷ c .target .events ∷ c .entries ∷ []
 
 -- The memory of 256 cells.
 abbrev pub starting : List ℕ → Memory

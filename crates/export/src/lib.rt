@@ -6,7 +6,7 @@ ghost use Rattle.trace.specs.Reading.{readOf, roomAfter};
 ghost use Rattle.trace.specs.Writing.{writeOf, outAfter};
 ghost use Rattle.matching.specs.Reading.{readOf as matchingOf, roomAfter as entriesAfter};
 ghost use Rattle.checker.specs.Check.{lent};
-ghost use Rattle.checker.specs.Line.{offendingLine, offendingSpan, sideText, span, Spans};
+ghost use Rattle.checker.specs.Line.{offendingLine, offendingSpan, faultText, span, Spans};
 ghost use Rattle.export.specs.Numbers.{answerNumbers, traceNumbers, matchingNumbers, starting, Leaves};
 use checker::check;
 use checker::line::offending_span;
@@ -129,7 +129,7 @@ pub extern "C" fn laprunto_offending_line(
     from: &mut usize,
     to: &mut usize,
 )
-    ensures { λ _. ⌜ Spans (sideText side (now (source .entry)) (now (target .entry)))
+    ensures { λ _. ⌜ Spans (faultText (now (source .entry)) (now (target .entry)) (answer number side place))
         (offendingLine (now (source .entry)) (now (target .entry)) (answer number side place))
         (span (now (from .exit)) (now (to .exit))) ⌝ }
     ensures { λ _. ⌜ span (now (from .exit)) (now (to .exit)) ≡ offendingSpan (now (source .entry)) (now (target .entry)) (answer number side place) ⌝ }

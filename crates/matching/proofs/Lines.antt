@@ -7,8 +7,8 @@ use native.Mathlib.Omega.{arith}
 use lib.ListN.{length, drop}
 use borrow.Author.Tests.{le-leb, lt-leb}
 use Rattle.event.specs.Answer.{answer, done}
-use Rattle.text.specs.Cut.{cut}
-use Rattle.text.specs.Line.{isEmpty, lineLen, split, splitFrom}
+use Rattle.text.specs.Cut.{cut, isEmpty}
+use Rattle.text.specs.Line.{lineLen, split, splitFrom}
 use Rattle.text.specs.Word.{same}
 use Rattle.text.proofs.Cuts.{from-start, from-out}
 use Rattle.text.proofs.Walk.{Some, line, parts-line, parts-some}

@@ -12,8 +12,8 @@ use Rattle.laws.proofs.Cases.{cases, either, not-first, not-second}
 use Rattle.laws.proofs.Lists.{Each, Free}
 use Rattle.event.specs.Answer.{answer, done}
 use Rattle.event.specs.declared.Answer.{Answer}
-use Rattle.text.specs.Cut.{glue}
-use Rattle.text.specs.Line.{isEmpty, split, unsplit}
+use Rattle.text.specs.Cut.{glue, isEmpty}
+use Rattle.text.specs.Line.{split, unsplit}
 use Rattle.text.specs.Word.{same}
 use Rattle.text.proofs.Decimals.{length-below}
 use Rattle.text.proofs.Parts.{cut-glue, glue-cut}

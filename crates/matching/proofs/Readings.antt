@@ -11,10 +11,10 @@ use borrow.Author.Tests.{eqb-false, leb-true}
 use Rattle.laws.proofs.Cases.{cases, either}
 use Rattle.event.specs.Answer.{answer}
 use Rattle.event.specs.declared.Answer.{Answer}
-use Rattle.text.specs.Line.{split}
+use Rattle.text.specs.Line.{split, textLimit}
 use Rattle.text.specs.Word.{same}
 use Rattle.matching.specs.Entry.{header}
-use Rattle.matching.specs.Reading.{textLimit, linesFault, entriesIn, refused, settle, surveyLines, surveyParts, surveyOf, body, entriesOf, readOf}
+use Rattle.matching.specs.Reading.{linesFault, entriesIn, refused, settle, surveyLines, surveyParts, surveyOf, body, entriesOf, readOf}
 use Rattle.matching.specs.declared.MatchingRead.{MatchingRead}
 
 -- what a survey counts: n entries where it does not refuse, none where it does

@@ -6,17 +6,15 @@ use lib.Dec.{eqb, leb, ltb}
 use lib.ListN.{length, drop, set}
 use Rattle.event.specs.Answer.{answer, done}
 use Rattle.event.specs.declared.Answer.{Answer}
-use Rattle.text.specs.Line.{split, isEmpty}
+use Rattle.text.specs.Cut.{isEmpty}
+use Rattle.text.specs.Line.{split, textLimit}
 use Rattle.text.specs.Word.{same}
 use Rattle.matching.specs.Entry.{header, entryOf}
 use Rattle.matching.specs.declared.entry.EntryRead.{EntryRead}
 use Rattle.matching.specs.declared.entry.EntryRead.the-variants.{Entry, Refused}
 use Rattle.matching.specs.declared.MatchingRead.{MatchingRead}
 
--- The longest text, and the most entries.
-abbrev pub textLimit : ℕ
-textLimit = 32400
-
+-- The most entries.
 abbrev pub entryLimit : ℕ
 entryLimit = 800
 

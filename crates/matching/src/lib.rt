@@ -11,12 +11,11 @@ use entry::EntryRead;
 use entry::entry_of;
 use event::Answer;
 use event::Word;
+use text::line::TEXT_LIMIT;
 use text::line::line_end;
 use text::word::same_bytes;
 
-// The longest text, and the most entries.
-pub const TEXT_LIMIT: usize = 32400;
-
+// The most entries.
 pub const ENTRY_LIMIT: usize = 800;
 
 // What a reading hands back: its answer and the number of entries, 0 under a refusal.

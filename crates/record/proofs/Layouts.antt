@@ -8,7 +8,7 @@ use native.Mathlib.Omega.{arith}
 use lib.Dec.{eqb, leb}
 use borrow.Author.Tests.{eqb-false, ne-eqb}
 use Rattle.laws.proofs.Lists.{Each, Free}
-use Rattle.event.specs.Kind.{row, lawful}
+use Rattle.event.specs.Kind.{row, lawful, lastPlace}
 use Rattle.event.specs.declared.Event.{Event}
 use Rattle.event.proofs.Lawful.{code-of}
 use Rattle.text.specs.Field.{fields, onField, onEnd}
@@ -22,7 +22,7 @@ use Rattle.text.proofs.Round.{round, read-back, decimal-free}
 use Rattle.text.proofs.Words.{same-eq, same-self}
 use Rattle.record.specs.Layout.{kindWords, orderWords, initWord, wordAt, kindOf, orderOf, hasPlace, hasOrder, hasMark}
 use Rattle.record.specs.Layout.{fieldIf, eventFields, eventLine, initLine}
-use Rattle.record.specs.Record.{lastPlace, lastValue, numberIf, orderIf, lawfulLine, eventRest, initRest, recordOf}
+use Rattle.record.specs.Record.{lastValue, numberIf, orderIf, lawfulLine, eventRest, initRest, recordOf}
 use Rattle.record.specs.declared.Record.{Record}
 use Rattle.record.specs.declared.Record.the-variants.{Init, Line, Refused}
 use Rattle.record.proofs.Tables.{word-of, kind-number, order-number, kind-not-init, kind-free, order-free}

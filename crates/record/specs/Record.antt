@@ -3,7 +3,7 @@ use Prim.Native.Nat.{ℕ}
 use mathlib.Core.Bool.{Bool, true, false, cond}
 use mathlib.Core.List.{List}
 use lib.Dec.{eqb, leb}
-use Rattle.event.specs.Kind.{row, lawful}
+use Rattle.event.specs.Kind.{row, lastPlace, lawful}
 use Rattle.event.specs.Kind.{fields as event}
 use Rattle.event.specs.declared.Event.{Event}
 use Rattle.text.specs.Field.{fields, onField, onEnd}
@@ -13,10 +13,7 @@ use Rattle.record.specs.Layout.{initWord, kindOf, orderOf, hasPlace, has
 use Rattle.record.specs.declared.Record.{Record}
 use Rattle.record.specs.declared.Record.the-variants.{Init, Line, Refused}
 
--- The greatest location or mutex, and the greatest value.
-abbrev pub lastPlace : ℕ
-lastPlace = 255
-
+-- The greatest value.
 abbrev pub lastValue : ℕ
 lastValue = 4294967295
 

@@ -8,6 +8,7 @@ ghost use Rattle.text.specs.Field.{fieldsFrom};
 ghost use Rattle.record.specs.Record.{eventRest, initRest, recordOf};
 use event::Event;
 use event::Word;
+use event::kind::LAST_PLACE;
 use event::kind::row_of;
 use event::kind::suits;
 use part::Part;
@@ -22,9 +23,7 @@ use word::has_order;
 use word::has_place;
 use word::kind_of;
 
-// The greatest location or mutex, and the greatest value.
-pub const LAST_PLACE: Word = 255;
-
+// The greatest value.
 pub const LAST_VALUE: Word = 4294967295;
 
 // A line as it was read.

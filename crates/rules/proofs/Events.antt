@@ -9,9 +9,8 @@ use lib.ListN.{length, getD, drop}
 use lib.Seq.{drop-cons}
 use borrow.Author.Tests.{le-ltb}
 use Rattle.laws.proofs.Cases.{cases, side}
-use Rattle.event.specs.Room.{eventAt, onward}
+use Rattle.event.specs.Room.{eventAt, onward, noEvent}
 use Rattle.event.specs.declared.Event.{Event}
-use Rattle.rules.specs.Fault.{noEvent}
 
 module _ (l : List ℕ) where
   onward-at : (n i k : ℕ) → k < n → getD (onward l i n) k noEvent ≡ eventAt l (i + k)

@@ -48,3 +48,4 @@ pub mod Events
 pub mod Arrays
 pub mod Closed
 pub mod Tallied
+pub mod Sync

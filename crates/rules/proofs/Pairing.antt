@@ -12,8 +12,9 @@ use borrow.Author.Tests.{ne-eqb}
 use Rattle.laws.proofs.Lists.{Each}
 use Rattle.event.specs.Kind.{has}
 use Rattle.event.specs.declared.Event.{Event}
+use Rattle.event.specs.Room.{noEvent}
 use Rattle.rules.specs.View.{same, View}
-use Rattle.rules.specs.Fault.{Item, item, noEvent, stays, unlike}
+use Rattle.rules.specs.Fault.{Item, item, stays, unlike}
 use Rattle.rules.specs.Verdict.{items, placed}
 use Rattle.rules.proofs.Matching.{Alike, Distinct, Lands, hit, label, matching}
 use Rattle.rules.proofs.Entries.{Entries, Once, Within}

@@ -7,10 +7,11 @@ use lib.ListN.{length}
 use Rattle.laws.proofs.Lists.{Each, each-all}
 use Rattle.event.specs.Kind.{lawful}
 use Rattle.event.specs.declared.Event.{Event}
+use Rattle.event.specs.Room.{noEvent}
 use Rattle.rules.specs.Run.{Inserted, number, viewed, Realises, Traced, Ends}
 use Rattle.rules.specs.View.{same, View}
 use Rattle.rules.specs.Moves.{Run as RunOf}
-use Rattle.rules.specs.Fault.{noEvent, viewOf}
+use Rattle.rules.specs.Fault.{viewOf}
 use Rattle.rules.specs.Verdict.{items}
 use Rattle.rules.proofs.Item.{Run, New, Reaches, Supported, Above, Gone}
 use Rattle.rules.proofs.Place.{Agrees}

@@ -11,9 +11,10 @@ use lib.ListN.{length, getD}
 use Rattle.laws.proofs.Lists.{Each}
 use Rattle.event.specs.Kind.{has, lawful}
 use Rattle.event.specs.declared.Event.{Event}
+use Rattle.event.specs.Room.{noEvent}
 use Rattle.rules.specs.Run.{old, new, Traced, traced, tagOf, eventOf, Inserted, number, origin, Ends, viewed}
 use Rattle.rules.specs.View.{same, View}
-use Rattle.rules.specs.Fault.{Fate, Item, fate, item, noEvent, stays, viewOf, unlike}
+use Rattle.rules.specs.Fault.{Fate, Item, fate, item, stays, viewOf, unlike}
 use Rattle.rules.specs.Verdict.{items, placed}
 use Rattle.rules.proofs.Matching.{Alike, like-of}
 use Rattle.rules.proofs.Entries.{From, from-here, from-next, from-start, nth, Entries, Once, within-at}

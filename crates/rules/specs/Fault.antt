@@ -6,6 +6,7 @@ use mathlib.Core.List.{List, [], _∷_}
 use Prim.Native.Nat.{ℕ, zero, suc}
 use lib.Dec.{eqb, ltb}
 use lib.ListN.{getD}
+use Rattle.event.specs.Room.{noEvent}
 use Rattle.event.specs.declared.Event.{Event}
 use Rattle.rules.specs.View.{View, wall, load, store, valueOf, apart, same}
 use Rattle.rules.specs.Moves.{group as groupOf, near as nearOf}
@@ -42,10 +43,6 @@ isNone (some x) = false
 abbrev pub is : ℕ → Option ℕ → Bool
 is v none = false
 is v (some w) = eqb w v
-
--- What stands where there is no event.
-abbrev pub noEvent : Event
-noEvent = record { kind = 0; place = 0; order = 0; first = 0; second = 0; code = 0 }
 
 -- 10: a kept event differs from its target event, marks apart.
 abbrev pub unlike : List Event → Event → ℕ → Bool

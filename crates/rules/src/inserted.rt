@@ -3,7 +3,7 @@ ghost use mathlib.Core.Path.{_≡_};
 ghost use mathlib.Core.List.{List, []};
 ghost use Prim.Native.Nat.{ℕ, _/_, _≤_, _<_};
 ghost use lib.ListN.{length};
-ghost use Rattle.event.specs.Room.{eventAt, onward};
+ghost use Rattle.event.specs.Room.{Placed, wholeEvents};
 ghost use Rattle.rules.specs.View.{view};
 ghost use Rattle.rules.specs.Verdict.{targetAnswer};
 ghost use Rattle.rules.specs.Pass.{newFault, Marked};
@@ -15,7 +15,8 @@ use event::Word;
 use event::index_of;
 use event::room::get;
 
-// 15 or 16 of a target event, or 0: whether it has a source, is a load, and is the first access to its location.
+// 15 or 16 of a target event, or 0, by whether it has a source, is a load, and is the first access to its location since the last
+// synchronising event.
 fn new_fault(sourced: bool, load: bool, fresh: bool) -> Word
     ensures { λ r. ⌜ r ≡ newFault sourced load fresh ⌝ }
 {
@@ -33,8 +34,8 @@ fn new_fault(sourced: bool, load: bool, fresh: bool) -> Word
 
 pub(crate) fn target_answer(target: &[Word], marks: &[bool; 801]) -> Answer
     requires { ⌜ length (now target) / 6 ≤ 800 ⌝ }
-    requires { ⌜ ((i : ℕ) → i < length (now target) / 6 → eventAt (now target) i .place < 256) ⌝ }
-    ensures { λ r. ⌜ ((ns : List ℕ) → Marked (now (marks .entry)) ns → r ≡ targetAnswer view ns 1 [] (onward (now (target .entry)) 0 (length (now (target .entry)) / 6))) ⌝ }
+    requires { ⌜ Placed (now target) ⌝ }
+    ensures { λ r. ⌜ ((ns : List ℕ) → Marked (now (marks .entry)) ns → r ≡ targetAnswer view ns 1 [] (wholeEvents (now (target .entry)))) ⌝ }
 {
     let mut fresh: [bool; 256] = [true; 256];
     let mut k: usize = 0;

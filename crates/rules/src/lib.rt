@@ -1,4 +1,4 @@
-// The judge: the answer to two traces and a matching that were read, 7 to 16, in one pass for each question.
+// The judge: the answer to two traces and a matching that were read, 7 to 16, in a pass or two for each question.
 pub mod inserted;
 pub mod numbers;
 pub mod seen;

@@ -5,9 +5,6 @@ ghost use Rattle.rules.specs.View.{view, same};
 ghost use Rattle.rules.specs.Pass.{isWall, isLoad};
 use event::Event;
 
-// The mark of a load whose value is used.
-pub const USED: event::Word = 6;
-
 pub(crate) fn both(a: bool, b: bool) -> bool
     ensures { λ r. ⌜ r ≡ (a && b) ⌝ }
 {

@@ -3,14 +3,13 @@ ghost use mathlib.Core.Path.{_≡_};
 ghost use mathlib.Core.Bool.{cond};
 ghost use mathlib.Core.Option.{some};
 ghost use mathlib.Core.List.{[]};
-ghost use Prim.Native.Nat.{ℕ, _/_, _≤_, _<_};
+ghost use Prim.Native.Nat.{_/_, _≤_, _<_};
 ghost use lib.ListN.{length};
-ghost use Rattle.event.specs.Room.{eventAt, onward};
+ghost use Rattle.event.specs.Room.{Placed, wholeEvents};
 ghost use Rattle.rules.specs.View.{view};
 ghost use Rattle.rules.specs.Fault.{is, unlike};
 ghost use Rattle.rules.specs.Verdict.{sourceAnswer};
 ghost use Rattle.rules.specs.Pass.{Flagged, cellOf, closingAfter, crossedBy, eventFault, goneFault, larger, takesOver, topsOf, witnessOf, witnessed};
-use crate::seen::USED;
 use crate::seen::both;
 use crate::seen::is_load;
 use crate::seen::is_same;
@@ -19,6 +18,7 @@ use event::Answer;
 use event::Event;
 use event::Word;
 use event::index_of;
+use event::kind::USED;
 use event::room::get;
 
 // Whether a store before a plain event is closing, by whether one after the event is.
@@ -37,7 +37,7 @@ fn closing_after(load: bool, entry: Word, closing: bool) -> bool
 // For each source event, whether a store to its location there is closing.
 fn closing_flags(source: &[Word], entries: &[Word]) -> [bool; 800]
     requires { ⌜ length (now source) / 6 ≤ 800 ⌝ }
-    requires { ⌜ ((i : ℕ) → i < length (now source) / 6 → eventAt (now source) i .place < 256) ⌝ }
+    requires { ⌜ Placed (now source) ⌝ }
     requires { ⌜ length (now entries) ≡ length (now source) / 6 ⌝ }
     ensures { λ r. ⌜ Flagged r (now (source .entry)) (now (entries .entry)) ⌝ }
 {
@@ -156,7 +156,7 @@ fn gone_fault(e: Event, cell: Cell, witness: Witness) -> Word
 // 10: whether a kept event differs from its target event.
 fn differs(target: &[Word], e: Event, n: Word) -> bool
     requires { ⌜ 0 < n ⌝ }
-    ensures { λ r. ⌜ r ≡ unlike (onward (now (target .entry)) 0 (length (now (target .entry)) / 6)) e n ⌝ }
+    ensures { λ r. ⌜ r ≡ unlike (wholeEvents (now (target .entry))) e n ⌝ }
 {
     !is_same(e, get(target, index_of(n) - 1))
 }
@@ -173,7 +173,7 @@ fn is_crossed(e: Event, n: Word, tops: Tops) -> bool
 
 // 10 to 14 of a source event, or 0.
 fn event_fault(target: &[Word], e: Event, n: Word, cell: Cell, witness: Witness, tops: Tops) -> Word
-    ensures { λ r. ⌜ r ≡ eventFault (onward (now (target .entry)) 0 (length (now (target .entry)) / 6)) e n cell (witnessed witness) tops ⌝ }
+    ensures { λ r. ⌜ r ≡ eventFault (wholeEvents (now (target .entry))) e n cell (witnessed witness) tops ⌝ }
 {
     if n == 0 {
         return gone_fault(e, cell, witness);
@@ -200,10 +200,10 @@ fn witness_after(over: bool, value: Word, witness: Witness) -> Witness
 // The source events upward.
 fn source_pass(source: &[Word], target: &[Word], entries: &[Word], flags: &[bool; 800]) -> Answer
     requires { ⌜ length (now source) / 6 ≤ 800 ⌝ }
-    requires { ⌜ ((i : ℕ) → i < length (now source) / 6 → eventAt (now source) i .place < 256) ⌝ }
+    requires { ⌜ Placed (now source) ⌝ }
     requires { ⌜ length (now entries) ≡ length (now source) / 6 ⌝ }
     requires { ⌜ Flagged (now flags) (now source) (now entries) ⌝ }
-    ensures { λ r. ⌜ r ≡ sourceAnswer view (onward (now (target .entry)) 0 (length (now (target .entry)) / 6)) 1 [] (onward (now (source .entry)) 0 (length (now (source .entry)) / 6)) (now (entries .entry)) ⌝ }
+    ensures { λ r. ⌜ r ≡ sourceAnswer view (wholeEvents (now (target .entry))) 1 [] (wholeEvents (now (source .entry))) (now (entries .entry)) ⌝ }
 {
     let mut fresh: [bool; 256] = [true; 256];
     let mut held: [bool; 256] = [false; 256];
@@ -243,9 +243,9 @@ fn source_pass(source: &[Word], target: &[Word], entries: &[Word], flags: &[bool
 
 pub(crate) fn source_answer(source: &[Word], target: &[Word], entries: &[Word]) -> Answer
     requires { ⌜ length (now source) / 6 ≤ 800 ⌝ }
-    requires { ⌜ ((i : ℕ) → i < length (now source) / 6 → eventAt (now source) i .place < 256) ⌝ }
+    requires { ⌜ Placed (now source) ⌝ }
     requires { ⌜ length (now entries) ≡ length (now source) / 6 ⌝ }
-    ensures { λ r. ⌜ r ≡ sourceAnswer view (onward (now (target .entry)) 0 (length (now (target .entry)) / 6)) 1 [] (onward (now (source .entry)) 0 (length (now (source .entry)) / 6)) (now (entries .entry)) ⌝ }
+    ensures { λ r. ⌜ r ≡ sourceAnswer view (wholeEvents (now (target .entry))) 1 [] (wholeEvents (now (source .entry))) (now (entries .entry)) ⌝ }
 {
     let flags = closing_flags(source, entries);
     source_pass(source, target, entries, &flags)

@@ -8,7 +8,8 @@ use native.Mathlib.Omega.{arith}
 use lib.ListN.{length, take, drop}
 use Rattle.text.specs.Field.{fieldAt, fieldsFrom, onField, onEnd}
 use Rattle.text.specs.Number.{numberOf, onNumber, decimal}
-use Rattle.text.specs.Take.{onRead, onStep, takeNumber, none, endsAt}
+use Rattle.text.specs.Cut.{isEmpty}
+use Rattle.text.specs.Take.{onRead, onStep, takeNumber, endsAt}
 use Rattle.text.specs.declared.field.FieldStep.{FieldStep}
 use Rattle.text.specs.declared.field.FieldStep.the-variants.{Field, LineEnd}
 use Rattle.text.specs.declared.number.NumberRead.{NumberRead}
@@ -79,11 +80,11 @@ module _ (l : List ℕ) (at max : ℕ) {R : Type 0} (r : R) (K : ℕ → List (L
   bad h = bad-field (fieldAt l at) refl h
 
 module _ {R : Type 0} (r : R) where
-  end-of : (fs : List (List ℕ)) (x : R) → none fs ≡ true → onEnd r fs x ≡ x
+  end-of : (fs : List (List ℕ)) (x : R) → isEmpty fs ≡ true → onEnd r fs x ≡ x
   end-of [] x h = refl
   end-of (p ∷ ps) x h = absurd (false≢true h)
 
-  not-end-of : (fs : List (List ℕ)) (x : R) → none fs ≡ false → onEnd r fs x ≡ r
+  not-end-of : (fs : List (List ℕ)) (x : R) → isEmpty fs ≡ false → onEnd r fs x ≡ r
   not-end-of [] x h = absurd (false≢true (sym h))
   not-end-of (p ∷ ps) x h = refl
 

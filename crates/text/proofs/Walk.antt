@@ -6,8 +6,8 @@ use mathlib.Core.List.{List, [], _∷_}
 use native.Mathlib.Omega.{arith}
 use lib.ListN.{length, getD, take, drop, length-drop, drop-of-length-le}
 use lib.Seq.{drop-cons, take-all}
-use Rattle.text.specs.Cut.{until, cut}
-use Rattle.text.specs.Line.{lineLen, splitFrom, isEmpty}
+use Rattle.text.specs.Cut.{until, cut, isEmpty}
+use Rattle.text.specs.Line.{lineLen, splitFrom}
 use Rattle.text.proofs.Cuts.{from-step, from-in, from-out, until-in}
 
 -- some part is left

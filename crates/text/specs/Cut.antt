@@ -1,10 +1,15 @@
 -- Document 01, "Trace text": "Lines end in LF; fields are parted by one tab." What the two have in common is here, over the byte s at which a text is
 -- cut. Assumes nothing.
 use Prim.Native.Nat.{ℕ, suc}
-use mathlib.Core.Bool.{cond}
+use mathlib.Core.Bool.{Bool, true, false, cond}
 use mathlib.Core.List.{List, [], _∷_, _++_}
 use lib.Dec.{eqb, ltb}
 use lib.ListN.{length, drop}
+
+-- Whether there is nothing.
+abbrev pub isEmpty : {A : Type 0} → List A → Bool
+isEmpty [] = true
+isEmpty (x ∷ l) = false
 
 -- How many bytes come before the first s, or the end.
 unfoldable pub until : ℕ → List ℕ → ℕ

@@ -1,8 +1,11 @@
 -- Document 01, "Trace text": "Lines end in LF", which is 10. Assumes nothing.
 use Prim.Native.Nat.{ℕ}
-use mathlib.Core.Bool.{Bool, true, false}
-use mathlib.Core.List.{List, [], _∷_}
+use mathlib.Core.List.{List}
 use Rattle.text.specs.Cut.{until, cut, cutFrom, glue}
+
+-- The longest text.
+abbrev pub textLimit : ℕ
+textLimit = 32400
 
 -- How many bytes come before the first LF, or the end.
 abbrev pub lineLen : List ℕ → ℕ
@@ -19,8 +22,3 @@ splitFrom t at = cutFrom 10 t at
 -- Lines with one LF between each two.
 abbrev pub unsplit : List (List ℕ) → List ℕ
 unsplit ls = glue 10 ls
-
--- Whether nothing stands in a line: so it must be after the last LF.
-abbrev pub isEmpty : List ℕ → Bool
-isEmpty [] = true
-isEmpty (b ∷ l) = false

@@ -1,9 +1,10 @@
 -- Document 01, "Numbers that come back": a line is read through a reader that "hands out the next field or says that the line has ended". Here a field
 -- that is a number is taken from a place of a line. Assumes nothing.
 use Prim.Native.Nat.{ℕ, _+_, _-_}
-use mathlib.Core.Bool.{Bool, true, false}
-use mathlib.Core.List.{List, [], _∷_}
+use mathlib.Core.Bool.{Bool}
+use mathlib.Core.List.{List}
 use lib.ListN.{take, drop}
+use Rattle.text.specs.Cut.{isEmpty}
 use Rattle.text.specs.Field.{fieldAt, fieldsFrom}
 use Rattle.text.specs.Number.{numberOf}
 use Rattle.text.specs.declared.field.FieldStep.{FieldStep}
@@ -27,11 +28,6 @@ onStep l max LineEnd = Bad
 unfoldable pub takeNumber : List ℕ → ℕ → ℕ → Taken
 takeNumber l at max = onStep l max (fieldAt l at)
 
--- Whether there is no field.
-abbrev pub none : List (List ℕ) → Bool
-none [] = true
-none (p ∷ ps) = false
-
 -- Whether no field starts at a place of a line or after it.
 unfoldable pub endsAt : List ℕ → ℕ → Bool
-endsAt l at = none (fieldsFrom l at)
+endsAt l at = isEmpty (fieldsFrom l at)

@@ -1,24 +1,24 @@
 -- Rooms and texts in a cycle: what the writer makes of a room is read back into a room as the same events, and what a reading puts in a room
 -- is written as the same bytes. Both follow from one trace having one text, as six words are one event. Assumes nothing.
-use Prim.Native.Nat.{ℕ, zero, suc, _+_, _*_, _/_, _≤_, _<_}
+use Prim.Native.Nat.{ℕ, zero, suc, _+_, _*_, _/_, _≤_}
 use mathlib.Core.Path.{_≡_, refl, ap}
 use mathlib.Core.Bool.{true}
 use mathlib.Core.List.{List, [], _∷_, _++_}
 use native.Mathlib.Omega.{arith}
 use lib.Dec.{ltb}
-use lib.ListN.{length, getD, take, drop, length-append}
-use lib.Seq.{append-snoc, getD-append-seam, getD-append-add, take-at}
-use borrow.Author.Tests.{ltb-false, le-ltb, lt-ltb, le-leb}
+use lib.ListN.{length, getD, take, drop}
+use lib.Seq.{take-at}
+use borrow.Author.Tests.{ltb-false, le-ltb, le-leb}
 use Rattle.laws.proofs.Cases.{cases, either, not-first, not-second}
 use Rattle.laws.proofs.Lists.{Each}
 use Rattle.event.specs.Answer.{answer, done}
 use Rattle.event.specs.Kind.{lawful}
 use Rattle.event.specs.Memory.{stepped}
-use Rattle.event.specs.Room.{words, flat, inRoom, eventFrom, eventAt, onward}
+use Rattle.event.specs.Room.{flat, inRoom, eventAt, onward}
 use Rattle.event.specs.declared.Answer.{Answer}
 use Rattle.event.specs.declared.Event.{Event}
 use Rattle.event.specs.declared.memory.Memory.{Memory}
-use Rattle.event.proofs.Rooms.{flat-append, flat-length}
+use Rattle.event.proofs.Rooms.{flat-length, onward-flat}
 use Rattle.trace.specs.Fault.{clashes, eventFault}
 use Rattle.trace.specs.Reading.{surveyOf, eventsOf, roomAfter}
 use Rattle.trace.specs.Writing.{countOf, roomEvents, layoutFault, traceText, roomFault, bytesOf, inOut, writeOf, outAfter}
@@ -97,35 +97,10 @@ module _ (m : Memory) (room out : List ℕ) (size : length (m .cells) ≡ 256) (
       (read-written side m (roomEvents room) written-fits (fault-none 0 side 1 1 m [] (roomEvents room) (no-fault .1 .1)))
 
 -- the events of the words of events are those events
-from-words : (F : List ℕ) (e : Event) (r : List ℕ) → eventFrom (F ++ (words e ++ r)) (length F) ≡ e
-from-words F e r =
-    rw (
-      getD-append-seam F (e .kind),
-      getD-append-add F (words e ++ r) 1,
-      getD-append-add F (words e ++ r) 2,
-      getD-append-add F (words e ++ r) 3,
-      getD-append-add F (words e ++ r) 4,
-      getD-append-add F (words e ++ r) 5,
-    )
-
-at-words : (x : List Event) (e : Event) (y : List Event) → eventAt (flat (x ++ e ∷ y)) (length x) ≡ e
-unfolding eventAt flat
-at-words x e y =
-    let n : length (flat (x ++ e ∷ y)) ≡ length (x ++ e ∷ y) * 6 = flat-length (x ++ e ∷ y) in
-    let i : length x < length (flat (x ++ e ∷ y)) / 6 = omega (arith, n, length-append x (e ∷ y)) in
-    rw (lt-ltb (length x) (length (flat (x ++ e ∷ y)) / 6) i, flat-append x (e ∷ y), ← flat-length x) (from-words (flat x) e (flat y))
-
-onward-words : (x y : List Event) → onward (flat (x ++ y)) (length x) (length y) ≡ y
-unfolding onward
-onward-words x [] = refl
-onward-words x (e ∷ y) =
-    let i : onward (flat (x ++ e ∷ y)) (length x + 1) (length y) ≡ y = simp (append-snoc, length-append) at (onward-words (x ++ (e ∷ [])) y) in
-    rw (at-words x e y, i)
-
 room-words : (es : List Event) → roomEvents (flat es) ≡ es
 room-words es =
     let n : (length (flat es) + 5) / 6 ≡ length es = omega (arith, flat-length es) in
-    rw n (onward-words [] es)
+    rw n (onward-flat es)
 
 -- Document 01, "Lent room": "Otherwise the events (and entries, for the check) stand at the front of the rooms". Written from there, with the
 -- starting memory that the reading hands back, they are the bytes that were read.

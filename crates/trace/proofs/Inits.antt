@@ -15,7 +15,8 @@ use Rattle.event.specs.declared.Event.{Event}
 use Rattle.event.specs.declared.memory.Memory.{Memory}
 use Rattle.record.specs.Record.{recordOf}
 use Rattle.trace.specs.Fault.{eventFault}
-use Rattle.text.specs.Line.{isEmpty}
+use Rattle.text.specs.Cut.{isEmpty}
+use Rattle.text.specs.Line.{}
 use Rattle.trace.specs.Reading.{linesFault, onEventLine, initsFault, eventsIn, onInit, startIn, startFrom, settle, refused, surveyInits}
 use Rattle.trace.specs.Survey.{surveyEvents}
 use Rattle.record.specs.declared.Record.{Record}

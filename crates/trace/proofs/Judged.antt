@@ -1,10 +1,9 @@
 -- The events of a room one by one: the first of those that are left, what 18 says of it, and what 5 and 6 say of it. Assumes nothing.
 use Prim.Native.Nat.{ℕ, suc, _+_, _-_, _≤_, _<_}
-use mathlib.Core.Bool.{Bool, true, false}
-use mathlib.Core.Path.{_≡_, refl, sym}
+use mathlib.Core.Bool.{true, false}
+use mathlib.Core.Path.{_≡_, refl}
 use mathlib.Core.List.{List, [], _∷_}
 use native.Mathlib.Omega.{arith}
-use lib.ListN.{getD, set}
 use Rattle.laws.proofs.Cases.{cases, either}
 use Rattle.event.specs.Answer.{answer, done}
 use Rattle.event.specs.Kind.{lawful}
@@ -13,9 +12,7 @@ use Rattle.event.specs.Room.{eventAt, onward}
 use Rattle.event.specs.declared.Event.{Event}
 use Rattle.event.specs.declared.memory.Memory.{Memory}
 use Rattle.trace.specs.Fault.{clashes, eventFault}
-use Rattle.trace.specs.Way.{opposed, joined}
 use Rattle.trace.specs.Writing.{layoutFault}
-use Rattle.trace.proofs.Ways.{Marks}
 
 module _ (room : List ℕ) (i n : ℕ) where
   pub onward-next : i < n → onward room i (n - i) ≡ eventAt room i ∷ onward room (i + 1) (n - (i + 1))
@@ -59,11 +56,3 @@ fault-go side k m before e es q r = rw (q, r)
 pub fault-end : (side k : ℕ) (m : Memory) (before : List Event) → eventFault side k m before [] ≡ done
 unfolding eventFault
 fault-end side k m before = refl
-
--- what the calls of a turn tell: how the location i was used, and the way v of this event
-pub opposed-told : (l : List ℕ) {i j v w : ℕ} {r : Bool} → i ≡ j → v ≡ w → r ≡ opposed (getD l i 0) v → opposed (getD l j 0) w ≡ r
-opposed-told l p q h = rw (← p, ← q) (sym h)
-
-pub marks-told : (l : List ℕ) (es : List Event) {i j v w r : ℕ} → i ≡ j → v ≡ w → r ≡ joined (getD l i 0) v
-    → Marks (set l j (joined (getD l j 0) w)) es → Marks (set l i r) es
-marks-told l es p q h m = rw (h, p, q) m

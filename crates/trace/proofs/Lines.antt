@@ -7,7 +7,8 @@ use borrow.Author.Tests.{le-leb, lt-leb}
 use Rattle.event.specs.Answer.{answer, done}
 use Rattle.event.specs.declared.Event.{Event}
 use Rattle.record.specs.Record.{recordOf}
-use Rattle.text.specs.Line.{isEmpty}
+use Rattle.text.specs.Cut.{isEmpty}
+use Rattle.text.specs.Line.{}
 use Rattle.trace.specs.Reading.{linesFault}
 use Rattle.record.specs.declared.Record.the-variants.{Init, Line, Refused}
 use Rattle.text.proofs.Walk.{Some}

@@ -13,11 +13,11 @@ use Rattle.event.specs.Answer.{answer, first}
 use Rattle.event.specs.Memory.{empty}
 use Rattle.event.specs.declared.Answer.{Answer}
 use Rattle.event.specs.declared.memory.Memory.{Memory}
-use Rattle.text.specs.Line.{split}
+use Rattle.text.specs.Line.{split, textLimit}
 use Rattle.text.specs.Word.{same}
 use Rattle.record.specs.Layout.{header}
 use Rattle.trace.specs.Fault.{eventFault}
-use Rattle.trace.specs.Reading.{textLimit, initsFault, eventsIn, startFrom, refused, settle, surveyInits, surveyParts, surveyOf, body, eventsOf, readOf, front, roomAfter}
+use Rattle.trace.specs.Reading.{initsFault, eventsIn, startFrom, refused, settle, surveyInits, surveyParts, surveyOf, body, eventsOf, readOf, front, roomAfter}
 use Rattle.trace.specs.declared.reading.TraceRead.{TraceRead}
 
 -- what a survey counts: n events where it does not refuse, none where it does

@@ -76,3 +76,11 @@ module _ (ways : List ℕ) (before : List Event) (e : Event) (inside : e .place 
         (λ i. let g : getD (set ways (e .place) (joined was (wayOf (e .kind)))) l 0 ≡ getD ways l 0 =
         getD-set-other ways (e .place) l (joined was (wayOf (e .kind))) 0 (λ y. eqb-false (e .place) l i (sym y)) in
         rw g (rw (i, and-false, and-false) (marks l h)))
+
+-- what the calls of a turn tell: how the location i was used, and the way v of this event
+pub opposed-told : (l : List ℕ) {i j v w : ℕ} {r : Bool} → i ≡ j → v ≡ w → r ≡ opposed (getD l i 0) v → opposed (getD l j 0) w ≡ r
+opposed-told l p q h = rw (← p, ← q) (sym h)
+
+pub marks-told : (l : List ℕ) (es : List Event) {i j v w r : ℕ} → i ≡ j → v ≡ w → r ≡ joined (getD l i 0) v
+    → Marks (set l j (joined (getD l j 0) w)) es → Marks (set l i r) es
+marks-told l es p q h m = rw (h, p, q) m

@@ -13,7 +13,8 @@ use Rattle.laws.proofs.Cases.{not-first}
 use Rattle.laws.proofs.Lists.{Each, each-append}
 use Rattle.event.specs.Answer.{answer, done}
 use Rattle.event.specs.declared.Answer.{Answer}
-use Rattle.text.specs.Line.{isEmpty}
+use Rattle.text.specs.Cut.{isEmpty}
+use Rattle.text.specs.Line.{}
 use Rattle.text.proofs.Walk.{Some}
 use Rattle.record.specs.Record.{recordOf}
 use Rattle.trace.specs.Reading.{onEventLine, linesFault, onInitLine, initsFault, eventsIn, startIn}

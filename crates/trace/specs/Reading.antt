@@ -10,7 +10,8 @@ use Rattle.event.specs.Room.{flat}
 use Rattle.event.specs.declared.Answer.{Answer}
 use Rattle.event.specs.declared.Event.{Event}
 use Rattle.event.specs.declared.memory.Memory.{Memory}
-use Rattle.text.specs.Line.{split, isEmpty}
+use Rattle.text.specs.Cut.{isEmpty}
+use Rattle.text.specs.Line.{split, textLimit}
 use Rattle.text.specs.Word.{same}
 use Rattle.record.specs.Layout.{header}
 use Rattle.record.specs.Record.{recordOf}
@@ -19,10 +20,7 @@ use Rattle.record.specs.declared.Record.{Record}
 use Rattle.record.specs.declared.Record.the-variants.{Init, Line, Refused}
 use Rattle.trace.specs.declared.reading.TraceRead.{TraceRead}
 
--- The longest text, and the most events.
-abbrev pub textLimit : ℕ
-textLimit = 32400
-
+-- The most events.
 abbrev pub eventLimit : ℕ
 eventLimit = 800
 

@@ -1,4 +1,4 @@
-// Answers 5 and 6: what one event more brings.
+// Answer 5: how a location is used, and what one event more brings.
 ghost use mathlib.Core.Path.{_≡_};
 ghost use Rattle.trace.specs.Way.{wayOf, opposed, joined};
 use event::Word;

@@ -19,12 +19,11 @@ use event::memory::Stepped;
 use event::room::put;
 use record::Record;
 use record::record_of;
+use text::line::TEXT_LIMIT;
 use text::line::line_end;
 use text::word::same_bytes;
 
-// The longest text, and the most events.
-pub const TEXT_LIMIT: usize = 32400;
-
+// The most events.
 pub const EVENT_LIMIT: usize = 800;
 
 // What a reading hands back: its answer, the number of events and the starting memory, both 0 under a refusal.

@@ -5,12 +5,12 @@ use mathlib.Core.List.{List}
 use mathlib.Core.Path.{_≡_, sym, _∙_}
 use lib.Dec.{leb}
 use borrow.Author.Tests.{not-true, not-false}
-use Rattle.event.specs.Kind.{row}
+use Rattle.event.specs.Kind.{row, lastPlace}
 use Rattle.text.specs.Field.{fieldsFrom, onEnd}
 use Rattle.text.proofs.Takes.{ended, not-ended}
 use Rattle.record.specs.Layout.{hasPlace, hasOrder, hasMark}
 use Rattle.record.specs.Part.{numberPart, orderPart}
-use Rattle.record.specs.Record.{lastPlace, lastValue, numberIf, orderIf, lawfulLine, eventRest}
+use Rattle.record.specs.Record.{lastValue, numberIf, orderIf, lawfulLine, eventRest}
 use Rattle.record.specs.declared.Record.{Record}
 use Rattle.record.specs.declared.Record.the-variants.{Refused}
 use Rattle.record.proofs.Taking.{number-given, number-refused, order-given, order-refused}

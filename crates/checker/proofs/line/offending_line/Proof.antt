@@ -2,10 +2,11 @@
 use Prim.Native.Nat.{ℕ}
 use mathlib.Core.List.{List}
 use mathlib.Core.Bool.{cond}
-use mathlib.Core.Path.{_≡_, ap, subst}
+use mathlib.Core.Path.{_≡_, ap, subst, sym, _∙_}
+use lib.Dec.{eqb}
 use borrow.Author.Tests.{ne-eqb}
 use borrow.Author.Needs.{needs}
-use Rattle.checker.specs.Line.{offendingLine, sideText, Spans}
+use Rattle.checker.specs.Line.{offendingLine, Spans}
 use Rattle.checker.proofs.line.offending_line.Statement.{statement}
 use Rattle.checker.proofs.line.offending_line.Tie as tie
 
@@ -16,7 +17,7 @@ in-target : (c : tie.Then1)
 in-target c =
     let a = c .before .before .before .before .before .args in
     subst (λ (t : List ℕ). Spans t (offendingLine (a .source .now) (a .target .now) (a .answer)) (c .before .before .offending-span .result))
-    (ap (λ (k : ℕ). sideText k (a .source .now) (a .target .now)) (c .if1 .taken))
+    (ap (λ (k : ℕ). cond (eqb k 2) (a .target .now) (a .source .now)) (sym (c .before .fault-side .ensures) ∙ c .if1 .taken))
     (c .before .before .offending-span .ensures .0)
 
 in-source : (c : tie.Else1)
@@ -25,11 +26,15 @@ in-source : (c : tie.Else1)
 in-source c =
     let a = c .before .before .before .before .before .args in
     subst (λ (t : List ℕ). Spans t (offendingLine (a .source .now) (a .target .now) (a .answer)) (c .before .before .offending-span .result))
-    (ap (λ b. cond b (a .target .now) (a .source .now)) (ne-eqb _ _ (c .if1 .left)))
+    (ap (λ (k : ℕ). cond (eqb k 2) (a .target .now) (a .source .now)) (sym (c .before .fault-side .ensures))
+    ∙ ap (λ b. cond b (a .target .now) (a .source .now)) (ne-eqb _ _ (c .if1 .left)))
     (c .before .before .offending-span .ensures .0)
 
 offending-span-requires : tie.Need-offending-span-requires
 offending-span-requires c κs = search needs
+
+fault-side-requires : tie.Need-fault-side-requires
+fault-side-requires c κs = search needs
 
 sub-result : tie.Need-sub-result
 sub-result c = search needs
@@ -60,6 +65,7 @@ offending-line-spec =
     tie.close
     (tie.spec
     offending-span-requires
+    fault-side-requires
     sub-result
     part-result-start
     part-result-end

@@ -1,5 +1,5 @@
 -- The side decides which text the part is of; another side names no line. Assumes nothing.
-use mathlib.Core.Path.{refl}
+use mathlib.Core.Path.{refl, sym, _∙_}
 use native.Mathlib.Omega.{arith}
 use borrow.Author.Tests.{ne-eqb}
 use borrow.Author.Needs.{needs}
@@ -7,25 +7,29 @@ use Rattle.checker.specs.Line.{offendingLine, offendingSpan}
 use Rattle.checker.proofs.line.offending_span.Statement.{statement}
 use Rattle.checker.proofs.line.offending_span.Tie as tie
 
+fault-side-requires : tie.Need-fault-side-requires
+fault-side-requires c κs = search needs
+
 fault-span-requires : tie.Need-fault-span-requires
 fault-span-requires c κs = search needs
 
 returns : tie.Need-returns
 unfolding offendingLine offendingSpan
-returns c = rw (c .before .if1 .taken) (c .fault-span .ensures)
+returns c = rw (sym (c .before .before .fault-side .ensures) ∙ c .before .if1 .taken) (c .fault-span .ensures)
 
 fault-span-requires-2 : tie.Need-fault-span-requires-2
 fault-span-requires-2 c κs = search needs
 
 returns-2 : tie.Need-returns-2
 unfolding offendingLine offendingSpan
-returns-2 c = rw (c .before .if2 .taken) (c .fault-span2 .ensures)
+returns-2 c = rw (sym (c .before .before .before .fault-side .ensures) ∙ c .before .if2 .taken) (c .fault-span2 .ensures)
 
 returns-3 : tie.Need-returns-3
 unfolding offendingLine offendingSpan
 returns-3 c =
-    rw (ne-eqb _ _ (c .before .if1 .left), ne-eqb _ _ (c .if2 .left))
+    rw (← c .before .before .fault-side .ensures, ne-eqb _ _ (c .before .if1 .left), ne-eqb _ _ (c .if2 .left))
     (record { rises = omega arith; within = omega arith; is = refl }, refl)
 
 pub offending-span-spec : {M : Type 1} → statement M
-offending-span-spec = tie.close (tie.spec fault-span-requires returns fault-span-requires-2 returns-2 returns-3)
+offending-span-spec =
+    tie.close (tie.spec fault-side-requires fault-span-requires returns fault-span-requires-2 returns-2 returns-3)

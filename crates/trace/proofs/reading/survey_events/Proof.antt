@@ -21,7 +21,7 @@ use Rattle.record.specs.Record.{recordOf}
 use Rattle.trace.specs.Fault.{clashes, eventFault}
 use Rattle.trace.specs.Reading.{refused, linesFault, eventsIn}
 use Rattle.trace.specs.Survey.{surveyEvents}
-use Rattle.trace.specs.Way.{wayOf, opposed, joined}
+use Rattle.trace.specs.Way.{wayOf, opposed}
 use Rattle.record.specs.declared.Record.{Record}
 use Rattle.record.specs.declared.Record.the-variants.{Line}
 use Rattle.trace.specs.declared.reading.TraceRead.{TraceRead}
@@ -29,7 +29,7 @@ use Rattle.text.proofs.Walk.{Some, line, parts-line, parts-open, parts-end, par
 use Rattle.trace.proofs.Lines.{lines-open, lines-refused, lines-init, lines-full}
 use Rattle.trace.proofs.Surveys.{surveyOn, on-start, on-refused, on-fault, fault-five, fault-six, on-go, on-end}
 use Rattle.record.proofs.Records.{line-lawful}
-use Rattle.trace.proofs.Ways.{Marks, marks-start, clash, marks-next}
+use Rattle.trace.proofs.Ways.{Marks, marks-start, clash, marks-next, opposed-told, marks-told}
 use Rattle.trace.proofs.reading.survey_events.Statement.{statement}
 use Rattle.trace.proofs.reading.survey_events.Tie as tie
 
@@ -146,12 +146,9 @@ ways c = end (its-r c) .before .before .loop .ways
 marks : (c : tie.After-way-of Inv-loop μ-loop) → Marks (ways c) (before-it (end (its-r c)))
 marks c = end (its-r c) .before .before .loop .inv .1 .1 .1 .1 .1 .0
 
-told : (l : List ℕ) {i j v w : ℕ} {r : Bool} → i ≡ j → v ≡ w → r ≡ opposed (getD l i 0) v → opposed (getD l j 0) w ≡ r
-told l p q h = rw (← p, ← q) (sym h)
-
 opposed-is : (c : tie.After-are-opposed Inv-loop μ-loop)
     → opposed (getD (ways (c .before)) (event (its-e (c .before)) .place) 0) (wayOf (event (its-e (c .before)) .kind)) ≡ c .are-opposed .result
-opposed-is c = told (ways (c .before)) (c .before .before .index-of .ensures) (c .before .way-of .ensures) (c .are-opposed .ensures)
+opposed-is c = opposed-told (ways (c .before)) (c .before .before .index-of .ensures) (c .before .way-of .ensures) (c .are-opposed .ensures)
 
 clash-is : (c : tie.After-are-opposed Inv-loop μ-loop) → clashes (before-it (end (its-r (c .before)))) (event (its-e (c .before))) ≡ c .are-opposed .result
 clash-is c =
@@ -197,10 +194,6 @@ apart c = c .before .if3 .left
 
 free : (c : tie.After-joined-way Inv-loop μ-loop) → clashes (before-it (end (its-r (joined-e c)))) (event (its-e (joined-e c))) ≡ false
 free c = clash-is (c .before .before) ∙ apart c
-
-marks-told : (l : List ℕ) (es : List Event) {i j v w r : ℕ} → i ≡ j → v ≡ w → r ≡ joined (getD l i 0) v
-    → Marks (set l j (joined (getD l j 0) w)) es → Marks (set l i r) es
-marks-told l es p q h m = rw (h, p, q) m
 
 marks-after : (c : tie.After-joined-way Inv-loop μ-loop)
     → Marks (set (ways (joined-e c)) (joined-e c .before .index-of .result) (c .joined-way .result)) (event (its-e (joined-e c)) ∷ before-it (end

@@ -18,9 +18,9 @@ use Rattle.event.proofs.Lawful.{place-below}
 use Rattle.trace.specs.Fault.{clashes, eventFault}
 use Rattle.trace.specs.Way.{wayOf, opposed}
 use Rattle.trace.specs.Writing.{layoutFault}
-use Rattle.trace.proofs.Judged.{event-next, onward-end, onward-all, layout-first, fault-go, fault-end, opposed-told, marks-told}
+use Rattle.trace.proofs.Judged.{event-next, onward-end, onward-all, layout-first, fault-go, fault-end}
 use Rattle.trace.proofs.Surveys.{fault-five, fault-six}
-use Rattle.trace.proofs.Ways.{Marks, marks-start, clash, marks-next}
+use Rattle.trace.proofs.Ways.{Marks, marks-start, clash, marks-next, opposed-told, marks-told}
 use Rattle.trace.proofs.writing.event_fault.Statement.{statement}
 use Rattle.trace.proofs.writing.event_fault.Tie as tie
 
