@@ -1,4 +1,4 @@
--- Small texts at which the definitions are computed, for a reader to compare. 97, 98 and 99 are the letters a, b and c. Assumes nothing.
+-- Small texts at which the definitions are computed, for a reader to compare. Assumes nothing.
 use Prim.Native.Nat.{ℕ}
 use mathlib.Core.Path.{_≡_, refl}
 use mathlib.Core.Bool.{true, false}
@@ -8,16 +8,16 @@ use Rattle.text.specs.Field.{fieldAt, fields, fieldsFrom}
 use Rattle.text.specs.Line.{split}
 use Rattle.text.specs.Number.{allDigits, valueOn, digitsOn, numberOf, dec, decimal}
 use Rattle.text.specs.Take.{takeNumber, endsAt}
+use Rattle.text.specs.Word.{bytes}
 use Rattle.text.specs.declared.field.FieldStep.the-variants.{Field, LineEnd}
 use Rattle.text.specs.declared.number.NumberRead.the-variants.{Value, Malformed}
 use Rattle.text.specs.declared.take.Taken.the-variants.{Number, Bad}
 
--- a, TAB, 2, 5, 5
 abbrev line : List ℕ
-line = 97 ∷ 9 ∷ 50 ∷ 53 ∷ 53 ∷ []
+line = bytes "a\t255"
 
 -- two lines, and nothing after the last LF
-lines : split (97 ∷ 10 ∷ 98 ∷ 99 ∷ 10 ∷ []) ≡ (97 ∷ []) ∷ (98 ∷ 99 ∷ []) ∷ [] ∷ []
+lines : split (bytes "a\nbc\n") ≡ bytes "a" ∷ bytes "bc" ∷ [] ∷ []
 unfolding cut
 lines = refl
 
@@ -26,12 +26,12 @@ one-field : fields [] ≡ [] ∷ []
 unfolding cut
 one-field = refl
 
-two-fields : fields (9 ∷ []) ≡ [] ∷ [] ∷ []
+two-fields : fields (bytes "\t") ≡ [] ∷ [] ∷ []
 unfolding cut
 two-fields = refl
 
 -- from the place after the TAB
-second : (fieldAt line 2 ≡ Field 2 5) × (fieldsFrom line 2 ≡ (50 ∷ 53 ∷ 53 ∷ []) ∷ [])
+second : (fieldAt line 2 ≡ Field 2 5) × (fieldsFrom line 2 ≡ bytes "255" ∷ [])
 unfolding fieldAt until cut cutFrom
 second = (refl, refl)
 
@@ -41,11 +41,11 @@ unfolding fieldAt until
 third = (refl, refl)
 
 -- 0 is a number, 01 and the empty word are none, and 255 is one up to the limit
-numbers : (numberOf 255 (48 ∷ []) ≡ Value 0) × (numberOf 255 (48 ∷ 49 ∷ []) ≡ Malformed) × (numberOf 255 [] ≡ Malformed)
+numbers : (numberOf 255 (bytes "0") ≡ Value 0) × (numberOf 255 (bytes "01") ≡ Malformed) × (numberOf 255 [] ≡ Malformed)
 unfolding numberOf digitsOn allDigits valueOn
 numbers = (refl, refl, refl)
 
-limit : (numberOf 255 (50 ∷ 53 ∷ 53 ∷ []) ≡ Value 255) × (numberOf 254 (50 ∷ 53 ∷ 53 ∷ []) ≡ Malformed)
+limit : (numberOf 255 (bytes "255") ≡ Value 255) × (numberOf 254 (bytes "255") ≡ Malformed)
 unfolding numberOf digitsOn allDigits valueOn
 limit = (refl, refl)
 
@@ -55,6 +55,6 @@ unfolding takeNumber fieldAt until numberOf digitsOn allDigits valueOn endsAt cu
 taken = (refl, refl, refl, refl)
 
 -- what is written of 0 and of 205
-written : (decimal 0 ≡ 48 ∷ []) × (decimal 205 ≡ 50 ∷ 48 ∷ 53 ∷ [])
+written : (decimal 0 ≡ bytes "0") × (decimal 205 ≡ bytes "205")
 unfolding decimal dec
 written = (refl, refl)
