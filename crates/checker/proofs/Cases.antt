@@ -20,12 +20,16 @@ use Rattle.checker.specs.Line.{counted, nthLine, lineOf, faultSide, offe
 use Rattle.checker.specs.Cases.{table, all-hold}
 
 pub P1-to-P12 : all-hold table ≡ true
-unfolding checkOf readingAnswer verdictOf verdict startAnswer countAnswer entryAnswer sourceAnswer targetAnswer readOf surveyOf surveyParts surveyInits initsFault linesFault eventsIn startIn eventsOf eventFault uses recordOf eventRest initRest numberIf orderIf numberIn matchingRead matchingSurvey matchingParts surveyLines entryLinesFault entriesIn entriesOf entryOf keepRest goneRest numberOf digitsOn valueOn allDigits cut same stepped after latest lawful takes row
+unfolding checkOf readingAnswer verdictOf verdict startAnswer countAnswer entryAnswer sourceAnswer targetAnswer readOf surveyOf
+    surveyParts surveyInits initsFault linesFault eventsIn startIn eventsOf eventFault uses recordOf eventRest initRest
+    numberIf orderIf numberIn matchingRead matchingSurvey matchingParts surveyLines entryLinesFault entriesIn entriesOf
+    entryOf keepRest goneRest numberOf digitsOn valueOn allDigits cut same stepped after latest lawful takes row
 P1-to-P12 = refl
 
 -- The line that the program prints for P10.
 pub P10-line :
     offendingLine (bytes "trace\t1\nstore\t1\t5\nunlock\t0\n") (bytes "trace\t1\nunlock\t0\nstore\t1\t5\n") (answer 12 1 2)
     ≡ bytes "unlock\t0"
-unfolding offendingLine faultSide lineOf nthLine counted recordOf eventRest initRest numberIf orderIf numberIn numberOf digitsOn valueOn allDigits cut same lawful takes row
+unfolding offendingLine faultSide lineOf nthLine counted recordOf eventRest initRest numberIf orderIf numberIn numberOf
+    digitsOn valueOn allDigits cut same lawful takes row
 P10-line = refl

@@ -8,31 +8,34 @@ use borrow.Author.Needs.{needs}
 use Rattle.event.proofs.kind.suits.Statement.{statement}
 use Rattle.event.proofs.kind.suits.Tie as tie
 
--- what each test says
+-- the fields that are asked about, from where each test was made
+abbrev asked₁ : tie.After-takes-order → tie.Start
+asked₁ c = c .before .before
+
+abbrev asked₂ : tie.After-fits-place → tie.Start
+asked₂ c = asked₁ (c .before .before)
+
+abbrev asked₃ : tie.After-fits-values → tie.Start
+asked₃ c = asked₂ (c .before .before)
+
+-- what each test says of them
 orders :
-    (c : tie.After-takes-order) → takes (row (c .before .before .args .kind) .orders) (c .before .before .args .order) ≡ c .takes-order .result
+    (c : tie.After-takes-order) → takes (row (asked₁ c .args .kind) .orders) (asked₁ c .args .order) ≡ c .takes-order .result
 orders c = rw (← c .before .row-of .ensures) (sym (c .takes-order .ensures))
 
 orders-held :
-    (c : tie.Else1) → takes (row (c .before .before .before .args .kind) .orders) (c .before .before .before .args .order) ≡ true
+    (c : tie.Else1) → takes (row (asked₁ (c .before) .args .kind) .orders) (asked₁ (c .before) .args .order) ≡ true
 orders-held c = orders (c .before) ∙ not-false _ (c .if1 .left)
 
-place :
-    (c : tie.After-fits-place)
-    → fitsPlace (row (c .before .before .before .before .args .kind) .place) (c .before .before .before .before .args .place)
-    ≡ c .fits-place .result
+place : (c : tie.After-fits-place) → fitsPlace (row (asked₂ c .args .kind) .place) (asked₂ c .args .place) ≡ c .fits-place .result
 place c = rw (← c .before .before .before .row-of .ensures) (sym (c .fits-place .ensures))
 
-place-held :
-    (c : tie.Else2)
-    → fitsPlace (row (c .before .before .before .before .before .args .kind) .place) (c .before .before .before .before .before .args .place)
-    ≡ true
+place-held : (c : tie.Else2) → fitsPlace (row (asked₂ (c .before) .args .kind) .place) (asked₂ (c .before) .args .place) ≡ true
 place-held c = place (c .before) ∙ not-false _ (c .if2 .left)
 
 values :
     (c : tie.After-fits-values)
-    → fitsValues (row (c .before .before .before .before .before .before .args .kind) .values) (c .before .before .before .before .before .before .args .first) (c .before .before .before .before .before .before .args .second)
-    ≡ c .fits-values .result
+    → fitsValues (row (asked₃ c .args .kind) .values) (asked₃ c .args .first) (asked₃ c .args .second) ≡ c .fits-values .result
 values c = rw (← c .before .before .before .before .before .row-of .ensures) (sym (c .fits-values .ensures))
 
 row-of-requires : tie.Need-row-of-requires
