@@ -7,8 +7,9 @@ ghost use lib.ListN.{length};
 ghost use Rattle.io.specs.Counts.{Counts};
 use checker::check;
 use checker::line::offending_line;
+use event::Entry;
 use event::Word;
-use event::index_of;
+use event::number_index;
 use libc::STDOUT_FILENO;
 use run::Outcome;
 use run::outcome_of;
@@ -85,7 +86,7 @@ fn print_line(line: &[u8]) {
 fn print_check<'a>(source: &'a [u8], target: &'a [u8], matching: &[u8]) {
     let mut source_room: [Word; 4800] = [0; 4800];
     let mut target_room: [Word; 4800] = [0; 4800];
-    let mut entry_room: [Word; 800] = [0; 800];
+    let mut entry_room: [Entry; 800] = [0; 800];
     let checked = check(
         source,
         target,
@@ -100,7 +101,11 @@ fn print_check<'a>(source: &'a [u8], target: &'a [u8], matching: &[u8]) {
     } else {
         print(b"refused");
     }
-    print_answer(index_of(answer.number), index_of(answer.side), answer.place);
+    print_answer(
+        number_index(answer.number),
+        number_index(answer.side),
+        answer.place,
+    );
     print_line(offending_line(source, target, answer));
 }
 
@@ -144,7 +149,11 @@ fn print_differing(ordinal: usize, header: &[u8], outcome: Outcome) {
         number_at(header, PLACE),
     );
     print(b"given");
-    print_answer(index_of(answer.number), index_of(answer.side), answer.place);
+    print_answer(
+        number_index(answer.number),
+        number_index(answer.side),
+        answer.place,
+    );
     if !outcome.line_right {
         print(b"another line\n");
     }
@@ -210,7 +219,7 @@ fn run_all(data: &[u8], counts: &mut [usize; ANSWERS]) -> Totals {
         let vector = vector_at(data, at);
         let outcome = run_at(data, at, vector);
         totals = after(totals, between(data, at, vector.header_end), outcome);
-        count(counts, index_of(outcome.answer.number));
+        count(counts, number_index(outcome.answer.number));
         let next = forth(data, vector.end, 1);
         if next <= at {
             return totals;

@@ -11,10 +11,11 @@ use checker::Checked;
 use checker::check;
 use checker::line::offending_line;
 use event::Answer;
+use event::Number;
 use event::WORDS;
 use event::Word;
-use event::index_of;
 use event::kind::is_in;
+use event::number_index;
 use text::word::same_bytes;
 
 // What every word of a room is before a check: no word of an event or entry that a vector has.
@@ -68,7 +69,7 @@ fn is_unchanged(room: &[Word], from: usize) -> bool {
 }
 
 // How many of the events or entries counted a room holds: none if a reading refuses.
-fn held(number: Word, count: usize) -> usize {
+fn held(number: Number, count: usize) -> usize {
     if is_in(number, &[1, 2, 3, 4, 5, 6, 17]) {
         return 0;
     }
@@ -123,10 +124,10 @@ fn check_in(
 
 // Whether an answer is the one that the header says.
 fn is_said(header: &[u8], answer: Answer) -> bool {
-    if index_of(answer.number) != number_at(header, NUMBER) {
+    if number_index(answer.number) != number_at(header, NUMBER) {
         return false;
     }
-    if index_of(answer.side) != number_at(header, SIDE) {
+    if number_index(answer.side) != number_at(header, SIDE) {
         return false;
     }
     answer.place == number_at(header, PLACE)

@@ -7,6 +7,7 @@ ghost use lib.ListN.{length, take};
 ghost use Rattle.event.specs.Room.{Placed};
 ghost use Rattle.checker.specs.Check.{Checks, heldOf, judgedOf, lent, refused};
 use event::Answer;
+use event::Entry;
 use event::WORDS;
 use event::Word;
 use event::memory::Memory;
@@ -50,7 +51,7 @@ fn judged(
     entries: usize,
     source_room: &[Word],
     target_room: &[Word],
-    entry_room: &[Word],
+    entry_room: &[Entry],
 ) -> Checked
     requires { ⌜ source .events * 6 ≤ length (now «source_room») ⌝ }
     requires { ⌜ target .events * 6 ≤ length (now «target_room») ⌝ }
@@ -98,7 +99,7 @@ pub fn check(
     matching: &[u8],
     source_room: &mut [Word],
     target_room: &mut [Word],
-    entry_room: &mut [Word],
+    entry_room: &mut [Entry],
 ) -> Checked
     ensures { λ r. ⌜ Checks
         (lent (now (source .entry)) (now (target .entry)) (now (matching .entry))

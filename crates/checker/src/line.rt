@@ -21,7 +21,7 @@ ghost use Rattle.checker.specs.Line.{
 };
 ghost use Rattle.text.specs.Line.{split};
 use event::Answer;
-use event::Word;
+use event::Number;
 use event::kind::is_in;
 use record::Record;
 use record::record_of;
@@ -97,21 +97,21 @@ fn span_of(text: &[u8], only: bool, k: usize) -> Span
 }
 
 // Whether the place of an answer of this number is a line.
-fn is_at_a_line(number: Word) -> bool
+fn is_at_a_line(number: Number) -> bool
     ensures { λ r. ⌜ r ≡ has number lineFaults ⌝ }
 {
     is_in(number, &[2, 3, 4])
 }
 
 // Whether it is an event.
-fn is_at_an_event(number: Word) -> bool
+fn is_at_an_event(number: Number) -> bool
     ensures { λ r. ⌜ r ≡ has number eventFaults ⌝ }
 {
     is_in(number, &[5, 6, 10, 11, 12, 13, 14, 15, 16])
 }
 
 // The part of a text that an answer's number and place name.
-fn fault_span(text: &[u8], number: Word, place: usize) -> Span
+fn fault_span(text: &[u8], number: Number, place: usize) -> Span
     ensures { λ r. ⌜ Spans (now (text .entry)) (lineOf number place (now (text .entry))) r ⌝ }
     ensures { λ r. ⌜ r ≡ lineSpan number place (now (text .entry)) ⌝ }
 {
@@ -125,7 +125,7 @@ fn fault_span(text: &[u8], number: Word, place: usize) -> Span
 }
 
 // The side whose text has the line at fault: none where the number has no line.
-fn fault_side(answer: Answer) -> Word
+fn fault_side(answer: Answer) -> Number
     ensures { λ r. ⌜ r ≡ faultSide answer ⌝ }
 {
     if is_at_a_line(answer.number) {

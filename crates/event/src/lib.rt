@@ -6,9 +6,14 @@ pub mod room;
 ghost use mathlib.Core.Path.{_≡_};
 ghost use Rattle.event.specs.Answer.{answer};
 
-// A number of the trace and a word of a room. Its width is named here, in `memory::wrapped_sum` and, by the greatest value, in the
-// crate `record`.
+// A value and a word of an event. Its width is named here, in `memory::wrapped_sum` and, by the greatest value, in the crate `record`.
 pub type Word = u32;
+
+// A number that is no value: an answer's, a side's, a target event's.
+pub type Number = u32;
+
+// An entry of a matching: the target number that a source event is kept as, or 0 for gone.
+pub type Entry = Number;
 
 // The words of an event in a room.
 pub const WORDS: usize = 6;
@@ -25,13 +30,13 @@ pub struct Event {
 
 // What comes back: document 01's number, the side (0 none, 1 source, 2 target, 3 matching) and the place.
 pub struct Answer {
-    pub number: Word,
-    pub side: Word,
+    pub number: Number,
+    pub side: Number,
     pub place: usize,
 }
 
 impl Answer {
-    pub fn new(number: Word, side: Word, place: usize) -> Self
+    pub fn new(number: Number, side: Number, place: usize) -> Self
         ensures { λ r. ⌜ r ≡ answer number side place ⌝ }
     {
         Answer {
@@ -47,4 +52,11 @@ pub fn index_of(w: Word) -> usize
     ensures { λ r. ⌜ r ≡ w ⌝ }
 {
     w as usize
+}
+
+// A number as an index.
+pub fn number_index(n: Number) -> usize
+    ensures { λ r. ⌜ r ≡ n ⌝ }
+{
+    n as usize
 }

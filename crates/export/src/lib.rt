@@ -11,9 +11,11 @@ ghost use Rattle.export.specs.Numbers.{answerNumbers, traceNumbers, matc
 use checker::check;
 use checker::line::offending_span;
 use event::Answer;
+use event::Entry;
+use event::Number;
 use event::Word;
-use event::index_of;
 use event::memory::Memory;
+use event::number_index;
 
 // A trace text read alone: number, side, place and events, the starting memory, and the room.
 #[no_mangle]
@@ -33,8 +35,8 @@ pub extern "C" fn laprunto_read_trace(
     let cells = start.cells;
     *memory = cells;
     *result = [
-        index_of(found.number),
-        index_of(found.side),
+        number_index(found.number),
+        number_index(found.side),
         found.place,
         read.events,
     ];
@@ -42,15 +44,15 @@ pub extern "C" fn laprunto_read_trace(
 
 // A matching text read alone: number, side, place and entries, and the room.
 #[no_mangle]
-pub extern "C" fn laprunto_read_matching(text: &[u8], room: &mut [Word], result: &mut [usize; 4])
+pub extern "C" fn laprunto_read_matching(text: &[u8], room: &mut [Entry], result: &mut [usize; 4])
     ensures { λ _. ⌜ now (result .exit) ≡ matchingNumbers (matchingOf (now (text .entry)) (now (room .entry))) ⌝ }
     ensures { λ _. ⌜ now (room .exit) ≡ entriesAfter (now (text .entry)) (now (room .entry)) ⌝ }
 {
     let read = matching::read(text, room);
     let found = read.answer;
     *result = [
-        index_of(found.number),
-        index_of(found.side),
+        number_index(found.number),
+        number_index(found.side),
         found.place,
         read.entries,
     ];
@@ -69,7 +71,11 @@ pub extern "C" fn laprunto_write_trace(
 {
     let cells = *memory;
     let found = trace::write(Memory { cells }, room, out);
-    *result = [index_of(found.number), index_of(found.side), found.place];
+    *result = [
+        number_index(found.number),
+        number_index(found.side),
+        found.place,
+    ];
 }
 
 // A check: number, side, place, source events, target events and entries, both starting memories, and the three rooms.
@@ -80,7 +86,7 @@ pub extern "C" fn laprunto_check(
     matching: &[u8],
     source_room: &mut [Word],
     target_room: &mut [Word],
-    entry_room: &mut [Word],
+    entry_room: &mut [Entry],
     source_memory: &mut [Word; 256],
     target_memory: &mut [Word; 256],
     result: &mut [usize; 6],
@@ -109,8 +115,8 @@ pub extern "C" fn laprunto_check(
     *source_memory = source_cells;
     *target_memory = target_cells;
     *result = [
-        index_of(found.number),
-        index_of(found.side),
+        number_index(found.number),
+        number_index(found.side),
         found.place,
         source_held.events,
         target_held.events,
@@ -123,8 +129,8 @@ pub extern "C" fn laprunto_check(
 pub extern "C" fn laprunto_offending_line(
     source: &[u8],
     target: &[u8],
-    number: Word,
-    side: Word,
+    number: Number,
+    side: Number,
     place: usize,
     from: &mut usize,
     to: &mut usize,

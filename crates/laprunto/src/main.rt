@@ -5,6 +5,7 @@ ghost use Rattle.io.specs.Counts.{Counts};
 use checker::check;
 use checker::line::offending_line;
 use event::Answer;
+use event::Entry;
 use event::Word;
 use libc::STDERR_FILENO;
 use libc::STDOUT_FILENO;
@@ -62,7 +63,7 @@ fn print_line(line: &[u8]) {
 fn print_check<'a>(source: &'a [u8], target: &'a [u8], matching: &[u8]) {
     let mut source_room: [Word; 4800] = [0; 4800];
     let mut target_room: [Word; 4800] = [0; 4800];
-    let mut entry_room: [Word; 800] = [0; 800];
+    let mut entry_room: [Entry; 800] = [0; 800];
     let checked = check(
         source,
         target,

@@ -2,7 +2,7 @@
 ghost use mathlib.Core.Path.{_≡_};
 ghost use Rattle.text.specs.Field.{fieldsFrom};
 ghost use Rattle.matching.specs.Entry.{keepRest, goneRest, entryOf};
-use event::Word;
+use event::Entry;
 use text::field::FieldStep;
 use text::reader::field_of;
 use text::take::Taken;
@@ -15,7 +15,7 @@ pub const LAST_NUMBER: u64 = 800;
 
 // The kept target number, or 0 for gone.
 pub enum EntryRead {
-    Entry(Word),
+    Entry(Entry),
     Refused,
 }
 
@@ -31,7 +31,7 @@ fn keep_rest(line: &[u8], at: usize) -> EntryRead
     if value == 0 {
         return EntryRead::Refused;
     }
-    EntryRead::Entry(value as Word)
+    EntryRead::Entry(value as Entry)
 }
 
 fn gone_rest(line: &[u8], at: usize) -> EntryRead

@@ -10,7 +10,8 @@ ghost use Rattle.matching.specs.Reading.{refused, surveyLines, surveyOf,
 use entry::EntryRead;
 use entry::entry_of;
 use event::Answer;
-use event::Word;
+use event::Entry;
+use event::Number;
 use text::line::TEXT_LIMIT;
 use text::line::line_end;
 use text::word::same_bytes;
@@ -24,7 +25,7 @@ pub struct MatchingRead {
     pub entries: usize,
 }
 
-fn refusal(number: Word, place: usize) -> MatchingRead
+fn refusal(number: Number, place: usize) -> MatchingRead
     ensures { λ r. ⌜ r ≡ refused (answer number 3 place) ⌝ }
 {
     MatchingRead {
@@ -94,7 +95,7 @@ pub fn survey_in(text: &[u8], words: usize) -> MatchingRead
 }
 
 // A word at an index; where the room does not hold it, the room stays as it is.
-fn put(room: &mut [Word], i: usize, e: Word)
+fn put(room: &mut [Entry], i: usize, e: Entry)
     ensures { λ _. ⌜ now (room .exit) ≡ set (now (room .entry)) i e ⌝ }
 {
     if i < room.len() {
@@ -103,7 +104,7 @@ fn put(room: &mut [Word], i: usize, e: Word)
 }
 
 // The room with a line's entry at an index; what comes back is the next index.
-fn put_entry(room: &mut [Word], i: usize, line: EntryRead) -> usize
+fn put_entry(room: &mut [Entry], i: usize, line: EntryRead) -> usize
     requires { ⌜ i < 18446744073709551615 ⌝ }
     ensures { λ r. ⌜ (r ≡ nextIndex i line) × (now (room .exit) ≡ placed (now (room .entry)) i line) ⌝ }
 {
@@ -117,7 +118,7 @@ fn put_entry(room: &mut [Word], i: usize, line: EntryRead) -> usize
 }
 
 // The entries of a text that was surveyed, at the front of a room that holds them.
-pub fn store(text: &[u8], room: &mut [Word])
+pub fn store(text: &[u8], room: &mut [Entry])
     requires { ⌜ length (entriesOf (now text)) ≤ length (now room) ⌝ }
     ensures { λ _. ⌜ now (room .exit) ≡ front (entriesOf (now (text .entry))) (now (room .entry)) ⌝ }
 {
@@ -131,7 +132,7 @@ pub fn store(text: &[u8], room: &mut [Word])
 }
 
 // A matching text read alone: its entries at the front of the room, or a refusal, which changes nothing.
-pub fn read(text: &[u8], room: &mut [Word]) -> MatchingRead
+pub fn read(text: &[u8], room: &mut [Entry]) -> MatchingRead
     ensures { λ r. ⌜ (r ≡ readOf (now (text .entry)) (now (room .entry))) × (now (room .exit) ≡ roomAfter (now (text .entry)) (now (room .entry))) ⌝ }
 {
     let surveyed = survey_in(text, room.len());

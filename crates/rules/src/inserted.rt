@@ -10,6 +10,7 @@ ghost use Rattle.rules.specs.Pass.{newFault, Marked};
 use crate::seen::is_load;
 use crate::seen::is_wall;
 use event::Answer;
+use event::Number;
 use event::WORDS;
 use event::Word;
 use event::index_of;
@@ -17,7 +18,7 @@ use event::room::get;
 
 // 15 or 16 of a target event, or 0, by whether it has a source, is a load, and is the first access to its location since the last
 // synchronising event.
-fn new_fault(sourced: bool, load: bool, fresh: bool) -> Word
+fn new_fault(sourced: bool, load: bool, fresh: bool) -> Number
     ensures { λ r. ⌜ r ≡ newFault sourced load fresh ⌝ }
 {
     if sourced {

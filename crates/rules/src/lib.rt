@@ -12,6 +12,7 @@ ghost use Rattle.event.specs.Room.{Placed, wholeEvents};
 ghost use Rattle.rules.specs.View.{view};
 ghost use Rattle.rules.specs.Verdict.{verdict};
 use event::Answer;
+use event::Entry;
 use event::WORDS;
 use event::Word;
 use event::memory::Memory;
@@ -26,7 +27,7 @@ pub fn judge(
     target_start: Memory,
     source: &[Word],
     target: &[Word],
-    entries: &[Word],
+    entries: &[Entry],
 ) -> Answer
     requires { ⌜ length (now source) / 6 ≤ 800 ⌝ }
     requires { ⌜ Placed (now source) ⌝ }

@@ -5,8 +5,8 @@ ghost use Prim.Native.Nat.{_≤_};
 ghost use Rattle.rules.specs.Verdict.{entryAnswer};
 ghost use Rattle.rules.specs.Pass.{usedTwice, Marked};
 use event::Answer;
-use event::Word;
-use event::index_of;
+use event::Entry;
+use event::number_index;
 
 // The answer, and which numbers the entries name where it is no refusal.
 pub struct EntriesRead {
@@ -24,7 +24,7 @@ fn is_used_twice(at: usize, marked: bool) -> bool
     marked
 }
 
-pub(crate) fn entry_answer(entries: &[Word], targets: usize) -> EntriesRead
+pub(crate) fn entry_answer(entries: &[Entry], targets: usize) -> EntriesRead
     requires { ⌜ targets ≤ 800 ⌝ }
     ensures { λ r. ⌜ r .answer ≡ entryAnswer targets 1 [] (now (entries .entry)) ⌝ }
     ensures { λ r. ⌜ (r .answer .number ≡ 0 → Marked (r .marks) (now (entries .entry))) ⌝ }
@@ -32,7 +32,7 @@ pub(crate) fn entry_answer(entries: &[Word], targets: usize) -> EntriesRead
     let mut marks: [bool; 801] = [false; 801];
     let mut i: usize = 0;
     while i < entries.len() {
-        let at = index_of(entries[i]);
+        let at = number_index(entries[i]);
         if targets < at {
             return EntriesRead {
                 answer: Answer::new(9, 3, i + 1),

@@ -15,14 +15,17 @@ use crate::seen::is_load;
 use crate::seen::is_same;
 use crate::seen::is_wall;
 use event::Answer;
+use event::Entry;
 use event::Event;
+use event::Number;
 use event::Word;
 use event::index_of;
 use event::kind::USED;
+use event::number_index;
 use event::room::get;
 
 // Whether a store before a plain event is closing, by whether one after the event is.
-fn closing_after(load: bool, entry: Word, closing: bool) -> bool
+fn closing_after(load: bool, entry: Entry, closing: bool) -> bool
     ensures { λ r. ⌜ r ≡ closingAfter load entry closing ⌝ }
 {
     if load {
@@ -35,7 +38,7 @@ fn closing_after(load: bool, entry: Word, closing: bool) -> bool
 }
 
 // For each source event, whether a store to its location there is closing.
-fn closing_flags(source: &[Word], entries: &[Word]) -> [bool; 800]
+fn closing_flags(source: &[Word], entries: &[Entry]) -> [bool; 800]
     requires { ⌜ length (now source) / 6 ≤ 800 ⌝ }
     requires { ⌜ Placed (now source) ⌝ }
     requires { ⌜ length (now entries) ≡ length (now source) / 6 ⌝ }
@@ -60,7 +63,7 @@ fn closing_flags(source: &[Word], entries: &[Word]) -> [bool; 800]
 }
 
 // Whether a plain event becomes the witness of its location.
-fn takes_over(load: bool, entry: Word, fresh: bool) -> bool
+fn takes_over(load: bool, entry: Entry, fresh: bool) -> bool
     ensures { λ r. ⌜ r ≡ takesOver load entry fresh ⌝ }
 {
     if entry != 0 {
@@ -69,7 +72,7 @@ fn takes_over(load: bool, entry: Word, fresh: bool) -> bool
     load && fresh
 }
 
-fn larger_of(n: Word, g: Word) -> Word
+fn larger_of(n: Entry, g: Entry) -> Entry
     ensures { λ r. ⌜ r ≡ larger n g ⌝ }
 {
     if g < n {
@@ -108,13 +111,13 @@ impl Witness {
 
 // The greatest target numbers so far: of all kept events, of the synchronising ones, and of those at the event's location.
 pub struct Tops {
-    pub all: Word,
-    pub walls: Word,
-    pub here: Word,
+    pub all: Entry,
+    pub walls: Entry,
+    pub here: Entry,
 }
 
 impl Tops {
-    fn new(all: Word, walls: Word, here: Word) -> Self
+    fn new(all: Entry, walls: Entry, here: Entry) -> Self
         ensures { λ r. ⌜ r ≡ topsOf all walls here ⌝ }
     {
         Tops { all, walls, here }
@@ -132,7 +135,7 @@ fn is_witness(value: Word, witness: Witness) -> bool
 }
 
 // 11, 13 or 14 of a gone event, or 0.
-fn gone_fault(e: Event, cell: Cell, witness: Witness) -> Word
+fn gone_fault(e: Event, cell: Cell, witness: Witness) -> Number
     ensures { λ r. ⌜ r ≡ goneFault (view e) cell (witnessed witness) ⌝ }
 {
     if is_wall(e) {
@@ -154,15 +157,15 @@ fn gone_fault(e: Event, cell: Cell, witness: Witness) -> Word
 }
 
 // 10: whether a kept event differs from its target event.
-fn differs(target: &[Word], e: Event, n: Word) -> bool
+fn differs(target: &[Word], e: Event, n: Entry) -> bool
     requires { ⌜ 0 < n ⌝ }
     ensures { λ r. ⌜ r ≡ unlike (wholeEvents (now (target .entry))) e n ⌝ }
 {
-    !is_same(e, get(target, index_of(n) - 1))
+    !is_same(e, get(target, number_index(n) - 1))
 }
 
 // 12: whether an earlier kept event that may not change places with this one has the greater number.
-fn is_crossed(e: Event, n: Word, tops: Tops) -> bool
+fn is_crossed(e: Event, n: Entry, tops: Tops) -> bool
     ensures { λ r. ⌜ r ≡ crossedBy (view e) n tops ⌝ }
 {
     if is_wall(e) {
@@ -172,7 +175,14 @@ fn is_crossed(e: Event, n: Word, tops: Tops) -> bool
 }
 
 // 10 to 14 of a source event, or 0.
-fn event_fault(target: &[Word], e: Event, n: Word, cell: Cell, witness: Witness, tops: Tops) -> Word
+fn event_fault(
+    target: &[Word],
+    e: Event,
+    n: Entry,
+    cell: Cell,
+    witness: Witness,
+    tops: Tops,
+) -> Number
     ensures { λ r. ⌜ r ≡ eventFault (wholeEvents (now (target .entry))) e n cell (witnessed witness) tops ⌝ }
 {
     if n == 0 {
@@ -198,7 +208,7 @@ fn witness_after(over: bool, value: Word, witness: Witness) -> Witness
 }
 
 // The source events upward.
-fn source_pass(source: &[Word], target: &[Word], entries: &[Word], flags: &[bool; 800]) -> Answer
+fn source_pass(source: &[Word], target: &[Word], entries: &[Entry], flags: &[bool; 800]) -> Answer
     requires { ⌜ length (now source) / 6 ≤ 800 ⌝ }
     requires { ⌜ Placed (now source) ⌝ }
     requires { ⌜ length (now entries) ≡ length (now source) / 6 ⌝ }
@@ -208,9 +218,9 @@ fn source_pass(source: &[Word], target: &[Word], entries: &[Word], flags: &[bool
     let mut fresh: [bool; 256] = [true; 256];
     let mut held: [bool; 256] = [false; 256];
     let mut value: [Word; 256] = [0; 256];
-    let mut here: [Word; 256] = [0; 256];
-    let mut all: Word = 0;
-    let mut walls: Word = 0;
+    let mut here: [Entry; 256] = [0; 256];
+    let mut all: Entry = 0;
+    let mut walls: Entry = 0;
     let mut i: usize = 0;
     while i < entries.len() {
         let e = get(source, i);
@@ -241,7 +251,7 @@ fn source_pass(source: &[Word], target: &[Word], entries: &[Word], flags: &[bool
     Answer::new(0, 0, 0)
 }
 
-pub(crate) fn source_answer(source: &[Word], target: &[Word], entries: &[Word]) -> Answer
+pub(crate) fn source_answer(source: &[Word], target: &[Word], entries: &[Entry]) -> Answer
     requires { ⌜ length (now source) / 6 ≤ 800 ⌝ }
     requires { ⌜ Placed (now source) ⌝ }
     requires { ⌜ length (now entries) ≡ length (now source) / 6 ⌝ }

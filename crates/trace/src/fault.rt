@@ -6,20 +6,22 @@ use event::kind::Place;
 use event::kind::row_of;
 
 // How a location is used: not at all, by plain events, by atomic ones.
-pub const UNUSED: Word = 0;
+pub type Way = u8;
 
-pub const PLAIN: Word = 1;
+pub const UNTOUCHED: Way = 0;
 
-pub const ATOMIC: Word = 2;
+pub const PLAIN: Way = 1;
+
+pub const ATOMIC: Way = 2;
 
 // The way in which an event of a kind uses its location.
-pub(crate) fn way_of(kind: Word) -> Word
+pub(crate) fn way_of(kind: Word) -> Way
     ensures { λ r. ⌜ r ≡ wayOf kind ⌝ }
 {
     let row = row_of(kind);
     let place = row.place;
     let Place::Location = place else {
-        return UNUSED;
+        return UNTOUCHED;
     };
     if row.sync {
         return ATOMIC;
@@ -28,7 +30,7 @@ pub(crate) fn way_of(kind: Word) -> Word
 }
 
 // Whether a location that was used in one way is now used in the other.
-pub(crate) fn are_opposed(was: Word, way: Word) -> bool
+pub(crate) fn are_opposed(was: Way, way: Way) -> bool
     ensures { λ r. ⌜ r ≡ opposed was way ⌝ }
 {
     if was == PLAIN {
@@ -41,10 +43,10 @@ pub(crate) fn are_opposed(was: Word, way: Word) -> bool
 }
 
 // How a location is used after one event more.
-pub(crate) fn joined_way(was: Word, way: Word) -> Word
+pub(crate) fn joined_way(was: Way, way: Way) -> Way
     ensures { λ r. ⌜ r ≡ joined was way ⌝ }
 {
-    if way == UNUSED {
+    if way == UNTOUCHED {
         return was;
     }
     way

@@ -7,10 +7,12 @@ ghost use Rattle.event.specs.Memory.{empty as emptyMemory};
 ghost use Rattle.text.specs.Line.{splitFrom};
 ghost use Rattle.trace.specs.Reading.{linesFault, surveyInits, surveyOf, refused, inRoom, eventsOf, front};
 ghost use Rattle.trace.specs.Survey.{surveyEvents, placed, nextIndex};
+use crate::fault::Way;
 use crate::fault::are_opposed;
 use crate::fault::joined_way;
 use crate::fault::way_of;
 use event::Answer;
+use event::Number;
 use event::WORDS;
 use event::Word;
 use event::index_of;
@@ -80,7 +82,7 @@ fn after_fault(text: &[u8], from: usize, line: usize, n: usize, found: Answer) -
 }
 
 // The lines from line `line` on, which are to be events: each is tried for 2, 4, 3, and then its event for 5, 6.
-fn survey_events(text: &[u8], from: usize, line: usize, side: Word, start: Memory) -> TraceRead
+fn survey_events(text: &[u8], from: usize, line: usize, side: Number, start: Memory) -> TraceRead
     requires { ⌜ from ≤ length (now text) ⌝ }
     requires { ⌜ line ≤ from ⌝ }
     requires { ⌜ 0 < from ⌝ }
@@ -90,7 +92,7 @@ fn survey_events(text: &[u8], from: usize, line: usize, side: Word, start: Memor
         memory: start,
         right: true,
     };
-    let mut ways: [Word; 256] = [0; 256];
+    let mut ways: [Way; 256] = [0; 256];
     let mut at = from;
     let mut k = line;
     let mut n: usize = 0;
@@ -134,7 +136,7 @@ fn survey_events(text: &[u8], from: usize, line: usize, side: Word, start: Memor
 }
 
 // The lines after line 1: the starting values, then the events.
-fn survey_lines(text: &[u8], from: usize, side: Word) -> TraceRead
+fn survey_lines(text: &[u8], from: usize, side: Number) -> TraceRead
     requires { ⌜ from ≤ length (now text) ⌝ }
     requires { ⌜ 2 ≤ from ⌝ }
     ensures { λ r. ⌜ r ≡ surveyInits side 2 0 emptyMemory (splitFrom (now (text .entry)) from) ⌝ }
@@ -171,7 +173,7 @@ fn survey_lines(text: &[u8], from: usize, side: Word) -> TraceRead
 }
 
 // Answers 1 to 6 of a text, with its number of events and its starting memory.
-fn survey(text: &[u8], side: Word) -> TraceRead
+fn survey(text: &[u8], side: Number) -> TraceRead
     ensures { λ r. ⌜ r ≡ surveyOf side (now (text .entry)) ⌝ }
 {
     if TEXT_LIMIT < text.len() {
@@ -188,7 +190,7 @@ fn survey(text: &[u8], side: Word) -> TraceRead
 }
 
 // Answers 1 to 6 and 17, for a room of so many words.
-pub fn survey_in(text: &[u8], side: Word, words: usize) -> TraceRead
+pub fn survey_in(text: &[u8], side: Number, words: usize) -> TraceRead
     ensures { λ r. ⌜ r ≡ inRoom side words (surveyOf side (now (text .entry))) ⌝ }
 {
     let surveyed = survey(text, side);

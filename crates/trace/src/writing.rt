@@ -10,6 +10,7 @@ ghost use Rattle.record.specs.Layout.{orderWords, wordAt, eventLine};
 ghost use Rattle.trace.specs.Fault.{eventFault};
 ghost use Rattle.trace.specs.Put.{Put, Small, tabIf, initPart};
 ghost use Rattle.trace.specs.Writing.{countOf, layoutFault, textOf, initLines, traceText, roomFault};
+use crate::fault::Way;
 use crate::fault::are_opposed;
 use crate::fault::joined_way;
 use crate::fault::way_of;
@@ -68,7 +69,7 @@ fn event_fault(start: Memory, room: &[Word], n: usize) -> Answer
         memory: start,
         right: true,
     };
-    let mut ways: [Word; 256] = [0; 256];
+    let mut ways: [Way; 256] = [0; 256];
     let mut i: usize = 0;
     while i < n {
         let e = get(room, i);

@@ -27,8 +27,8 @@ between-requires c κs = search needs
 after-requires : tie.Need-after-requires Inv-loop μ-loop
 after-requires c κs = search needs
 
-index-of-requires : tie.Need-index-of-requires Inv-loop μ-loop
-index-of-requires c κs = search needs
+number-index-requires : tie.Need-number-index-requires Inv-loop μ-loop
+number-index-requires c κs = search needs
 
 count-requires : tie.Need-count-requires Inv-loop μ-loop
 count-requires c κs = search needs
@@ -59,7 +59,7 @@ run-all-spec =
     run-at-requires
     between-requires
     after-requires
-    index-of-requires
+    number-index-requires
     count-requires
     forth-requires
     returns

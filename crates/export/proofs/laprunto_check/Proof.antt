@@ -31,11 +31,11 @@ laid l r sourceRoom targetRoom entryRoom number side h n s = record {
 check-requires : tie.Need-check-requires
 check-requires c κs = search needs
 
-index-of-requires : tie.Need-index-of-requires
-index-of-requires c κs = search needs
+number-index-requires : tie.Need-number-index-requires
+number-index-requires c κs = search needs
 
-index-of-requires-2 : tie.Need-index-of-requires-2
-index-of-requires-2 c κs = search needs
+number-index-requires-2 : tie.Need-number-index-requires-2
+number-index-requires-2 c κs = search needs
 
 same-length : tie.Need-same-length
 same-length c = search needs
@@ -49,15 +49,15 @@ same-length-3 c = search needs
 returns : tie.Need-returns
 returns c =
     let k = c .before .before .before .before .before .before .before .before .before .before .before .before .before .before .before .before .check in
-    laid _ _ _ _ _ _ _ (k .ensures) (c .before .before .index-of .ensures) (c .before .index-of2 .ensures)
+    laid _ _ _ _ _ _ _ (k .ensures) (c .before .before .number-index .ensures) (c .before .number-index2 .ensures)
 
 pub laprunto-check-spec : {M : Type 1} → statement M
 laprunto-check-spec =
     tie.close
     (tie.spec
     check-requires
-    index-of-requires
-    index-of-requires-2
+    number-index-requires
+    number-index-requires-2
     same-length
     same-length-2
     same-length-3

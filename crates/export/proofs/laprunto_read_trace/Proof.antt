@@ -9,11 +9,11 @@ use Rattle.export.proofs.laprunto_read_trace.Tie as tie
 read-requires : tie.Need-read-requires
 read-requires c κs = search needs
 
-index-of-requires : tie.Need-index-of-requires
-index-of-requires c κs = search needs
+number-index-requires : tie.Need-number-index-requires
+number-index-requires c κs = search needs
 
-index-of-requires-2 : tie.Need-index-of-requires-2
-index-of-requires-2 c κs = search needs
+number-index-requires-2 : tie.Need-number-index-requires-2
+number-index-requires-2 c κs = search needs
 
 same-length : tie.Need-same-length
 same-length c = search needs
@@ -21,10 +21,10 @@ same-length c = search needs
 returns : tie.Need-returns
 returns c =
     let r = c .before .before .before .before .before .before .before .before .read in (
-      rw (c .before .before .index-of .ensures, c .before .index-of2 .ensures) (ap traceNumbers (r .ensures .0)),
+      rw (c .before .before .number-index .ensures, c .before .number-index2 .ensures) (ap traceNumbers (r .ensures .0)),
       (ap (λ (t : TraceRead). t .memory .cells) (r .ensures .0), r .ensures .1),
     )
 
 pub laprunto-read-trace-spec : {M : Type 1} → statement M
 laprunto-read-trace-spec =
-    tie.close (tie.spec read-requires index-of-requires index-of-requires-2 same-length returns)
+    tie.close (tie.spec read-requires number-index-requires number-index-requires-2 same-length returns)

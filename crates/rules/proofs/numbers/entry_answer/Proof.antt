@@ -42,31 +42,31 @@ unfolding entryAnswer
 none-left n i b l j e = rw (e, drop-length l)
 
 -- the loop's entry, those before it and those after it
-abbrev turn : tie.After-index-of Inv-loop μ-loop → tie.At-loop Inv-loop μ-loop
+abbrev turn : tie.After-number-index Inv-loop μ-loop → tie.At-loop Inv-loop μ-loop
 turn c = c .before .before .before
 
-abbrev entries : tie.After-index-of Inv-loop μ-loop → List ℕ
+abbrev entries : tie.After-number-index Inv-loop μ-loop → List ℕ
 entries c = turn c .before .before .args .entries .now
 
-abbrev targets : tie.After-index-of Inv-loop μ-loop → ℕ
+abbrev targets : tie.After-number-index Inv-loop μ-loop → ℕ
 targets c = turn c .before .before .args .targets
 
-abbrev behind : tie.After-index-of Inv-loop μ-loop → List ℕ
+abbrev behind : tie.After-number-index Inv-loop μ-loop → List ℕ
 behind c = turn c .loop .inv .1 .1 .0
 
-abbrev rest : tie.After-index-of Inv-loop μ-loop → List ℕ
+abbrev rest : tie.After-number-index Inv-loop μ-loop → List ℕ
 rest c = drop (turn c .loop .i + 1) (entries c)
 
-parts : (c : tie.After-index-of Inv-loop μ-loop) → drop (turn c .loop .i) (entries c) ≡ c .index-of .result ∷ rest c
-parts c = drop-next (entries c) (turn c .loop .i) (c .index-of .result) (omega arith) (c .index-of .ensures)
+parts : (c : tie.After-number-index Inv-loop μ-loop) → drop (turn c .loop .i) (entries c) ≡ c .number-index .result ∷ rest c
+parts c = drop-next (entries c) (turn c .loop .i) (c .number-index .result) (omega arith) (c .number-index .ensures)
 
-from-here : (c : tie.After-index-of Inv-loop μ-loop)
-    → entryAnswer (targets c) 1 [] (entries c) ≡ entryAnswer (targets c) (turn c .loop .i + 1) (behind c) (c .index-of .result ∷ rest c)
+from-here : (c : tie.After-number-index Inv-loop μ-loop)
+    → entryAnswer (targets c) 1 [] (entries c) ≡ entryAnswer (targets c) (turn c .loop .i + 1) (behind c) (c .number-index .result ∷ rest c)
 from-here c = turn c .loop .inv .1 .1 .1 .1 .1 ∙ rw (parts c)
 
 -- an entry that is refused
-refused : (c : tie.After-index-of Inv-loop μ-loop) {a : Answer} → a ≡ answer 9 3 (turn c .loop .i + 1)
-    → (not (eqb (c .index-of .result) 0) && (ltb (targets c) (c .index-of .result) || has (c .index-of .result) (behind c))) ≡ true
+refused : (c : tie.After-number-index Inv-loop μ-loop) {a : Answer} → a ≡ answer 9 3 (turn c .loop .i + 1)
+    → (not (eqb (c .number-index .result) 0) && (ltb (targets c) (c .number-index .result) || has (c .number-index .result) (behind c))) ≡ true
     → (a ≡ entryAnswer (targets c) 1 [] (entries c)) × (a .number ≡ 0 → Marked (turn c .loop .marks) (entries c))
 refused c e t = (
   e ∙ sym (from-here c ∙ entry-stops _ _ _ _ _ t),
@@ -75,13 +75,13 @@ refused c e t = (
 
 -- an entry that is not
 test-is : (c : tie.After-is-used-twice Inv-loop μ-loop)
-    → (not (eqb (c .before .before .index-of .result) 0)
-    && (ltb (targets (c .before .before)) (c .before .before .index-of .result) || has (c .before .before .index-of .result) (behind (c .before .before))))
+    → (not (eqb (c .before .before .number-index .result) 0)
+    && (ltb (targets (c .before .before)) (c .before .before .number-index .result) || has (c .before .before .number-index .result) (behind (c .before .before))))
     ≡ c .is-used-twice .result
 test-is c =
     let t = c .before .before in
-    within (targets t) (t .index-of .result) (c .before .if1 .left)
-    (turn t .loop .inv .1 .1 .1 .0 (t .index-of .result) (omega arith)) (c .is-used-twice .ensures)
+    within (targets t) (t .number-index .result) (c .before .if1 .left)
+    (turn t .loop .inv .1 .1 .1 .0 (t .number-index .result) (omega arith)) (c .is-used-twice .ensures)
 
 join : (x y z : Bool) → (x || (y || z)) ≡ ((y || x) || z)
 join true true z = refl
@@ -89,23 +89,23 @@ join true false z = refl
 join false true z = refl
 join false false z = refl
 
-named : (c : tie.After-index-of Inv-loop μ-loop) (k : ℕ)
-    → has k (entries c) ≡ (has k (c .index-of .result ∷ behind c) || has k (rest c))
+named : (c : tie.After-number-index Inv-loop μ-loop) (k : ℕ)
+    → has k (entries c) ≡ (has k (c .number-index .result ∷ behind c) || has k (rest c))
 named c k =
     turn c .loop .inv .1 .1 .1 .1 .0 k
-    ∙ (rw (parts c) (join (has k (behind c)) (eqb k (c .index-of .result)) (has k (rest c))))
+    ∙ (rw (parts c) (join (has k (behind c)) (eqb k (c .number-index .result)) (has k (rest c))))
 
 loop-holds : tie.Need-loop-holds Inv-loop μ-loop
 loop-holds c = (omega arith, (refl, ([], (marked-start, ((λ k. refl), refl)))))
 
-mul-index-of : tie.Need-mul-index-of Inv-loop μ-loop
-mul-index-of c = omega arith
+mul-number-index : tie.Need-mul-number-index Inv-loop μ-loop
+mul-number-index c = omega arith
 
-shared-slice-read-index-of : tie.Need-shared-slice-read-index-of Inv-loop μ-loop
-shared-slice-read-index-of c = omega arith
+shared-slice-read-number-index : tie.Need-shared-slice-read-number-index Inv-loop μ-loop
+shared-slice-read-number-index c = omega arith
 
-index-of-requires : tie.Need-index-of-requires Inv-loop μ-loop
-index-of-requires c κs = tt
+number-index-requires : tie.Need-number-index-requires Inv-loop μ-loop
+number-index-requires c κs = tt
 
 add-new : tie.Need-add-new Inv-loop μ-loop
 add-new c = omega arith
@@ -143,13 +143,13 @@ loop-less c = omega arith
 loop-again : tie.Need-loop-again Inv-loop μ-loop
 loop-again c =
     let t = c .before .before .before in
-    let k : t .index-of .result < 801 = omega arith in
+    let k : t .number-index .result < 801 = omega arith in
     let size = turn t .loop .inv .1 .0 in (
       omega arith,
       (
         simp length-set size,
         (
-          t .index-of .result ∷ behind t,
+          t .number-index .result ∷ behind t,
           (
             marked-next (turn t .loop .marks) (behind t) _ k size (turn t .loop .inv .1 .1 .1 .0),
             (
@@ -178,9 +178,9 @@ entry-answer-spec =
     Inv-loop
     μ-loop
     loop-holds
-    mul-index-of
-    shared-slice-read-index-of
-    index-of-requires
+    mul-number-index
+    shared-slice-read-number-index
+    number-index-requires
     add-new
     new-requires
     returns

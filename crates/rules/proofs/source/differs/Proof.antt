@@ -22,8 +22,8 @@ unlike-at l e (suc n) h =
 told : (l : List ℕ) (e : Event) {n k : ℕ} {f : Event} → 0 < n → k ≡ n → f ≡ eventAt l (k - 1) → not (same e f) ≡ unlike (onward l 0 (length l / 6)) e n
 told l e {n} h i g = rw (g, i) (sym (unlike-at l e n h))
 
-index-of-requires : tie.Need-index-of-requires
-index-of-requires c κs = tt
+number-index-requires : tie.Need-number-index-requires
+number-index-requires c κs = tt
 
 sub-get : tie.Need-sub-get
 sub-get c = omega arith
@@ -36,7 +36,7 @@ is-same-requires c κs = tt
 
 returns : tie.Need-returns
 returns c = rw (c .is-same .ensures) (told _ (c .before .before .before .before .args .e) (c .before .before .before .before .pre)
-    (c .before .before .index-of .ensures) (c .before .get .ensures))
+    (c .before .before .number-index .ensures) (c .before .get .ensures))
 
 pub differs-spec : {M : Type 1} → statement M
-differs-spec = tie.close (tie.spec index-of-requires sub-get get-requires is-same-requires returns)
+differs-spec = tie.close (tie.spec number-index-requires sub-get get-requires is-same-requires returns)

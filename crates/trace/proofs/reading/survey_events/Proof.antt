@@ -290,9 +290,6 @@ index-of-requires c κs = tt
 way-of-requires : tie.Need-way-of-requires Inv-loop μ-loop
 way-of-requires c κs = tt
 
-mul-was : tie.Need-mul-was Inv-loop μ-loop
-mul-was c = omega (arith, index c)
-
 array-read-was : tie.Need-array-read-was Inv-loop μ-loop
 array-read-was c = index c
 
@@ -330,9 +327,6 @@ returns-5 c =
 
 joined-way-requires : tie.Need-joined-way-requires Inv-loop μ-loop
 joined-way-requires c κs = tt
-
-mul-ways : tie.Need-mul-ways Inv-loop μ-loop
-mul-ways c = omega (arith, index (c .before .before .before))
 
 array-write-ways : tie.Need-array-write-ways Inv-loop μ-loop
 array-write-ways c = index (c .before .before .before)
@@ -445,7 +439,6 @@ survey-events-spec =
     returns-4
     index-of-requires
     way-of-requires
-    mul-was
     array-read-was
     are-opposed-requires
     add-after-fault
@@ -457,7 +450,6 @@ survey-events-spec =
     refusal-requires-5
     returns-5
     joined-way-requires
-    mul-ways
     array-write-ways
     step-requires
     add-after-fault-4

@@ -130,9 +130,6 @@ index-of-requires c κs = tt
 way-of-requires : tie.Need-way-of-requires Inv-loop μ-loop
 way-of-requires c κs = tt
 
-mul-was : tie.Need-mul-was Inv-loop μ-loop
-mul-was c = omega (arith, index c)
-
 array-read-was : tie.Need-array-read-was Inv-loop μ-loop
 array-read-was c = index c
 
@@ -152,9 +149,6 @@ returns c =
 
 joined-way-requires : tie.Need-joined-way-requires Inv-loop μ-loop
 joined-way-requires c κs = tt
-
-mul-ways : tie.Need-mul-ways Inv-loop μ-loop
-mul-ways c = omega (arith, index (c .before .before .before))
 
 array-write-ways : tie.Need-array-write-ways Inv-loop μ-loop
 array-write-ways c = index (c .before .before .before)
@@ -211,14 +205,12 @@ event-fault-spec =
     get-requires
     index-of-requires
     way-of-requires
-    mul-was
     array-read-was
     are-opposed-requires
     add-new
     new-requires
     returns
     joined-way-requires
-    mul-ways
     array-write-ways
     step-requires
     add-new-2
