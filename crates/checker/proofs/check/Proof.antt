@@ -83,23 +83,11 @@ passed₃ c = passed₂ (c .before .before .before .before)
 entries-filled : (c : tie.After-store3) → Entered (all-given (passed₃ c) .matching) (third-of (passed₃ c) .survey-in3 .result) (c .store3 .last .1 .0)
 entries-filled c = entered _ _ (entries-passed (passed₃ c)) _ (entries-are (third-of (passed₃ c))) _ (c .store3 .ensures)
 
-survey-in-requires : tie.Need-survey-in-requires
-survey-in-requires c κs = search needs
-
-refusal-requires : tie.Need-refusal-requires
-refusal-requires c κs = search needs
-
 returns : tie.Need-returns
 returns c =
     let v = c .before .before .before .before in
     refuses (given v) _ _ (by-source (given v) (rw (source-is v) (c .before .if1 .taken)) ∙ ap (λ (r : TraceRead). r .answer) (source-is v))
     (c .before .if1 .taken) (c .refusal .ensures)
-
-survey-in-requires-2 : tie.Need-survey-in-requires-2
-survey-in-requires-2 c κs = search needs
-
-refusal-requires-2 : tie.Need-refusal-requires-2
-refusal-requires-2 c κs = search needs
 
 returns-2 : tie.Need-returns-2
 returns-2 c =
@@ -107,12 +95,6 @@ returns-2 c =
     let l = given (first-of (w .before)) in
     refuses l _ _ (by-target l (source-passes (w .before)) (rw (target-is w) (c .before .if2 .taken)) ∙ ap (λ (r : TraceRead). r .answer) (target-is w))
     (c .before .if2 .taken) (c .refusal2 .ensures)
-
-survey-in-requires-3 : tie.Need-survey-in-requires-3
-survey-in-requires-3 c κs = search needs
-
-refusal-requires-3 : tie.Need-refusal-requires-3
-refusal-requires-3 c κs = search needs
 
 returns-3 : tie.Need-returns-3
 returns-3 c =
@@ -138,15 +120,6 @@ judged-requires c κs =
     let g = target-filled (e .before .before .before .before) in
     (f .inside, (g .inside, (entries-filled e .inside, ((f .few, g .few), (f .placed, g .placed)))))
 
-same-length : tie.Need-same-length
-same-length c = search needs
-
-same-length-2 : tie.Need-same-length-2
-same-length-2 c = search needs
-
-same-length-3 : tie.Need-same-length-3
-same-length-3 c = search needs
-
 returns-4 : tie.Need-returns-4
 returns-4 c =
     let e = c .before .before .before .before .before .before in
@@ -163,20 +136,20 @@ pub check-spec : {M : Type 1} → statement M
 check-spec =
     tie.close
     (tie.spec
-    survey-in-requires
-    refusal-requires
+    (search needs)
+    (search needs)
     returns
-    survey-in-requires-2
-    refusal-requires-2
+    (search needs)
+    (search needs)
     returns-2
-    survey-in-requires-3
-    refusal-requires-3
+    (search needs)
+    (search needs)
     returns-3
     store-requires
     store-requires-2
     store-requires-3
     judged-requires
-    same-length
-    same-length-2
-    same-length-3
+    (search needs)
+    (search needs)
+    (search needs)
     returns-4)

@@ -17,39 +17,6 @@ whole n = omega arith
 few : (n : ℕ) (room : List ℕ) → n * 6 ≤ length room → n ≤ 800 → length (take (n * 6) room) / 6 ≤ 800
 few n room h k = omega (arith, length-take-le (n * 6) room h)
 
-mul-source-words : tie.Need-mul-source-words
-mul-source-words c = search needs
-
-mul-target-words : tie.Need-mul-target-words
-mul-target-words c = search needs
-
-sub-judge : tie.Need-sub-judge
-sub-judge c = search needs
-
-part-judge-start : tie.Need-part-judge-start
-part-judge-start c = search needs
-
-part-judge-end : tie.Need-part-judge-end
-part-judge-end c = search needs
-
-sub-judge-2 : tie.Need-sub-judge-2
-sub-judge-2 c = search needs
-
-part-judge-start-2 : tie.Need-part-judge-start-2
-part-judge-start-2 c = search needs
-
-part-judge-end-2 : tie.Need-part-judge-end-2
-part-judge-end-2 c = search needs
-
-sub-judge-3 : tie.Need-sub-judge-3
-sub-judge-3 c = search needs
-
-part-judge-start-3 : tie.Need-part-judge-start-3
-part-judge-start-3 c = search needs
-
-part-judge-end-3 : tie.Need-part-judge-end-3
-part-judge-end-3 c = search needs
-
 judge-requires : tie.Need-judge-requires
 judge-requires c κs =
     let b = c .before .before .before .before .before .before .before .before in
@@ -68,12 +35,6 @@ judge-requires c κs =
       ),
     )
 
-hold-requires : tie.Need-hold-requires
-hold-requires c κs = search needs
-
-hold-requires-2 : tie.Need-hold-requires-2
-hold-requires-2 c κs = search needs
-
 returns : tie.Need-returns
 unfolding judgedOf
 returns c =
@@ -85,18 +46,18 @@ pub judged-spec : {M : Type 1} → statement M
 judged-spec =
     tie.close
     (tie.spec
-    mul-source-words
-    mul-target-words
-    sub-judge
-    part-judge-start
-    part-judge-end
-    sub-judge-2
-    part-judge-start-2
-    part-judge-end-2
-    sub-judge-3
-    part-judge-start-3
-    part-judge-end-3
+    (search needs)
+    (search needs)
+    (search needs)
+    (search needs)
+    (search needs)
+    (search needs)
+    (search needs)
+    (search needs)
+    (search needs)
+    (search needs)
+    (search needs)
     judge-requires
-    hold-requires
-    hold-requires-2
+    (search needs)
+    (search needs)
     returns)

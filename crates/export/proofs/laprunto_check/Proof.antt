@@ -28,24 +28,6 @@ laid l r sourceRoom targetRoom entryRoom number side h n s = record {
   entries = h .entries;
 }
 
-check-requires : tie.Need-check-requires
-check-requires c κs = search needs
-
-number-index-requires : tie.Need-number-index-requires
-number-index-requires c κs = search needs
-
-number-index-requires-2 : tie.Need-number-index-requires-2
-number-index-requires-2 c κs = search needs
-
-same-length : tie.Need-same-length
-same-length c = search needs
-
-same-length-2 : tie.Need-same-length-2
-same-length-2 c = search needs
-
-same-length-3 : tie.Need-same-length-3
-same-length-3 c = search needs
-
 returns : tie.Need-returns
 returns c =
     let k = c .before .before .before .before .before .before .before .before .before .before .before .before .before .before .before .before .check in
@@ -55,10 +37,10 @@ pub laprunto-check-spec : {M : Type 1} → statement M
 laprunto-check-spec =
     tie.close
     (tie.spec
-    check-requires
-    number-index-requires
-    number-index-requires-2
-    same-length
-    same-length-2
-    same-length-3
+    (search needs)
+    (search needs)
+    (search needs)
+    (search needs)
+    (search needs)
+    (search needs)
     returns)

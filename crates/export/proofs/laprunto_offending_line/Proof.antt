@@ -6,12 +6,6 @@ use borrow.Author.Needs.{needs}
 use Rattle.export.proofs.laprunto_offending_line.Statement.{statement}
 use Rattle.export.proofs.laprunto_offending_line.Tie as tie
 
-new-requires : tie.Need-new-requires
-new-requires c κs = search needs
-
-offending-span-requires : tie.Need-offending-span-requires
-offending-span-requires c κs = search needs
-
 returns : tie.Need-returns
 returns c =
     let s = c .before .before .before .before .args .source .now in
@@ -21,4 +15,4 @@ returns c =
     (c .offending-span .ensures)
 
 pub laprunto-offending-line-spec : {M : Type 1} → statement M
-laprunto-offending-line-spec = tie.close (tie.spec new-requires offending-span-requires returns)
+laprunto-offending-line-spec = tie.close (tie.spec (search needs) (search needs) returns)

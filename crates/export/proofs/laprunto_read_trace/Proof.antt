@@ -6,18 +6,6 @@ use borrow.Author.Needs.{needs}
 use Rattle.export.proofs.laprunto_read_trace.Statement.{statement}
 use Rattle.export.proofs.laprunto_read_trace.Tie as tie
 
-read-requires : tie.Need-read-requires
-read-requires c κs = search needs
-
-number-index-requires : tie.Need-number-index-requires
-number-index-requires c κs = search needs
-
-number-index-requires-2 : tie.Need-number-index-requires-2
-number-index-requires-2 c κs = search needs
-
-same-length : tie.Need-same-length
-same-length c = search needs
-
 returns : tie.Need-returns
 returns c =
     let r = c .before .before .before .before .before .before .before .before .read in (
@@ -27,4 +15,4 @@ returns c =
 
 pub laprunto-read-trace-spec : {M : Type 1} → statement M
 laprunto-read-trace-spec =
-    tie.close (tie.spec read-requires number-index-requires number-index-requires-2 same-length returns)
+    tie.close (tie.spec (search needs) (search needs) (search needs) (search needs) returns)

@@ -6,9 +6,6 @@ use borrow.Author.Needs.{needs}
 use Rattle.matching.proofs.read.Statement.{statement}
 use Rattle.matching.proofs.read.Tie as tie
 
-survey-in-requires : tie.Need-survey-in-requires
-survey-in-requires c κs = search needs
-
 returns : tie.Need-returns
 unfolding readOf roomAfter
 returns c =
@@ -22,9 +19,6 @@ store-requires c κs =
     let a = v .before .before .before .args in
     read-fits (a .text .now) (a .room .now) (rw (v .survey-in .ensures) at (c .before .if1 .left))
 
-same-length : tie.Need-same-length
-same-length c = search needs
-
 returns-2 : tie.Need-returns-2
 unfolding readOf roomAfter
 returns-2 c =
@@ -32,4 +26,4 @@ returns-2 c =
     (v .survey-in .ensures, rw (← v .survey-in .ensures, eq-eqb _ _ (c .before .before .before .before .if1 .left)) (c .before .before .store .ensures))
 
 pub read-spec : {M : Type 1} → statement M
-read-spec = tie.close (tie.spec survey-in-requires returns store-requires same-length returns-2)
+read-spec = tie.close (tie.spec (search needs) returns store-requires (search needs) returns-2)

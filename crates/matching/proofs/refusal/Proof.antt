@@ -3,11 +3,8 @@ use borrow.Author.Needs.{needs}
 use Rattle.matching.proofs.refusal.Statement.{statement}
 use Rattle.matching.proofs.refusal.Tie as tie
 
-new-requires : tie.Need-new-requires
-new-requires c κs = search needs
-
 returns : tie.Need-returns
 returns c = rw (c .new .ensures)
 
 pub refusal-spec : {M : Type 1} → statement M
-refusal-spec = tie.close (tie.spec new-requires returns)
+refusal-spec = tie.close (tie.spec (search needs) returns)

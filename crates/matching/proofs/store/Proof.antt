@@ -72,9 +72,6 @@ part-entry-of-end c = omega (arith, ends (c .before))
 entry-of-requires : tie.Need-entry-of-requires Inv-loop μ-loop
 entry-of-requires c κs = tt
 
-put-entry-requires : tie.Need-put-entry-requires Inv-loop μ-loop
-put-entry-requires c κs = omega arith
-
 add-at-2 : tie.Need-add-at-2 Inv-loop μ-loop
 add-at-2 c = let e = end (c .before .before) in omega (arith, ends e, begin e .good)
 
@@ -108,7 +105,7 @@ store-spec =
     part-entry-of-start
     part-entry-of-end
     entry-of-requires
-    put-entry-requires
+    (λ c κs. omega arith)
     add-at-2
     loop-less
     loop-again

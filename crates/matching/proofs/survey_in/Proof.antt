@@ -4,12 +4,6 @@ use borrow.Author.Needs.{needs}
 use Rattle.matching.proofs.survey_in.Statement.{statement}
 use Rattle.matching.proofs.survey_in.Tie as tie
 
-survey-requires : tie.Need-survey-requires
-survey-requires c κs = search needs
-
-refusal-requires : tie.Need-refusal-requires
-refusal-requires c κs = search needs
-
 returns : tie.Need-returns
 returns c = rw (← c .before .before .survey .ensures, lt-leb _ _ (c .before .if1 .taken)) (c .refusal .ensures)
 
@@ -17,4 +11,4 @@ returns-2 : tie.Need-returns-2
 returns-2 c = rw (← c .before .survey .ensures, le-leb _ _ (c .if1 .left))
 
 pub survey-in-spec : {M : Type 1} → statement M
-survey-in-spec = tie.close (tie.spec survey-requires refusal-requires returns returns-2)
+survey-in-spec = tie.close (tie.spec (search needs) (search needs) returns returns-2)

@@ -70,9 +70,6 @@ loop-holds c = (omega arith, (omega arith, refl))
 line-end-requires : tie.Need-line-end-requires Inv-loop μ-loop
 line-end-requires c κs = tt
 
-add-refusal : tie.Need-add-refusal Inv-loop μ-loop
-add-refusal c = omega arith
-
 refusal-requires : tie.Need-refusal-requires Inv-loop μ-loop
 refusal-requires c κs = tt
 
@@ -94,12 +91,6 @@ part-entry-of-end c = omega (arith, ends (c .before))
 entry-of-requires : tie.Need-entry-of-requires Inv-loop μ-loop
 entry-of-requires c κs = tt
 
-enum-told : tie.Need-enum-told Inv-loop μ-loop
-enum-told c = search needs
-
-add-refusal-2 : tie.Need-add-refusal-2 Inv-loop μ-loop
-add-refusal-2 c = omega arith
-
 refusal-requires-2 : tie.Need-refusal-requires-2 Inv-loop μ-loop
 refusal-requires-2 c κs = tt
 
@@ -107,12 +98,6 @@ returns-2 : tie.Need-returns-2 Inv-loop μ-loop
 returns-2 c =
     let p = c .before .before .before in
     c .refusal2 .ensures ∙ sym (by-line p _ (lines-refused _ _ _ (some p) (is p (c .before .enum-told .given .1))))
-
-enum-told-2 : tie.Need-enum-told-2 Inv-loop μ-loop
-enum-told-2 c = search needs
-
-add-refusal-3 : tie.Need-add-refusal-3 Inv-loop μ-loop
-add-refusal-3 c = omega arith
 
 refusal-requires-3 : tie.Need-refusal-requires-3 Inv-loop μ-loop
 refusal-requires-3 c κs = tt
@@ -152,19 +137,19 @@ survey-lines-spec =
     μ-loop
     loop-holds
     line-end-requires
-    add-refusal
+    (λ c. omega arith)
     refusal-requires
     returns
     sub-entry-of
     part-entry-of-start
     part-entry-of-end
     entry-of-requires
-    enum-told
-    add-refusal-2
+    (search needs)
+    (λ c. omega arith)
     refusal-requires-2
     returns-2
-    enum-told-2
-    add-refusal-3
+    (search needs)
+    (λ c. omega arith)
     refusal-requires-3
     returns-3
     add-n

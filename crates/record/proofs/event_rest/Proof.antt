@@ -140,87 +140,24 @@ past₅ : (c : tie.After-known-told5) → let k = four c in
     (fieldsFrom (line (row₄ k)) (c .before .mark .given .0 .1 .0))
 past₅ c = past₄ (four c) ∙ order-given _ _ _ _ _ _ (part₅ (c .before .before .before) ∙ c .before .mark .given .1) _
 
-row-of-requires : tie.Need-row-of-requires
-row-of-requires c κs = search needs
-
-has-place-requires : tie.Need-has-place-requires
-has-place-requires c κs = search needs
-
-number-if-requires : tie.Need-number-if-requires
-number-if-requires c κs = search needs
-
-enum-known-place : tie.Need-enum-known-place
-enum-known-place c = search needs
-
-enum-told : tie.Need-enum-told
-enum-told c = search needs
-
 returns : tie.Need-returns
 unfolding eventRest
 returns c = sym (number-refused _ _ _ _ (part₁ (c .before .before) ∙ c .enum-told .given .1) _)
 
-has-order-requires : tie.Need-has-order-requires
-has-order-requires c κs = search needs
-
-order-if-requires : tie.Need-order-if-requires
-order-if-requires c κs = search needs
-
-enum-known-order : tie.Need-enum-known-order
-enum-known-order c = search needs
-
-enum-told-2 : tie.Need-enum-told-2
-enum-told-2 c = search needs
-
 returns-2 : tie.Need-returns-2
 returns-2 c = sym (past₁ (c .before .before .before .before) ∙ order-refused _ _ _ _ (part₂ (c .before .before) ∙ c .enum-told2 .given .1) _)
-
-number-if-requires-2 : tie.Need-number-if-requires-2
-number-if-requires-2 c κs = search needs
-
-enum-known-first : tie.Need-enum-known-first
-enum-known-first c = search needs
-
-enum-told-3 : tie.Need-enum-told-3
-enum-told-3 c = search needs
 
 returns-3 : tie.Need-returns-3
 returns-3 c = sym (past₂ (c .before .before .before) ∙ number-refused _ _ _ _ (part₃ (c .before .before) ∙ c .enum-told3 .given .1) _)
 
-number-if-requires-3 : tie.Need-number-if-requires-3
-number-if-requires-3 c κs = search needs
-
-enum-known-second : tie.Need-enum-known-second
-enum-known-second c = search needs
-
-enum-told-4 : tie.Need-enum-told-4
-enum-told-4 c = search needs
-
 returns-4 : tie.Need-returns-4
 returns-4 c = sym (past₃ (c .before .before .before) ∙ number-refused _ _ _ _ (part₄ (c .before .before) ∙ c .enum-told4 .given .1) _)
-
-has-mark-requires : tie.Need-has-mark-requires
-has-mark-requires c κs = search needs
-
-order-if-requires-2 : tie.Need-order-if-requires-2
-order-if-requires-2 c κs = search needs
-
-enum-known-mark : tie.Need-enum-known-mark
-enum-known-mark c = search needs
-
-enum-told-5 : tie.Need-enum-told-5
-enum-told-5 c = search needs
 
 returns-5 : tie.Need-returns-5
 returns-5 c = sym (past₄ (c .before .before .before .before) ∙ order-refused _ _ _ _ (part₅ (c .before .before) ∙ c .enum-told5 .given .1) _)
 
-ends-at-requires : tie.Need-ends-at-requires
-ends-at-requires c κs = search needs
-
 returns-6 : tie.Need-returns-6
 returns-6 c = sym (past₅ (c .before .before) ∙ not-ended _ _ _ _ (sym (c .before .ends-at .ensures) ∙ not-true _ (c .if1 .taken)))
-
-suits-requires : tie.Need-suits-requires
-suits-requires c κs = search needs
 
 returns-7 : tie.Need-returns-7
 returns-7 c =
@@ -240,32 +177,32 @@ pub event-rest-spec : {M : Type 1} → statement M
 event-rest-spec =
     tie.close
     (tie.spec
-    row-of-requires
-    has-place-requires
-    number-if-requires
-    enum-known-place
-    enum-told
+    (search needs)
+    (search needs)
+    (search needs)
+    (search needs)
+    (search needs)
     returns
-    has-order-requires
-    order-if-requires
-    enum-known-order
-    enum-told-2
+    (search needs)
+    (search needs)
+    (search needs)
+    (search needs)
     returns-2
-    number-if-requires-2
-    enum-known-first
-    enum-told-3
+    (search needs)
+    (search needs)
+    (search needs)
     returns-3
-    number-if-requires-3
-    enum-known-second
-    enum-told-4
+    (search needs)
+    (search needs)
+    (search needs)
     returns-4
-    has-mark-requires
-    order-if-requires-2
-    enum-known-mark
-    enum-told-5
+    (search needs)
+    (search needs)
+    (search needs)
+    (search needs)
     returns-5
-    ends-at-requires
+    (search needs)
     returns-6
-    suits-requires
+    (search needs)
     returns-7
     returns-8)

@@ -58,33 +58,12 @@ past-value c =
 past-end : (c : tie.Else1) → let k = c .before .before in whole (one k) ≡ last (place (one k)) (value k)
 past-end c = past-value (c .before .before) ∙ ended _ _ _ _ (sym (c .before .ends-at .ensures) ∙ not-false _ (c .if1 .left))
 
-number-if-requires : tie.Need-number-if-requires
-number-if-requires c κs = search needs
-
-enum-known-place : tie.Need-enum-known-place
-enum-known-place c = search needs
-
-enum-told : tie.Need-enum-told
-enum-told c = search needs
-
 returns : tie.Need-returns
 unfolding initRest
 returns c = sym (number-refused _ _ _ _ (sym (c .before .before .number-if .ensures) ∙ c .enum-told .given .1) _)
 
-number-if-requires-2 : tie.Need-number-if-requires-2
-number-if-requires-2 c κs = search needs
-
-enum-known-value : tie.Need-enum-known-value
-enum-known-value c = search needs
-
-enum-told-2 : tie.Need-enum-told-2
-enum-told-2 c = search needs
-
 returns-2 : tie.Need-returns-2
 returns-2 c = sym (past-place (c .before .before .before) ∙ number-refused _ _ _ _ (sym (c .before .before .number-if2 .ensures) ∙ c .enum-told2 .given .1) _)
-
-ends-at-requires : tie.Need-ends-at-requires
-ends-at-requires c κs = search needs
 
 returns-3 : tie.Need-returns-3
 returns-3 c = sym (past-value (c .before .before) ∙ not-ended _ _ _ _ (sym (c .before .ends-at .ensures) ∙ not-true _ (c .if1 .taken)))
@@ -99,15 +78,15 @@ pub init-rest-spec : {M : Type 1} → statement M
 init-rest-spec =
     tie.close
     (tie.spec
-    number-if-requires
-    enum-known-place
-    enum-told
+    (search needs)
+    (search needs)
+    (search needs)
     returns
-    number-if-requires-2
-    enum-known-value
-    enum-told-2
+    (search needs)
+    (search needs)
+    (search needs)
     returns-2
-    ends-at-requires
+    (search needs)
     returns-3
     returns-4
     returns-5)

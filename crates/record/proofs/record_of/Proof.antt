@@ -36,15 +36,6 @@ found : (c : tie.After-known-told)
     → fields (line c) ≡ take (to c - from c) (drop (from c) (line c)) ∷ fieldsFrom (line c) (to c + 1)
 found c = sym (fields-start _) ∙ field-step _ _ _ _ (step c)
 
-field-of-requires : tie.Need-field-of-requires
-field-of-requires c κs = search needs
-
-enum-known-from : tie.Need-enum-known-from
-enum-known-from c = search needs
-
-enum-told : tie.Need-enum-told
-enum-told c = search needs
-
 returns : tie.Need-returns
 unfolding recordOf
 returns c = rw (← fields-start _, line-end _ _ (sym (c .before .before .field-of .ensures) ∙ c .enum-told .given .1))
@@ -58,17 +49,8 @@ part-word-start c = inside c .0
 part-word-end : tie.Need-part-word-end
 part-word-end c = inside c .1
 
-slice-aggregate-same-bytes : tie.Need-slice-aggregate-same-bytes
-slice-aggregate-same-bytes c = search needs
-
-same-bytes-requires : tie.Need-same-bytes-requires
-same-bytes-requires c κs = search needs
-
 add-init-rest : tie.Need-add-init-rest
 add-init-rest c = omega (arith, inside (c .before .before .before .before))
-
-init-rest-requires : tie.Need-init-rest-requires
-init-rest-requires c κs = search needs
 
 returns-2 : tie.Need-returns-2
 unfolding recordOf
@@ -76,14 +58,8 @@ returns-2 c =
     let k = c .before .before .before .before .before in
     rw (found k, ← c .before .before .same-bytes .ensures, c .before .if1 .taken) (c .init-rest .ensures)
 
-kind-of-requires : tie.Need-kind-of-requires
-kind-of-requires c κs = search needs
-
 add-event-rest : tie.Need-add-event-rest
 add-event-rest c = omega (arith, inside (c .before .before .before .before .before))
-
-event-rest-requires : tie.Need-event-rest-requires
-event-rest-requires c κs = search needs
 
 returns-3 : tie.Need-returns-3
 unfolding recordOf
@@ -96,19 +72,19 @@ pub record-of-spec : {M : Type 1} → statement M
 record-of-spec =
     tie.close
     (tie.spec
-    field-of-requires
-    enum-known-from
-    enum-told
+    (search needs)
+    (search needs)
+    (search needs)
     returns
     sub-word
     part-word-start
     part-word-end
-    slice-aggregate-same-bytes
-    same-bytes-requires
+    (search needs)
+    (search needs)
     add-init-rest
-    init-rest-requires
+    (search needs)
     returns-2
-    kind-of-requires
+    (search needs)
     add-event-rest
-    event-rest-requires
+    (search needs)
     returns-3)

@@ -92,9 +92,6 @@ returns-2 c =
     let s = c .before .before .before .before in
     by-count _ _ (source s) (target s) _ (s .start-answer .ensures) (c .before .before .if1 .left) (c .new .ensures) (c .before .if2 .taken)
 
-entry-answer-requires : tie.Need-entry-answer-requires
-entry-answer-requires c κs = omega arith
-
 -- the entries are as many as the source events
 module _ (c : tie.Else2) where
   abbrev begun : tie.After-start-answer
@@ -143,7 +140,7 @@ judge-spec =
     returns
     new-requires
     returns-2
-    entry-answer-requires
+    (λ c κs. omega arith)
     returns-3
     source-answer-requires
     returns-4

@@ -11,37 +11,16 @@ Inv-loop header k at₀ left₀ at left = left ≤ k
 abbrev μ-loop : tie.MeasureT-loop
 μ-loop header k at₀ left₀ at left = left
 
-loop-holds : tie.Need-loop-holds Inv-loop μ-loop
-loop-holds c = omega arith
-
-find-requires : tie.Need-find-requires Inv-loop μ-loop
-find-requires c κs = search needs
-
-forth-requires : tie.Need-forth-requires Inv-loop μ-loop
-forth-requires c κs = search needs
-
-sub-left : tie.Need-sub-left Inv-loop μ-loop
-sub-left c = omega arith
-
-loop-less : tie.Need-loop-less Inv-loop μ-loop
-loop-less c = omega arith
-
-loop-again : tie.Need-loop-again Inv-loop μ-loop
-loop-again c = omega arith
-
-returns : tie.Need-returns Inv-loop μ-loop
-returns c = search needs
-
 pub field-start-spec : {M : Type 1} → statement M
 field-start-spec =
     tie.close
     (tie.spec
     Inv-loop
     μ-loop
-    loop-holds
-    find-requires
-    forth-requires
-    sub-left
-    loop-less
-    loop-again
-    returns)
+    (λ c. omega arith)
+    (search needs)
+    (search needs)
+    (λ c. omega arith)
+    (λ c. omega arith)
+    (λ c. omega arith)
+    (search needs))

@@ -5,15 +5,9 @@ use borrow.Author.Needs.{needs}
 use Rattle.checker.proofs.line.fault_side.Statement.{statement}
 use Rattle.checker.proofs.line.fault_side.Tie as tie
 
-is-at-a-line-requires : tie.Need-is-at-a-line-requires
-is-at-a-line-requires c κs = search needs
-
 returns : tie.Need-returns
 unfolding faultSide
 returns c = rw (sym (c .before .is-at-a-line .ensures) ∙ c .if1 .taken)
-
-is-at-an-event-requires : tie.Need-is-at-an-event-requires
-is-at-an-event-requires c κs = search needs
 
 returns-2 : tie.Need-returns-2
 unfolding faultSide
@@ -26,4 +20,4 @@ returns-3 c =
     let e = c .before in rw (sym (e .before .before .is-at-a-line .ensures) ∙ e .before .if1 .left, sym (e .is-at-an-event .ensures) ∙ c .if2 .left)
 
 pub fault-side-spec : {M : Type 1} → statement M
-fault-side-spec = tie.close (tie.spec is-at-a-line-requires returns is-at-an-event-requires returns-2 returns-3)
+fault-side-spec = tie.close (tie.spec (search needs) returns (search needs) returns-2 returns-3)

@@ -6,21 +6,9 @@ use borrow.Author.Needs.{needs}
 use Rattle.checker.proofs.line.fault_span.Statement.{statement}
 use Rattle.checker.proofs.line.fault_span.Tie as tie
 
-is-at-a-line-requires : tie.Need-is-at-a-line-requires
-is-at-a-line-requires c κs = search needs
-
-span-of-requires : tie.Need-span-of-requires
-span-of-requires c κs = search needs
-
 returns : tie.Need-returns
 unfolding lineOf lineSpan
 returns c = rw (sym (c .before .before .is-at-a-line .ensures) ∙ c .before .if1 .taken) (c .span-of .ensures)
-
-is-at-an-event-requires : tie.Need-is-at-an-event-requires
-is-at-an-event-requires c κs = search needs
-
-span-of-requires-2 : tie.Need-span-of-requires-2
-span-of-requires-2 c κs = search needs
 
 returns-2 : tie.Need-returns-2
 unfolding lineOf lineSpan
@@ -39,4 +27,4 @@ returns-3 c =
 pub fault-span-spec : {M : Type 1} → statement M
 fault-span-spec =
     tie.close
-    (tie.spec is-at-a-line-requires span-of-requires returns is-at-an-event-requires span-of-requires-2 returns-2 returns-3)
+    (tie.spec (search needs) (search needs) returns (search needs) (search needs) returns-2 returns-3)

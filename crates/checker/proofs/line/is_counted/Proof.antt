@@ -5,12 +5,6 @@ use borrow.Author.Needs.{needs}
 use Rattle.checker.proofs.line.is_counted.Statement.{statement}
 use Rattle.checker.proofs.line.is_counted.Tie as tie
 
-record-of-requires : tie.Need-record-of-requires
-record-of-requires c κs = search needs
-
-is-event-requires : tie.Need-is-event-requires
-is-event-requires c κs = search needs
-
 returns : tie.Need-returns
 unfolding counted
 returns c = rw (c .before .before .if1 .taken) (c .is-event .ensures ∙ ap isEvent (c .before .record-of .ensures))
@@ -20,4 +14,4 @@ unfolding counted
 returns-2 c = rw (c .if1 .left)
 
 pub is-counted-spec : {M : Type 1} → statement M
-is-counted-spec = tie.close (tie.spec record-of-requires is-event-requires returns returns-2)
+is-counted-spec = tie.close (tie.spec (search needs) (search needs) returns returns-2)

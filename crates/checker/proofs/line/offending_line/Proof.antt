@@ -30,29 +30,11 @@ in-source c =
     ∙ ap (λ b. cond b (a .target .now) (a .source .now)) (ne-eqb _ _ (c .if1 .left)))
     (c .before .before .offending-span .ensures .0)
 
-offending-span-requires : tie.Need-offending-span-requires
-offending-span-requires c κs = search needs
-
-fault-side-requires : tie.Need-fault-side-requires
-fault-side-requires c κs = search needs
-
-sub-result : tie.Need-sub-result
-sub-result c = search needs
-
-part-result-start : tie.Need-part-result-start
-part-result-start c = search needs
-
 part-result-end : tie.Need-part-result-end
 part-result-end c = in-target c .within
 
 returns : tie.Need-returns
 returns c = in-target (c .before) .is
-
-sub-result-2 : tie.Need-sub-result-2
-sub-result-2 c = search needs
-
-part-result-start-2 : tie.Need-part-result-start-2
-part-result-start-2 c = search needs
 
 part-result-end-2 : tie.Need-part-result-end-2
 part-result-end-2 c = in-source c .within
@@ -64,13 +46,13 @@ pub offending-line-spec : {M : Type 1} → statement M
 offending-line-spec =
     tie.close
     (tie.spec
-    offending-span-requires
-    fault-side-requires
-    sub-result
-    part-result-start
+    (search needs)
+    (search needs)
+    (search needs)
+    (search needs)
     part-result-end
     returns
-    sub-result-2
-    part-result-start-2
+    (search needs)
+    (search needs)
     part-result-end-2
     returns-2)

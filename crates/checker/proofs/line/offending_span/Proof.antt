@@ -7,18 +7,9 @@ use Rattle.checker.specs.Line.{offendingLine, offendingSpan}
 use Rattle.checker.proofs.line.offending_span.Statement.{statement}
 use Rattle.checker.proofs.line.offending_span.Tie as tie
 
-fault-side-requires : tie.Need-fault-side-requires
-fault-side-requires c κs = search needs
-
-fault-span-requires : tie.Need-fault-span-requires
-fault-span-requires c κs = search needs
-
 returns : tie.Need-returns
 unfolding offendingLine offendingSpan
 returns c = rw (sym (c .before .before .fault-side .ensures) ∙ c .before .if1 .taken) (c .fault-span .ensures)
-
-fault-span-requires-2 : tie.Need-fault-span-requires-2
-fault-span-requires-2 c κs = search needs
 
 returns-2 : tie.Need-returns-2
 unfolding offendingLine offendingSpan
@@ -32,4 +23,4 @@ returns-3 c =
 
 pub offending-span-spec : {M : Type 1} → statement M
 offending-span-spec =
-    tie.close (tie.spec fault-side-requires fault-span-requires returns fault-span-requires-2 returns-2 returns-3)
+    tie.close (tie.spec (search needs) (search needs) returns (search needs) returns-2 returns-3)

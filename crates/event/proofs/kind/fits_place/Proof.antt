@@ -3,15 +3,6 @@ use borrow.Author.Needs.{needs}
 use Rattle.event.proofs.kind.fits_place.Statement.{statement}
 use Rattle.event.proofs.kind.fits_place.Tie as tie
 
-enum-told : tie.Need-enum-told
-enum-told c = search needs
-
-enum-told-2 : tie.Need-enum-told-2
-enum-told-2 c = search needs
-
-enum-told-3 : tie.Need-enum-told-3
-enum-told-3 c = search needs
-
 returns : tie.Need-returns
 returns c = rw (c .enum-told .given .1)
 
@@ -23,4 +14,4 @@ returns-3 c = rw (c .enum-told3 .given .1)
 
 pub fits-place-spec : {M : Type 1} → statement M
 fits-place-spec =
-    tie.close (tie.spec enum-told enum-told-2 enum-told-3 returns returns-2 returns-3)
+    tie.close (tie.spec (search needs) (search needs) (search needs) returns returns-2 returns-3)

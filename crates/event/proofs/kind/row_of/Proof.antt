@@ -19,36 +19,6 @@ no-row k h =
     cases (side k 1) (λ a. let z : k ≡ zero = omega arith in rw z)
     (λ a. List·getD-eq-default {A = Row} rows noKind (h a))
 
-a-row-requires : tie.Need-a-row-requires
-a-row-requires c κs = search needs
-
-a-row-requires-2 : tie.Need-a-row-requires-2
-a-row-requires-2 c κs = search needs
-
-a-row-requires-3 : tie.Need-a-row-requires-3
-a-row-requires-3 c κs = search needs
-
-a-row-requires-4 : tie.Need-a-row-requires-4
-a-row-requires-4 c κs = search needs
-
-a-row-requires-5 : tie.Need-a-row-requires-5
-a-row-requires-5 c κs = search needs
-
-a-row-requires-6 : tie.Need-a-row-requires-6
-a-row-requires-6 c κs = search needs
-
-a-row-requires-7 : tie.Need-a-row-requires-7
-a-row-requires-7 c κs = search needs
-
-a-row-requires-8 : tie.Need-a-row-requires-8
-a-row-requires-8 c κs = search needs
-
-a-row-requires-9 : tie.Need-a-row-requires-9
-a-row-requires-9 c κs = search needs
-
-a-row-requires-10 : tie.Need-a-row-requires-10
-a-row-requires-10 c κs = search needs
-
 returns : tie.Need-returns
 unfolding row
 returns c = rw (c .before .match .keys1) (c .a-row .ensures)
@@ -99,16 +69,16 @@ pub row-of-spec : {M : Type 1} → statement M
 row-of-spec =
     tie.close
     (tie.spec
-    a-row-requires
-    a-row-requires-2
-    a-row-requires-3
-    a-row-requires-4
-    a-row-requires-5
-    a-row-requires-6
-    a-row-requires-7
-    a-row-requires-8
-    a-row-requires-9
-    a-row-requires-10
+    (search needs)
+    (search needs)
+    (search needs)
+    (search needs)
+    (search needs)
+    (search needs)
+    (search needs)
+    (search needs)
+    (search needs)
+    (search needs)
     returns
     returns-2
     returns-3

@@ -38,25 +38,13 @@ values :
     → fitsValues (row (asked₃ c .args .kind) .values) (asked₃ c .args .first) (asked₃ c .args .second) ≡ c .fits-values .result
 values c = rw (← c .before .before .before .before .before .row-of .ensures) (sym (c .fits-values .ensures))
 
-row-of-requires : tie.Need-row-of-requires
-row-of-requires c κs = search needs
-
-takes-order-requires : tie.Need-takes-order-requires
-takes-order-requires c κs = search needs
-
 returns : tie.Need-returns
 unfolding lawful
 returns c = rw (orders (c .before) ∙ not-true _ (c .if1 .taken))
 
-fits-place-requires : tie.Need-fits-place-requires
-fits-place-requires c κs = search needs
-
 returns-2 : tie.Need-returns-2
 unfolding lawful
 returns-2 c = rw (orders-held (c .before .before), place (c .before) ∙ not-true _ (c .if2 .taken))
-
-fits-values-requires : tie.Need-fits-values-requires
-fits-values-requires c κs = search needs
 
 returns-3 : tie.Need-returns-3
 unfolding lawful
@@ -66,10 +54,10 @@ pub suits-spec : {M : Type 1} → statement M
 suits-spec =
     tie.close
     (tie.spec
-    row-of-requires
-    takes-order-requires
+    (search needs)
+    (search needs)
     returns
-    fits-place-requires
+    (search needs)
     returns-2
-    fits-values-requires
+    (search needs)
     returns-3)

@@ -6,57 +6,6 @@ use borrow.Author.Needs.{needs}
 use Rattle.event.proofs.kind.takes_order.Statement.{statement}
 use Rattle.event.proofs.kind.takes_order.Tie as tie
 
-enum-told : tie.Need-enum-told
-enum-told c = search needs
-
-enum-told-2 : tie.Need-enum-told-2
-enum-told-2 c = search needs
-
-slice-aggregate-is-in : tie.Need-slice-aggregate-is-in
-slice-aggregate-is-in c = search needs
-
-is-in-requires : tie.Need-is-in-requires
-is-in-requires c κs = search needs
-
-enum-told-3 : tie.Need-enum-told-3
-enum-told-3 c = search needs
-
-slice-aggregate-is-in-2 : tie.Need-slice-aggregate-is-in-2
-slice-aggregate-is-in-2 c = search needs
-
-is-in-requires-2 : tie.Need-is-in-requires-2
-is-in-requires-2 c κs = search needs
-
-enum-told-4 : tie.Need-enum-told-4
-enum-told-4 c = search needs
-
-slice-aggregate-is-in-3 : tie.Need-slice-aggregate-is-in-3
-slice-aggregate-is-in-3 c = search needs
-
-is-in-requires-3 : tie.Need-is-in-requires-3
-is-in-requires-3 c κs = search needs
-
-enum-told-5 : tie.Need-enum-told-5
-enum-told-5 c = search needs
-
-slice-aggregate-is-in-4 : tie.Need-slice-aggregate-is-in-4
-slice-aggregate-is-in-4 c = search needs
-
-is-in-requires-4 : tie.Need-is-in-requires-4
-is-in-requires-4 c κs = search needs
-
-enum-told-6 : tie.Need-enum-told-6
-enum-told-6 c = search needs
-
-slice-aggregate-is-in-5 : tie.Need-slice-aggregate-is-in-5
-slice-aggregate-is-in-5 c = search needs
-
-is-in-requires-5 : tie.Need-is-in-requires-5
-is-in-requires-5 c κs = search needs
-
-enum-told-7 : tie.Need-enum-told-7
-enum-told-7 c = search needs
-
 returns : tie.Need-returns
 unfolding takes
 returns c = rw (c .enum-told .given .1) (sym (or-false _))
@@ -89,23 +38,23 @@ pub takes-order-spec : {M : Type 1} → statement M
 takes-order-spec =
     tie.close
     (tie.spec
-    enum-told
-    enum-told-2
-    slice-aggregate-is-in
-    is-in-requires
-    enum-told-3
-    slice-aggregate-is-in-2
-    is-in-requires-2
-    enum-told-4
-    slice-aggregate-is-in-3
-    is-in-requires-3
-    enum-told-5
-    slice-aggregate-is-in-4
-    is-in-requires-4
-    enum-told-6
-    slice-aggregate-is-in-5
-    is-in-requires-5
-    enum-told-7
+    (search needs)
+    (search needs)
+    (search needs)
+    (search needs)
+    (search needs)
+    (search needs)
+    (search needs)
+    (search needs)
+    (search needs)
+    (search needs)
+    (search needs)
+    (search needs)
+    (search needs)
+    (search needs)
+    (search needs)
+    (search needs)
+    (search needs)
     returns
     returns-2
     returns-3

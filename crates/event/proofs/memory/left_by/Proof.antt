@@ -4,9 +4,6 @@ use borrow.Author.Needs.{needs}
 use Rattle.event.proofs.memory.left_by.Statement.{statement}
 use Rattle.event.proofs.memory.left_by.Tie as tie
 
-wrapped-sum-requires : tie.Need-wrapped-sum-requires
-wrapped-sum-requires c κs = search needs
-
 returns : tie.Need-returns
 returns c = rw (c .match .keys1)
 
@@ -24,4 +21,4 @@ returns-5 c = simp (ne-eqb _ _ (c .match .rest .1), ne-eqb _ _ (c .match .rest .
 
 pub left-by-spec : {M : Type 1} → statement M
 left-by-spec =
-    tie.close (tie.spec wrapped-sum-requires returns returns-2 returns-3 returns-4 returns-5)
+    tie.close (tie.spec (search needs) returns returns-2 returns-3 returns-4 returns-5)

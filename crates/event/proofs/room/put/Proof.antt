@@ -13,62 +13,20 @@ returns : tie.Need-returns
 unfolding putAt
 returns c = rw (le-ltb _ _ (c .if1 .taken))
 
-mul-at : tie.Need-mul-at
-mul-at c = search needs
-
-mul-room : tie.Need-mul-room
-mul-room c = search needs
-
-slice-write-room : tie.Need-slice-write-room
-slice-write-room c = search needs
-
-add-room : tie.Need-add-room
-add-room c = search needs
-
-mul-room-2 : tie.Need-mul-room-2
-mul-room-2 c = search needs
-
 slice-write-room-2 : tie.Need-slice-write-room-2
 slice-write-room-2 c = simp length-set (omega arith)
-
-add-room-2 : tie.Need-add-room-2
-add-room-2 c = search needs
-
-mul-room-3 : tie.Need-mul-room-3
-mul-room-3 c = search needs
 
 slice-write-room-3 : tie.Need-slice-write-room-3
 slice-write-room-3 c = simp length-set (omega arith)
 
-add-room-3 : tie.Need-add-room-3
-add-room-3 c = search needs
-
-mul-room-4 : tie.Need-mul-room-4
-mul-room-4 c = search needs
-
 slice-write-room-4 : tie.Need-slice-write-room-4
 slice-write-room-4 c = simp length-set (omega arith)
-
-add-room-4 : tie.Need-add-room-4
-add-room-4 c = search needs
-
-mul-room-5 : tie.Need-mul-room-5
-mul-room-5 c = search needs
 
 slice-write-room-5 : tie.Need-slice-write-room-5
 slice-write-room-5 c = simp length-set (omega arith)
 
-add-room-5 : tie.Need-add-room-5
-add-room-5 c = search needs
-
-mul-room-6 : tie.Need-mul-room-6
-mul-room-6 c = search needs
-
 slice-write-room-6 : tie.Need-slice-write-room-6
 slice-write-room-6 c = simp length-set (omega arith)
-
-same-length : tie.Need-same-length
-same-length c = search needs
 
 returns-2 : tie.Need-returns-2
 unfolding putAt
@@ -79,23 +37,23 @@ put-spec =
     tie.close
     (tie.spec
     returns
-    mul-at
-    mul-room
-    slice-write-room
-    add-room
-    mul-room-2
+    (search needs)
+    (search needs)
+    (search needs)
+    (search needs)
+    (search needs)
     slice-write-room-2
-    add-room-2
-    mul-room-3
+    (search needs)
+    (search needs)
     slice-write-room-3
-    add-room-3
-    mul-room-4
+    (search needs)
+    (search needs)
     slice-write-room-4
-    add-room-4
-    mul-room-5
+    (search needs)
+    (search needs)
     slice-write-room-5
-    add-room-5
-    mul-room-6
+    (search needs)
+    (search needs)
     slice-write-room-6
-    same-length
+    (search needs)
     returns-2)

@@ -31,15 +31,6 @@ inside c = field-in _ _ _ _ (found c)
 split-at : (c : tie.After-from) → fields (this c) ≡ take (stop c - start c) (drop (start c) (this c)) ∷ fieldsFrom (this c) (stop c + 1)
 split-at c = sym (fields-start (this c)) ∙ field-step _ _ _ _ (found c)
 
-field-of-requires : tie.Need-field-of-requires
-field-of-requires c κs = search needs
-
-enum-known-from : tie.Need-enum-known-from
-enum-known-from c = search needs
-
-enum-told : tie.Need-enum-told
-enum-told c = search needs
-
 returns : tie.Need-returns
 unfolding entryOf
 returns c = rw (sym (fields-start _) ∙ line-end _ _ (sym (c .before .before .field-of .ensures) ∙ c .enum-told .given .1))
@@ -53,17 +44,8 @@ part-word-start c = omega (arith, inside (c .before))
 part-word-end : tie.Need-part-word-end
 part-word-end c = omega (arith, inside (c .before))
 
-slice-aggregate-same-bytes : tie.Need-slice-aggregate-same-bytes
-slice-aggregate-same-bytes c = search needs
-
-same-bytes-requires : tie.Need-same-bytes-requires
-same-bytes-requires c κs = search needs
-
 add-gone-rest : tie.Need-add-gone-rest
 add-gone-rest c = let f = c .before .before .before .before .before in omega (arith, inside f, f .before .before .before .before .good)
-
-gone-rest-requires : tie.Need-gone-rest-requires
-gone-rest-requires c κs = search needs
 
 returns-2 : tie.Need-returns-2
 unfolding entryOf
@@ -74,17 +56,8 @@ returns-2 c =
           ∙ c .before .if1 .taken,
     ) (c .gone-rest .ensures)
 
-slice-aggregate-same-bytes-2 : tie.Need-slice-aggregate-same-bytes-2
-slice-aggregate-same-bytes-2 c = search needs
-
-same-bytes-requires-2 : tie.Need-same-bytes-requires-2
-same-bytes-requires-2 c κs = search needs
-
 add-keep-rest : tie.Need-add-keep-rest
 add-keep-rest c = let f = c .before .before .before .before .before .before .before .before in omega (arith, inside f, f .before .before .before .before .good)
-
-keep-rest-requires : tie.Need-keep-rest-requires
-keep-rest-requires c κs = search needs
 
 returns-3 : tie.Need-returns-3
 unfolding entryOf
@@ -113,21 +86,21 @@ pub entry-of-spec : {M : Type 1} → statement M
 entry-of-spec =
     tie.close
     (tie.spec
-    field-of-requires
-    enum-known-from
-    enum-told
+    (search needs)
+    (search needs)
+    (search needs)
     returns
     sub-word
     part-word-start
     part-word-end
-    slice-aggregate-same-bytes
-    same-bytes-requires
+    (search needs)
+    (search needs)
     add-gone-rest
-    gone-rest-requires
+    (search needs)
     returns-2
-    slice-aggregate-same-bytes-2
-    same-bytes-requires-2
+    (search needs)
+    (search needs)
     add-keep-rest
-    keep-rest-requires
+    (search needs)
     returns-3
     returns-4)

@@ -6,9 +6,6 @@ use borrow.Author.Needs.{needs}
 use Rattle.matching.proofs.entry.gone_rest.Statement.{statement}
 use Rattle.matching.proofs.entry.gone_rest.Tie as tie
 
-ends-at-requires : tie.Need-ends-at-requires
-ends-at-requires c κs = search needs
-
 returns : tie.Need-returns
 unfolding goneRest
 returns c = sym (ended _ _ _ _ (sym (c .before .ends-at .ensures) ∙ c .if1 .taken))
@@ -18,4 +15,4 @@ unfolding goneRest
 returns-2 c = sym (not-ended _ _ _ _ (sym (c .before .ends-at .ensures) ∙ c .if1 .left))
 
 pub gone-rest-spec : {M : Type 1} → statement M
-gone-rest-spec = tie.close (tie.spec ends-at-requires returns returns-2)
+gone-rest-spec = tie.close (tie.spec (search needs) returns returns-2)

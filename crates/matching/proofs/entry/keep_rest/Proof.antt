@@ -8,21 +8,9 @@ use borrow.Author.Needs.{needs}
 use Rattle.matching.proofs.entry.keep_rest.Statement.{statement}
 use Rattle.matching.proofs.entry.keep_rest.Tie as tie
 
-take-number-requires : tie.Need-take-number-requires
-take-number-requires c κs = search needs
-
-enum-known-value : tie.Need-enum-known-value
-enum-known-value c = search needs
-
-enum-told : tie.Need-enum-told
-enum-told c = search needs
-
 returns : tie.Need-returns
 unfolding keepRest
 returns c = sym (bad _ _ _ _ _ (sym (c .before .before .take-number .ensures) ∙ c .enum-told .given .1))
-
-ends-at-requires : tie.Need-ends-at-requires
-ends-at-requires c κs = search needs
 
 returns-2 : tie.Need-returns-2
 unfolding keepRest
@@ -54,11 +42,11 @@ pub keep-rest-spec : {M : Type 1} → statement M
 keep-rest-spec =
     tie.close
     (tie.spec
-    take-number-requires
-    enum-known-value
-    enum-told
+    (search needs)
+    (search needs)
+    (search needs)
     returns
-    ends-at-requires
+    (search needs)
     returns-2
     returns-3
     cast-t8

@@ -18,15 +18,6 @@ returns : tie.Need-returns
 unfolding numberPart
 returns c = rw (not-true (c .before .before .args .wanted) (c .if1 .taken))
 
-take-number-requires : tie.Need-take-number-requires
-take-number-requires c κs = search needs
-
-enum-known-value : tie.Need-enum-known-value
-enum-known-value c = search needs
-
-enum-told : tie.Need-enum-told
-enum-told c = search needs
-
 returns-2 : tie.Need-returns-2
 unfolding numberPart
 returns-2 c = rw (wanted (c .before .before .before), ← c .before .before .take-number .ensures, c .enum-told .given .1)
@@ -41,4 +32,4 @@ returns-3 c = rw (wanted (c .before .before .before .before), ← c .before .bef
 pub number-if-spec : {M : Type 1} → statement M
 number-if-spec =
     tie.close
-    (tie.spec returns take-number-requires enum-known-value enum-told returns-2 cast-t10 returns-3)
+    (tie.spec returns (search needs) (search needs) (search needs) returns-2 cast-t10 returns-3)

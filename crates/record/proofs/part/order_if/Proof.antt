@@ -42,15 +42,6 @@ returns : tie.Need-returns
 unfolding orderPart
 returns c = rw (not-true (c .before .before .args .wanted) (c .if1 .taken))
 
-field-of-requires : tie.Need-field-of-requires
-field-of-requires c κs = search needs
-
-enum-known-from : tie.Need-enum-known-from
-enum-known-from c = search needs
-
-enum-told : tie.Need-enum-told
-enum-told c = search needs
-
 returns-2 : tie.Need-returns-2
 unfolding orderPart
 returns-2 c = rw (wanted (c .before .before .before), ← c .before .before .field-of .ensures, c .enum-told .given .1)
@@ -63,9 +54,6 @@ part-order-of-start c = inside c .0
 
 part-order-of-end : tie.Need-part-order-of-end
 part-order-of-end c = inside c .1
-
-order-of-requires : tie.Need-order-of-requires
-order-of-requires c κs = search needs
 
 add-t14 : tie.Need-add-t14
 add-t14 c = omega (arith, inside (c .before .before))
@@ -80,13 +68,13 @@ order-if-spec =
     tie.close
     (tie.spec
     returns
-    field-of-requires
-    enum-known-from
-    enum-told
+    (search needs)
+    (search needs)
+    (search needs)
     returns-2
     sub-order-of
     part-order-of-start
     part-order-of-end
-    order-of-requires
+    (search needs)
     add-t14
     returns-3)

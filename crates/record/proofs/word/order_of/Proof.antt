@@ -56,65 +56,23 @@ word7 c = word6 (c .before .before .before)
 past7 : (c : tie.Else7) → Past 7 (word7 c)
 past7 c = past6 (c .before .before .before) ∙ number-miss 7 _ _ _ (sym (c .before .same-bytes7 .ensures) ∙ c .if7 .left)
 
-slice-aggregate-same-bytes : tie.Need-slice-aggregate-same-bytes
-slice-aggregate-same-bytes c = search needs
-
-same-bytes-requires : tie.Need-same-bytes-requires
-same-bytes-requires c κs = search needs
-
 returns : tie.Need-returns
 returns c = sym (number-hit 1 _ _ _ (sym (c .before .same-bytes .ensures) ∙ c .if1 .taken))
-
-slice-aggregate-same-bytes-2 : tie.Need-slice-aggregate-same-bytes-2
-slice-aggregate-same-bytes-2 c = search needs
-
-same-bytes-requires-2 : tie.Need-same-bytes-requires-2
-same-bytes-requires-2 c κs = search needs
 
 returns-2 : tie.Need-returns-2
 returns-2 c = sym (past1 (c .before .before .before) ∙ number-hit 2 _ _ _ (sym (c .before .same-bytes2 .ensures) ∙ c .if2 .taken))
 
-slice-aggregate-same-bytes-3 : tie.Need-slice-aggregate-same-bytes-3
-slice-aggregate-same-bytes-3 c = search needs
-
-same-bytes-requires-3 : tie.Need-same-bytes-requires-3
-same-bytes-requires-3 c κs = search needs
-
 returns-3 : tie.Need-returns-3
 returns-3 c = sym (past2 (c .before .before .before) ∙ number-hit 3 _ _ _ (sym (c .before .same-bytes3 .ensures) ∙ c .if3 .taken))
-
-slice-aggregate-same-bytes-4 : tie.Need-slice-aggregate-same-bytes-4
-slice-aggregate-same-bytes-4 c = search needs
-
-same-bytes-requires-4 : tie.Need-same-bytes-requires-4
-same-bytes-requires-4 c κs = search needs
 
 returns-4 : tie.Need-returns-4
 returns-4 c = sym (past3 (c .before .before .before) ∙ number-hit 4 _ _ _ (sym (c .before .same-bytes4 .ensures) ∙ c .if4 .taken))
 
-slice-aggregate-same-bytes-5 : tie.Need-slice-aggregate-same-bytes-5
-slice-aggregate-same-bytes-5 c = search needs
-
-same-bytes-requires-5 : tie.Need-same-bytes-requires-5
-same-bytes-requires-5 c κs = search needs
-
 returns-5 : tie.Need-returns-5
 returns-5 c = sym (past4 (c .before .before .before) ∙ number-hit 5 _ _ _ (sym (c .before .same-bytes5 .ensures) ∙ c .if5 .taken))
 
-slice-aggregate-same-bytes-6 : tie.Need-slice-aggregate-same-bytes-6
-slice-aggregate-same-bytes-6 c = search needs
-
-same-bytes-requires-6 : tie.Need-same-bytes-requires-6
-same-bytes-requires-6 c κs = search needs
-
 returns-6 : tie.Need-returns-6
 returns-6 c = sym (past5 (c .before .before .before) ∙ number-hit 6 _ _ _ (sym (c .before .same-bytes6 .ensures) ∙ c .if6 .taken))
-
-slice-aggregate-same-bytes-7 : tie.Need-slice-aggregate-same-bytes-7
-slice-aggregate-same-bytes-7 c = search needs
-
-same-bytes-requires-7 : tie.Need-same-bytes-requires-7
-same-bytes-requires-7 c κs = search needs
 
 returns-7 : tie.Need-returns-7
 returns-7 c = sym (past6 (c .before .before .before) ∙ number-hit 7 _ _ _ (sym (c .before .same-bytes7 .ensures) ∙ c .if7 .taken))
@@ -126,25 +84,25 @@ pub order-of-spec : {M : Type 1} → statement M
 order-of-spec =
     tie.close
     (tie.spec
-    slice-aggregate-same-bytes
-    same-bytes-requires
+    (search needs)
+    (search needs)
     returns
-    slice-aggregate-same-bytes-2
-    same-bytes-requires-2
+    (search needs)
+    (search needs)
     returns-2
-    slice-aggregate-same-bytes-3
-    same-bytes-requires-3
+    (search needs)
+    (search needs)
     returns-3
-    slice-aggregate-same-bytes-4
-    same-bytes-requires-4
+    (search needs)
+    (search needs)
     returns-4
-    slice-aggregate-same-bytes-5
-    same-bytes-requires-5
+    (search needs)
+    (search needs)
     returns-5
-    slice-aggregate-same-bytes-6
-    same-bytes-requires-6
+    (search needs)
+    (search needs)
     returns-6
-    slice-aggregate-same-bytes-7
-    same-bytes-requires-7
+    (search needs)
+    (search needs)
     returns-7
     returns-8)

@@ -115,12 +115,6 @@ get-requires c κs = tt
 index-of-requires : tie.Need-index-of-requires Inv-loop μ-loop
 index-of-requires c κs = tt
 
-add-new-fault : tie.Need-add-new-fault Inv-loop μ-loop
-add-new-fault c = omega arith
-
-element-copy-out-new-fault : tie.Need-element-copy-out-new-fault Inv-loop μ-loop
-element-copy-out-new-fault c = omega arith
-
 is-load-requires : tie.Need-is-load-requires Inv-loop μ-loop
 is-load-requires c κs = tt
 
@@ -130,9 +124,6 @@ array-read-new-fault c = place-in (c .before .before)
 new-fault-requires : tie.Need-new-fault-requires Inv-loop μ-loop
 new-fault-requires c κs = tt
 
-add-new : tie.Need-add-new Inv-loop μ-loop
-add-new c = omega arith
-
 new-requires : tie.Need-new-requires Inv-loop μ-loop
 new-requires c κs = tt
 
@@ -141,14 +132,8 @@ returns c ns m =
     let f = c .before .before in
     c .new .ensures ∙ sym (from-here f ns m ∙ stops ns _ _ _ _ _ (c .before .if1 .taken) (told f ns m))
 
-add-k : tie.Need-add-k Inv-loop μ-loop
-add-k c = omega arith
-
 is-wall-requires : tie.Need-is-wall-requires Inv-loop μ-loop
 is-wall-requires c κs = tt
-
-loop-less : tie.Need-loop-less Inv-loop μ-loop
-loop-less c = omega arith
 
 loop-again : tie.Need-loop-again Inv-loop μ-loop
 loop-again c =
@@ -168,9 +153,6 @@ loop-again c =
 
 array-write-fresh : tie.Need-array-write-fresh Inv-loop μ-loop
 array-write-fresh c = place-in (c .before .before .before .before .before .before)
-
-loop-less-2 : tie.Need-loop-less-2 Inv-loop μ-loop
-loop-less-2 c = omega arith
 
 loop-again-2 : tie.Need-loop-again-2 Inv-loop μ-loop
 loop-again-2 c =
@@ -208,20 +190,20 @@ target-answer-spec =
     loop-holds
     get-requires
     index-of-requires
-    add-new-fault
-    element-copy-out-new-fault
+    (λ c. omega arith)
+    (λ c. omega arith)
     is-load-requires
     array-read-new-fault
     new-fault-requires
-    add-new
+    (λ c. omega arith)
     new-requires
     returns
-    add-k
+    (λ c. omega arith)
     is-wall-requires
-    loop-less
+    (λ c. omega arith)
     loop-again
     array-write-fresh
-    loop-less-2
+    (λ c. omega arith)
     loop-again-2
     new-requires-2
     returns-2)

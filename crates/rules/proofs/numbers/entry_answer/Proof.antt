@@ -98,17 +98,8 @@ named c k =
 loop-holds : tie.Need-loop-holds Inv-loop μ-loop
 loop-holds c = (omega arith, (refl, ([], (marked-start, ((λ k. refl), refl)))))
 
-mul-number-index : tie.Need-mul-number-index Inv-loop μ-loop
-mul-number-index c = omega arith
-
-shared-slice-read-number-index : tie.Need-shared-slice-read-number-index Inv-loop μ-loop
-shared-slice-read-number-index c = omega arith
-
 number-index-requires : tie.Need-number-index-requires Inv-loop μ-loop
 number-index-requires c κs = tt
-
-add-new : tie.Need-add-new Inv-loop μ-loop
-add-new c = omega arith
 
 new-requires : tie.Need-new-requires Inv-loop μ-loop
 new-requires c κs = tt
@@ -116,29 +107,14 @@ new-requires c κs = tt
 returns : tie.Need-returns Inv-loop μ-loop
 returns c = refused (c .before .before) (c .new .ensures) (beyond _ _ _ (c .before .if1 .taken))
 
-array-read-is-used-twice : tie.Need-array-read-is-used-twice Inv-loop μ-loop
-array-read-is-used-twice c = omega arith
-
 is-used-twice-requires : tie.Need-is-used-twice-requires Inv-loop μ-loop
 is-used-twice-requires c κs = tt
-
-add-new-2 : tie.Need-add-new-2 Inv-loop μ-loop
-add-new-2 c = omega arith
 
 new-requires-2 : tie.Need-new-requires-2 Inv-loop μ-loop
 new-requires-2 c κs = tt
 
 returns-2 : tie.Need-returns-2 Inv-loop μ-loop
 returns-2 c = refused (c .before .before .before .before) (c .new2 .ensures) (test-is (c .before .before) ∙ c .before .if2 .taken)
-
-array-write-marks : tie.Need-array-write-marks Inv-loop μ-loop
-array-write-marks c = omega arith
-
-add-i : tie.Need-add-i Inv-loop μ-loop
-add-i c = omega arith
-
-loop-less : tie.Need-loop-less Inv-loop μ-loop
-loop-less c = omega arith
 
 loop-again : tie.Need-loop-again Inv-loop μ-loop
 loop-again c =
@@ -178,20 +154,20 @@ entry-answer-spec =
     Inv-loop
     μ-loop
     loop-holds
-    mul-number-index
-    shared-slice-read-number-index
+    (λ c. omega arith)
+    (λ c. omega arith)
     number-index-requires
-    add-new
+    (λ c. omega arith)
     new-requires
     returns
-    array-read-is-used-twice
+    (λ c. omega arith)
     is-used-twice-requires
-    add-new-2
+    (λ c. omega arith)
     new-requires-2
     returns-2
-    array-write-marks
-    add-i
-    loop-less
+    (λ c. omega arith)
+    (λ c. omega arith)
+    (λ c. omega arith)
     loop-again
     new-requires-3
     returns-3)

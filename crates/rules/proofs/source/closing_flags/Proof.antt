@@ -99,9 +99,6 @@ loop-holds c =
       ),
     )
 
-sub-i : tie.Need-sub-i Inv-loop μ-loop
-sub-i c = omega arith
-
 get-requires : tie.Need-get-requires Inv-loop μ-loop
 get-requires c κs = tt
 
@@ -111,14 +108,8 @@ index-of-requires c κs = tt
 array-read-was : tie.Need-array-read-was Inv-loop μ-loop
 array-read-was c = place-in c
 
-array-write-flags : tie.Need-array-write-flags Inv-loop μ-loop
-array-write-flags c = omega arith
-
 is-wall-requires : tie.Need-is-wall-requires Inv-loop μ-loop
 is-wall-requires c κs = tt
-
-loop-less : tie.Need-loop-less Inv-loop μ-loop
-loop-less c = omega arith
 
 loop-again : tie.Need-loop-again Inv-loop μ-loop
 loop-again c =
@@ -136,20 +127,11 @@ loop-again c =
 is-load-requires : tie.Need-is-load-requires Inv-loop μ-loop
 is-load-requires c κs = tt
 
-mul-closing-after : tie.Need-mul-closing-after Inv-loop μ-loop
-mul-closing-after c = omega arith
-
-shared-slice-read-closing-after : tie.Need-shared-slice-read-closing-after Inv-loop μ-loop
-shared-slice-read-closing-after c = omega arith
-
 closing-after-requires : tie.Need-closing-after-requires Inv-loop μ-loop
 closing-after-requires c κs = tt
 
 array-write-closing : tie.Need-array-write-closing Inv-loop μ-loop
 array-write-closing c = place-in (c .before .before .before .before .before)
-
-loop-less-2 : tie.Need-loop-less-2 Inv-loop μ-loop
-loop-less-2 c = omega arith
 
 loop-again-2 : tie.Need-loop-again-2 Inv-loop μ-loop
 loop-again-2 c =
@@ -182,19 +164,19 @@ closing-flags-spec =
     Inv-loop
     μ-loop
     loop-holds
-    sub-i
+    (λ c. omega arith)
     get-requires
     index-of-requires
     array-read-was
-    array-write-flags
+    (λ c. omega arith)
     is-wall-requires
-    loop-less
+    (λ c. omega arith)
     loop-again
     is-load-requires
-    mul-closing-after
-    shared-slice-read-closing-after
+    (λ c. omega arith)
+    (λ c. omega arith)
     closing-after-requires
     array-write-closing
-    loop-less-2
+    (λ c. omega arith)
     loop-again-2
     returns)

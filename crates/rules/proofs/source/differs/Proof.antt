@@ -25,9 +25,6 @@ told l e {n} h i g = rw (g, i) (sym (unlike-at l e n h))
 number-index-requires : tie.Need-number-index-requires
 number-index-requires c κs = tt
 
-sub-get : tie.Need-sub-get
-sub-get c = omega arith
-
 get-requires : tie.Need-get-requires
 get-requires c κs = tt
 
@@ -39,4 +36,4 @@ returns c = rw (c .is-same .ensures) (told _ (c .before .before .before .before 
     (c .before .before .number-index .ensures) (c .before .get .ensures))
 
 pub differs-spec : {M : Type 1} → statement M
-differs-spec = tie.close (tie.spec number-index-requires sub-get get-requires is-same-requires returns)
+differs-spec = tie.close (tie.spec number-index-requires (λ c. omega arith) get-requires is-same-requires returns)

@@ -11,9 +11,6 @@ gone-fault-requires c κs = tt
 returns : tie.Need-returns
 returns c = rw (eq-eqb _ _ (c .before .if1 .taken)) (c .gone-fault .ensures)
 
-differs-requires : tie.Need-differs-requires
-differs-requires c κs = omega arith
-
 returns-2 : tie.Need-returns-2
 returns-2 c = rw (ne-eqb _ _ (c .before .before .if1 .left), sym (c .before .differs .ensures) ∙ c .if2 .taken)
 
@@ -37,4 +34,4 @@ returns-4 c = rw (
 )
 
 pub event-fault-spec : {M : Type 1} → statement M
-event-fault-spec = tie.close (tie.spec gone-fault-requires returns differs-requires returns-2 is-crossed-requires returns-3 returns-4)
+event-fault-spec = tie.close (tie.spec gone-fault-requires returns (λ c κs. omega arith) returns-2 is-crossed-requires returns-3 returns-4)

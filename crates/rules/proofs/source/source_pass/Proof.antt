@@ -152,12 +152,6 @@ loop-holds c =
 get-requires : tie.Need-get-requires Inv-loop μ-loop
 get-requires c κs = tt
 
-mul-n : tie.Need-mul-n Inv-loop μ-loop
-mul-n c = omega arith
-
-shared-slice-read-n : tie.Need-shared-slice-read-n Inv-loop μ-loop
-shared-slice-read-n c = omega arith
-
 index-of-requires : tie.Need-index-of-requires Inv-loop μ-loop
 index-of-requires c κs = tt
 
@@ -175,9 +169,6 @@ array-read-new-2 c = place-in c
 
 new-requires : tie.Need-new-requires Inv-loop μ-loop
 new-requires c κs = tt
-
-element-copy-out-new : tie.Need-element-copy-out-new Inv-loop μ-loop
-element-copy-out-new c = omega arith
 
 new-requires-2 : tie.Need-new-requires-2 Inv-loop μ-loop
 new-requires-2 c κs = tt
@@ -213,9 +204,6 @@ is-wall-requires c κs = tt
 
 larger-of-requires-2 : tie.Need-larger-of-requires-2 Inv-loop μ-loop
 larger-of-requires-2 c κs = tt
-
-loop-less : tie.Need-loop-less Inv-loop μ-loop
-loop-less c = omega arith
 
 loop-again : tie.Need-loop-again Inv-loop μ-loop
 loop-again c =
@@ -268,9 +256,6 @@ mul-here c = omega (arith, place-in (at (fault (c .before .before .before .befor
 array-write-here : tie.Need-array-write-here Inv-loop μ-loop
 array-write-here c = place-in (at (fault (c .before .before .before .before .before)))
 
-loop-less-2 : tie.Need-loop-less-2 Inv-loop μ-loop
-loop-less-2 c = omega arith
-
 loop-again-2 : tie.Need-loop-again-2 Inv-loop μ-loop
 loop-again-2 c =
     let w = c .before .before .before .before .before in
@@ -308,15 +293,15 @@ source-pass-spec =
     μ-loop
     loop-holds
     get-requires
-    mul-n
-    shared-slice-read-n
+    (λ c. omega arith)
+    (λ c. omega arith)
     index-of-requires
     array-read-first
     array-read-new
     mul-new
     array-read-new-2
     new-requires
-    element-copy-out-new
+    (λ c. omega arith)
     new-requires-2
     mul-new-2
     array-read-new-3
@@ -328,7 +313,7 @@ source-pass-spec =
     larger-of-requires
     is-wall-requires
     larger-of-requires-2
-    loop-less
+    (λ c. omega arith)
     loop-again
     is-load-requires
     takes-over-requires
@@ -342,7 +327,7 @@ source-pass-spec =
     larger-of-requires-3
     mul-here
     array-write-here
-    loop-less-2
+    (λ c. omega arith)
     loop-again-2
     new-requires-5
     returns-2)

@@ -9,12 +9,9 @@ returns : tie.Need-returns
 unfolding fieldAt
 returns c = rw (lt-ltb _ _ (c .if1 .taken))
 
-field-end-requires : tie.Need-field-end-requires
-field-end-requires c κs = search needs
-
 returns-2 : tie.Need-returns-2
 unfolding fieldAt
 returns-2 c = rw (le-ltb _ _ (c .before .if1 .left), c .field-end .ensures)
 
 pub field-at-spec : {M : Type 1} → statement M
-field-at-spec = tie.close (tie.spec returns field-end-requires returns-2)
+field-at-spec = tie.close (tie.spec returns (search needs) returns-2)

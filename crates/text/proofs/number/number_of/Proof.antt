@@ -10,15 +10,9 @@ returns : tie.Need-returns
 unfolding numberOf
 returns c = rw (c .if1 .taken)
 
-shared-slice-read-if3 : tie.Need-shared-slice-read-if3
-shared-slice-read-if3 c = search needs
-
 returns-2 : tie.Need-returns-2
 unfolding numberOf
 returns-2 c = simp (ne-eqb _ _ (c .before .before .before .if1 .left), lt-ltb _ _ (c .before .before .if2 .taken), eq-eqb _ _ (c .if3 .taken))
-
-digits-of-requires : tie.Need-digits-of-requires
-digits-of-requires c κs = search needs
 
 returns-3 : tie.Need-returns-3
 unfolding numberOf
@@ -28,4 +22,4 @@ returns-3 c =
     (λ w. simp (some, le-ltb _ _ (w .left)) (c .digits-of .ensures))
 
 pub number-of-spec : {M : Type 1} → statement M
-number-of-spec = tie.close (tie.spec returns shared-slice-read-if3 returns-2 digits-of-requires returns-3)
+number-of-spec = tie.close (tie.spec returns (search needs) returns-2 (search needs) returns-3)

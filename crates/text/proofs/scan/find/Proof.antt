@@ -68,60 +68,24 @@ loop-holds c = (omega arith, refl)
 sub-loop : tie.Need-sub-loop Inv-loop μ-loop
 sub-loop c = omega (arith, c .loop .inv .0)
 
-shared-slice-read-if2 : tie.Need-shared-slice-read-if2 Inv-loop μ-loop
-shared-slice-read-if2 c = omega arith
-
 returns-2 : tie.Need-returns-2 Inv-loop μ-loop
 returns-2 c =
     let l = c .before .before .before in omega (arith, l .loop .inv .1, until-stop (stop l) (text l) (at l) (omega arith) (c .if2 .taken))
-
-add-if3 : tie.Need-add-if3 Inv-loop μ-loop
-add-if3 c = omega arith
-
-shared-slice-read-if3 : tie.Need-shared-slice-read-if3 Inv-loop μ-loop
-shared-slice-read-if3 c = omega arith
-
-add-result : tie.Need-add-result Inv-loop μ-loop
-add-result c = omega arith
 
 returns-3 : tie.Need-returns-3 Inv-loop μ-loop
 returns-3 c =
     let l = loop₁ (c .before .before) in
     omega (arith, past₁ (c .before .before), until-stop (stop l) (text l) (at l + 1) (omega arith) (c .if3 .taken))
 
-add-if4 : tie.Need-add-if4 Inv-loop μ-loop
-add-if4 c = omega arith
-
-shared-slice-read-if4 : tie.Need-shared-slice-read-if4 Inv-loop μ-loop
-shared-slice-read-if4 c = omega arith
-
-add-result-2 : tie.Need-add-result-2 Inv-loop μ-loop
-add-result-2 c = omega arith
-
 returns-4 : tie.Need-returns-4 Inv-loop μ-loop
 returns-4 c =
     let l = loop₁ (c .before .before .before .before) in
     omega (arith, past₂ (c .before .before), until-stop (stop l) (text l) (at l + 2) (omega arith) (c .if4 .taken))
 
-add-if5 : tie.Need-add-if5 Inv-loop μ-loop
-add-if5 c = omega arith
-
-shared-slice-read-if5 : tie.Need-shared-slice-read-if5 Inv-loop μ-loop
-shared-slice-read-if5 c = omega arith
-
-add-result-3 : tie.Need-add-result-3 Inv-loop μ-loop
-add-result-3 c = omega arith
-
 returns-5 : tie.Need-returns-5 Inv-loop μ-loop
 returns-5 c =
     let l = loop₁ (c .before .before .before .before .before .before) in
     omega (arith, past₃ (c .before .before), until-stop (stop l) (text l) (at l + 3) (omega arith) (c .if5 .taken))
-
-add-i : tie.Need-add-i Inv-loop μ-loop
-add-i c = omega arith
-
-loop-less : tie.Need-loop-less Inv-loop μ-loop
-loop-less c = omega arith
 
 loop-again : tie.Need-loop-again Inv-loop μ-loop
 loop-again c = (omega arith, past₄ c)
@@ -142,22 +106,22 @@ find-spec =
     returns
     loop-holds
     sub-loop
-    shared-slice-read-if2
+    (λ c. omega arith)
     returns-2
-    add-if3
-    shared-slice-read-if3
-    add-result
+    (λ c. omega arith)
+    (λ c. omega arith)
+    (λ c. omega arith)
     returns-3
-    add-if4
-    shared-slice-read-if4
-    add-result-2
+    (λ c. omega arith)
+    (λ c. omega arith)
+    (λ c. omega arith)
     returns-4
-    add-if5
-    shared-slice-read-if5
-    add-result-3
+    (λ c. omega arith)
+    (λ c. omega arith)
+    (λ c. omega arith)
     returns-5
-    add-i
-    loop-less
+    (λ c. omega arith)
+    (λ c. omega arith)
     loop-again
     find-singly-requires-2
     returns-6)

@@ -7,15 +7,6 @@ use Rattle.text.proofs.Fields.{line-end, field-step}
 use Rattle.text.proofs.take.ends_at.Statement.{statement}
 use Rattle.text.proofs.take.ends_at.Tie as tie
 
-field-of-requires : tie.Need-field-of-requires
-field-of-requires c κs = search needs
-
-enum-told : tie.Need-enum-told
-enum-told c = search needs
-
-enum-told-2 : tie.Need-enum-told-2
-enum-told-2 c = search needs
-
 returns : tie.Need-returns
 unfolding endsAt
 returns c = rw (line-end _ _ (sym (c .before .before .field-of .ensures) ∙ c .enum-told .given .1))
@@ -25,4 +16,4 @@ unfolding endsAt
 returns-2 c = rw (field-step _ _ _ _ (sym (c .before .before .field-of .ensures) ∙ c .enum-told2 .given .1))
 
 pub ends-at-spec : {M : Type 1} → statement M
-ends-at-spec = tie.close (tie.spec field-of-requires enum-told enum-told-2 returns returns-2)
+ends-at-spec = tie.close (tie.spec (search needs) (search needs) (search needs) returns returns-2)

@@ -8,27 +8,12 @@ use Rattle.text.proofs.Fields.{field-in}
 use Rattle.text.proofs.take.take_number.Statement.{statement}
 use Rattle.text.proofs.take.take_number.Tie as tie
 
-field-of-requires : tie.Need-field-of-requires
-field-of-requires c κs = search needs
-
-enum-known-from : tie.Need-enum-known-from
-enum-known-from c = search needs
-
-enum-told : tie.Need-enum-told
-enum-told c = search needs
-
 returns : tie.Need-returns
 unfolding takeNumber
 returns c = rw (← c .before .before .field-of .ensures, c .enum-told .given .1)
 
 number-at-requires : tie.Need-number-at-requires
 number-at-requires c κs = field-in _ _ _ _ (sym (c .before .before .before .field-of .ensures) ∙ c .before .from .given .1)
-
-enum-known-value : tie.Need-enum-known-value
-enum-known-value c = search needs
-
-enum-told-2 : tie.Need-enum-told-2
-enum-told-2 c = search needs
 
 returns-2 : tie.Need-returns-2
 unfolding takeNumber
@@ -51,13 +36,13 @@ pub take-number-spec : {M : Type 1} → statement M
 take-number-spec =
     tie.close
     (tie.spec
-    field-of-requires
-    enum-known-from
-    enum-told
+    (search needs)
+    (search needs)
+    (search needs)
     returns
     number-at-requires
-    enum-known-value
-    enum-told-2
+    (search needs)
+    (search needs)
     returns-2
     add-t9
     returns-3)

@@ -22,12 +22,6 @@ elsewhere Location (inr h) = absurd (omega arith)
 elsewhere Mutex h = refl
 elsewhere Nowhere h = refl
 
-row-of-requires : tie.Need-row-of-requires
-row-of-requires c κs = search needs
-
-enum-told : tie.Need-enum-told
-enum-told c = search needs
-
 returns : tie.Need-returns
 unfolding wayOf
 returns c = rw (← c .before .row-of .ensures, elsewhere _ (c .match .keys2))
@@ -41,4 +35,4 @@ unfolding wayOf
 returns-3 c = rw (← c .before .before .before .row-of .ensures, c .before .enum-told .given .1, c .if1 .left)
 
 pub way-of-spec : {M : Type 1} → statement M
-way-of-spec = tie.close (tie.spec row-of-requires enum-told returns returns-2 returns-3)
+way-of-spec = tie.close (tie.spec (search needs) (search needs) returns returns-2 returns-3)

@@ -104,9 +104,6 @@ part-record-of-end c = omega (arith, ends (c .before))
 record-of-requires : tie.Need-record-of-requires Inv-loop μ-loop
 record-of-requires c κs = tt
 
-enum-told : tie.Need-enum-told Inv-loop μ-loop
-enum-told c = search needs
-
 new-requires-2 : tie.Need-new-requires-2 Inv-loop μ-loop
 new-requires-2 c κs = tt
 
@@ -115,9 +112,6 @@ returns-2 c =
     let p : tie.After-record-of Inv-loop μ-loop = c .before .before .before in
     rw (by-line p _ (lines-refused _ _ _ _ _ (some p) (is p (c .before .enum-told .given .1)))) (c .new2 .ensures)
 
-enum-told-2 : tie.Need-enum-told-2 Inv-loop μ-loop
-enum-told-2 c = search needs
-
 new-requires-3 : tie.Need-new-requires-3 Inv-loop μ-loop
 new-requires-3 c κs = tt
 
@@ -125,9 +119,6 @@ returns-3 : tie.Need-returns-3 Inv-loop μ-loop
 returns-3 c =
     let p : tie.After-record-of Inv-loop μ-loop = c .before .before .before in
     rw (by-line p _ (lines-init _ _ _ _ _ _ _ (some p) (is p (c .before .enum-told2 .given .1)))) (c .new3 .ensures)
-
-enum-told-3 : tie.Need-enum-told-3 Inv-loop μ-loop
-enum-told-3 c = search needs
 
 new-requires-4 : tie.Need-new-requires-4 Inv-loop μ-loop
 new-requires-4 c κs = tt
@@ -183,13 +174,13 @@ after-fault-spec =
     part-record-of-start
     part-record-of-end
     record-of-requires
-    enum-told
+    (search needs)
     new-requires-2
     returns-2
-    enum-told-2
+    (search needs)
     new-requires-3
     returns-3
-    enum-told-3
+    (search needs)
     new-requires-4
     returns-4
     add-events

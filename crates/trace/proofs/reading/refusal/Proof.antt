@@ -3,11 +3,8 @@ use borrow.Author.Needs.{needs}
 use Rattle.trace.proofs.reading.refusal.Statement.{statement}
 use Rattle.trace.proofs.reading.refusal.Tie as tie
 
-empty-requires : tie.Need-empty-requires
-empty-requires c κs = search needs
-
 returns : tie.Need-returns
 returns c = rw (c .empty .ensures)
 
 pub refusal-spec : {M : Type 1} → statement M
-refusal-spec = tie.close (tie.spec empty-requires returns)
+refusal-spec = tie.close (tie.spec (search needs) returns)

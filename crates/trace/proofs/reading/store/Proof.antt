@@ -74,9 +74,6 @@ part-record-of-end c = omega (arith, ends (c .before))
 record-of-requires : tie.Need-record-of-requires Inv-loop μ-loop
 record-of-requires c κs = tt
 
-put-record-requires : tie.Need-put-record-requires Inv-loop μ-loop
-put-record-requires c κs = omega arith
-
 add-at-2 : tie.Need-add-at-2 Inv-loop μ-loop
 add-at-2 c = let e = end (c .before .before) in omega (arith, ends e, begin e .good)
 
@@ -117,7 +114,7 @@ store-spec =
     part-record-of-start
     part-record-of-end
     record-of-requires
-    put-record-requires
+    (λ c κs. omega arith)
     add-at-2
     loop-less
     loop-again

@@ -12,24 +12,9 @@ use borrow.Author.Needs.{needs}
 use Rattle.trace.proofs.reading.survey.Statement.{statement}
 use Rattle.trace.proofs.reading.survey.Tie as tie
 
-new-requires : tie.Need-new-requires
-new-requires c κs = search needs
-
-refusal-requires : tie.Need-refusal-requires
-refusal-requires c κs = search needs
-
 returns : tie.Need-returns
 unfolding surveyOf
 returns c = rw (lt-ltb _ _ (c .before .before .if1 .taken)) (c .refusal .ensures ∙ ap refused (c .before .new .ensures))
-
-line-end-requires : tie.Need-line-end-requires
-line-end-requires c κs = search needs
-
-new-requires-2 : tie.Need-new-requires-2
-new-requires-2 c κs = search needs
-
-refusal-requires-2 : tie.Need-refusal-requires-2
-refusal-requires-2 c κs = search needs
 
 returns-2 : tie.Need-returns-2
 unfolding surveyOf
@@ -37,27 +22,6 @@ returns-2 c =
     let l = c .before .before .before in
     rw (le-ltb _ _ (l .before .if1 .left), head-open _ _ (l .line-end .result) (l .line-end .ensures) (c .before .before .if2 .taken))
     (c .refusal2 .ensures ∙ ap refused (c .before .new2 .ensures))
-
-sub-same-bytes : tie.Need-sub-same-bytes
-sub-same-bytes c = search needs
-
-part-same-bytes-start : tie.Need-part-same-bytes-start
-part-same-bytes-start c = search needs
-
-part-same-bytes-end : tie.Need-part-same-bytes-end
-part-same-bytes-end c = search needs
-
-slice-aggregate-same-bytes : tie.Need-slice-aggregate-same-bytes
-slice-aggregate-same-bytes c = search needs
-
-same-bytes-requires : tie.Need-same-bytes-requires
-same-bytes-requires c κs = search needs
-
-new-requires-3 : tie.Need-new-requires-3
-new-requires-3 c κs = search needs
-
-refusal-requires-3 : tie.Need-refusal-requires-3
-refusal-requires-3 c κs = search needs
 
 returns-3 : tie.Need-returns-3
 unfolding surveyOf
@@ -70,9 +34,6 @@ returns-3 c =
           ∙ not-true _ (c .before .before .if3 .taken)),
     )
     (c .refusal3 .ensures ∙ ap refused (c .before .new3 .ensures))
-
-add-survey-lines : tie.Need-add-survey-lines
-add-survey-lines c = search needs
 
 survey-lines-requires : tie.Need-survey-lines-requires
 survey-lines-requires c κs =
@@ -98,21 +59,21 @@ pub survey-spec : {M : Type 1} → statement M
 survey-spec =
     tie.close
     (tie.spec
-    new-requires
-    refusal-requires
+    (search needs)
+    (search needs)
     returns
-    line-end-requires
-    new-requires-2
-    refusal-requires-2
+    (search needs)
+    (search needs)
+    (search needs)
     returns-2
-    sub-same-bytes
-    part-same-bytes-start
-    part-same-bytes-end
-    slice-aggregate-same-bytes
-    same-bytes-requires
-    new-requires-3
-    refusal-requires-3
+    (search needs)
+    (search needs)
+    (search needs)
+    (search needs)
+    (search needs)
+    (search needs)
+    (search needs)
     returns-3
-    add-survey-lines
+    (search needs)
     survey-lines-requires
     returns-4)

@@ -239,9 +239,6 @@ part-record-of-end c = omega (arith, ends (c .before))
 record-of-requires : tie.Need-record-of-requires Inv-loop μ-loop
 record-of-requires c κs = tt
 
-enum-told : tie.Need-enum-told Inv-loop μ-loop
-enum-told c = search needs
-
 new-requires-2 : tie.Need-new-requires-2 Inv-loop μ-loop
 new-requires-2 c κs = tt
 
@@ -254,9 +251,6 @@ returns-2 c =
     refuses (c .refusal2 .ensures) (c .before .new2 .ensures)
     (by-line p _ (on-refused _ _ _ _ _ _ _ 2 refl (lines-refused _ _ _ _ _ (some p) (is p (c .before .before .enum-told .given .1)))))
 
-enum-told-2 : tie.Need-enum-told-2 Inv-loop μ-loop
-enum-told-2 c = search needs
-
 new-requires-3 : tie.Need-new-requires-3 Inv-loop μ-loop
 new-requires-3 c κs = tt
 
@@ -268,9 +262,6 @@ returns-3 c =
     let p : tie.After-record-of Inv-loop μ-loop = c .before .before .before .before in
     refuses (c .refusal3 .ensures) (c .before .new3 .ensures)
     (by-line p _ (on-refused _ _ _ _ _ _ _ 4 refl (lines-init _ _ _ _ _ _ _ (some p) (is p (c .before .before .enum-told2 .given .1)))))
-
-enum-known-e : tie.Need-enum-known-e Inv-loop μ-loop
-enum-known-e c = search needs
 
 new-requires-4 : tie.Need-new-requires-4 Inv-loop μ-loop
 new-requires-4 c κs = tt
@@ -425,15 +416,15 @@ survey-events-spec =
     part-record-of-start
     part-record-of-end
     record-of-requires
-    enum-told
+    (search needs)
     new-requires-2
     refusal-requires-2
     returns-2
-    enum-told-2
+    (search needs)
     new-requires-3
     refusal-requires-3
     returns-3
-    enum-known-e
+    (search needs)
     new-requires-4
     refusal-requires-4
     returns-4

@@ -6,15 +6,6 @@ use borrow.Author.Needs.{needs}
 use Rattle.trace.proofs.reading.survey_in.Statement.{statement}
 use Rattle.trace.proofs.reading.survey_in.Tie as tie
 
-survey-requires : tie.Need-survey-requires
-survey-requires c κs = search needs
-
-new-requires : tie.Need-new-requires
-new-requires c κs = search needs
-
-refusal-requires : tie.Need-refusal-requires
-refusal-requires c κs = search needs
-
 returns : tie.Need-returns
 returns c =
     let v = c .before .before .before in
@@ -25,4 +16,4 @@ returns-2 c = rw (← c .before .survey .ensures, le-leb _ _ (c .if1 .left))
 
 pub survey-in-spec : {M : Type 1} → statement M
 survey-in-spec =
-    tie.close (tie.spec survey-requires new-requires refusal-requires returns returns-2)
+    tie.close (tie.spec (search needs) (search needs) (search needs) returns returns-2)

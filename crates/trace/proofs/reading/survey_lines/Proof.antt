@@ -141,9 +141,6 @@ part-record-of-end c = omega (arith, ends (c .before))
 record-of-requires : tie.Need-record-of-requires Inv-loop μ-loop
 record-of-requires c κs = tt
 
-enum-told : tie.Need-enum-told Inv-loop μ-loop
-enum-told c = search needs
-
 survey-events-requires-2 : tie.Need-survey-events-requires-2 Inv-loop μ-loop
 survey-events-requires-2 c κs = let e = end (c .before .before) in (
   omega (arith, e .before .before .loop .inv),
@@ -160,9 +157,6 @@ returns-2 c =
     rest (end p) _ (rw (parts p) (inits-refused _ _ _ (end p .before .before .loop .start) _ _ (some p) (is p (c .before .enum-told .given .1))))
     (c .survey-events2 .ensures)
 
-enum-told-2 : tie.Need-enum-told-2 Inv-loop μ-loop
-enum-told-2 c = search needs
-
 survey-events-requires-3 : tie.Need-survey-events-requires-3 Inv-loop μ-loop
 survey-events-requires-3 c κs = let e = end (c .before .before) in (
   omega (arith, e .before .before .loop .inv),
@@ -178,9 +172,6 @@ returns-3 c =
     let p : tie.After-record-of Inv-loop μ-loop = c .before .before .before in
     rest (end p) _ (rw (parts p) (inits-event _ _ _ (end p .before .before .loop .start) _ _ _ (some p) (is p (c .before .enum-told2 .given .1))))
     (c .survey-events3 .ensures)
-
-enum-known-place : tie.Need-enum-known-place Inv-loop μ-loop
-enum-known-place c = search needs
 
 new-requires : tie.Need-new-requires Inv-loop μ-loop
 new-requires c κs = tt
@@ -259,13 +250,13 @@ survey-lines-spec =
     part-record-of-start
     part-record-of-end
     record-of-requires
-    enum-told
+    (search needs)
     survey-events-requires-2
     returns-2
-    enum-told-2
+    (search needs)
     survey-events-requires-3
     returns-3
-    enum-known-place
+    (search needs)
     new-requires
     refusal-requires
     returns-4

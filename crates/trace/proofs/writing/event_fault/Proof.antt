@@ -136,9 +136,6 @@ array-read-was c = index c
 are-opposed-requires : tie.Need-are-opposed-requires Inv-loop μ-loop
 are-opposed-requires c κs = tt
 
-add-new : tie.Need-add-new Inv-loop μ-loop
-add-new c = omega arith
-
 new-requires : tie.Need-new-requires Inv-loop μ-loop
 new-requires c κs = tt
 
@@ -156,9 +153,6 @@ array-write-ways c = index (c .before .before .before)
 step-requires : tie.Need-step-requires Inv-loop μ-loop
 step-requires c κs = tt
 
-add-new-2 : tie.Need-add-new-2 Inv-loop μ-loop
-add-new-2 c = omega arith
-
 new-requires-2 : tie.Need-new-requires-2 Inv-loop μ-loop
 new-requires-2 c κs = tt
 
@@ -166,12 +160,6 @@ returns-2 : tie.Need-returns-2 Inv-loop μ-loop
 returns-2 c =
     let s = c .before .before .before in
     c .new2 .ensures ∙ sym (whole (v s) (fault-six _ _ _ _ _ _ (free (s .before)) (right-is s (not-true _ (c .before .if2 .taken)))))
-
-add-i : tie.Need-add-i Inv-loop μ-loop
-add-i c = omega arith
-
-loop-less : tie.Need-loop-less Inv-loop μ-loop
-loop-less c = omega arith
 
 loop-again : tie.Need-loop-again Inv-loop μ-loop
 loop-again c =
@@ -207,17 +195,17 @@ event-fault-spec =
     way-of-requires
     array-read-was
     are-opposed-requires
-    add-new
+    (λ c. omega arith)
     new-requires
     returns
     joined-way-requires
     array-write-ways
     step-requires
-    add-new-2
+    (λ c. omega arith)
     new-requires-2
     returns-2
-    add-i
-    loop-less
+    (λ c. omega arith)
+    (λ c. omega arith)
     loop-again
     new-requires-3
     returns-3)

@@ -44,9 +44,6 @@ get-requires c κs = tt
 is-lawful-requires : tie.Need-is-lawful-requires Inv-loop μ-loop
 is-lawful-requires c κs = tt
 
-add-new : tie.Need-add-new Inv-loop μ-loop
-add-new c = omega arith
-
 new-requires : tie.Need-new-requires Inv-loop μ-loop
 new-requires c κs = tt
 
@@ -54,12 +51,6 @@ returns : tie.Need-returns Inv-loop μ-loop
 returns c =
     let p = c .before .before in
     c .new .ensures ∙ sym (whole p (layout-bad _ _ _ (lawful-is p ∙ not-true _ (c .before .if1 .taken))))
-
-add-i : tie.Need-add-i Inv-loop μ-loop
-add-i c = omega arith
-
-loop-less : tie.Need-loop-less Inv-loop μ-loop
-loop-less c = omega arith
 
 loop-again : tie.Need-loop-again Inv-loop μ-loop
 loop-again c = (omega arith, whole (c .before) (layout-go _ _ _ (lawful-is (c .before) ∙ not-false _ (c .if1 .left))))
@@ -82,11 +73,11 @@ layout-fault-spec =
     loop-holds
     get-requires
     is-lawful-requires
-    add-new
+    (λ c. omega arith)
     new-requires
     returns
-    add-i
-    loop-less
+    (λ c. omega arith)
+    (λ c. omega arith)
     loop-again
     new-requires-2
     returns-2)

@@ -22,20 +22,8 @@ loop-holds c =
     let z : a .at + 0 ≡ a .at = omega arith in
     (omega arith, (refl, rw z (left-all (a .out .now) (a .at) (sym (append-nil (a .bytes .now))))))
 
-add-store-byte : tie.Need-add-store-byte Inv-loop μ-loop
-add-store-byte c = omega arith
-
-shared-slice-read-store-byte : tie.Need-shared-slice-read-store-byte Inv-loop μ-loop
-shared-slice-read-store-byte c = omega arith
-
 store-byte-requires : tie.Need-store-byte-requires Inv-loop μ-loop
 store-byte-requires c κs = tt
-
-add-i : tie.Need-add-i Inv-loop μ-loop
-add-i c = omega arith
-
-loop-less : tie.Need-loop-less Inv-loop μ-loop
-loop-less c = omega arith
 
 loop-again : tie.Need-loop-again Inv-loop μ-loop
 loop-again c =
@@ -47,9 +35,6 @@ loop-again c =
     rw (add-one (l .loop .i), drop-cons (a .bytes .now) (l .loop .i) 0 (omega arith)) in
     let m = left-cut {v = getD (a .bytes .now) (l .loop .i) 0 ∷ []} d (l .loop .inv .1 .1) in
     (omega arith, (o .store-byte .kept .0 ∙ l .loop .inv .1 .0, left-next m (record { counted = z; stored = o .store-byte .ensures })))
-
-add-result : tie.Need-add-result Inv-loop μ-loop
-add-result c = omega arith
 
 same-length : tie.Need-same-length Inv-loop μ-loop
 same-length c = c .before .loop .inv .1 .0
@@ -66,12 +51,12 @@ put-spec =
     Inv-loop
     μ-loop
     loop-holds
-    add-store-byte
-    shared-slice-read-store-byte
+    (λ c. omega arith)
+    (λ c. omega arith)
     store-byte-requires
-    add-i
-    loop-less
+    (λ c. omega arith)
+    (λ c. omega arith)
     loop-again
-    add-result
+    (λ c. omega arith)
     same-length
     returns)

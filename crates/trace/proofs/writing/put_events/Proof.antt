@@ -48,12 +48,6 @@ get-requires c κs = tt
 put-event-requires : tie.Need-put-event-requires Inv-loop μ-loop
 put-event-requires c κs = rw (c .get .ensures) (left-small (next-line (c .before)) (c .before .before .before .before .before .before .pre))
 
-add-i : tie.Need-add-i Inv-loop μ-loop
-add-i c = omega arith
-
-loop-less : tie.Need-loop-less Inv-loop μ-loop
-loop-less c = omega arith
-
 loop-again : tie.Need-loop-again Inv-loop μ-loop
 loop-again c =
     let p = c .before .before in
@@ -74,8 +68,8 @@ put-events-spec =
     loop-holds
     get-requires
     put-event-requires
-    add-i
-    loop-less
+    (λ c. omega arith)
+    (λ c. omega arith)
     loop-again
     same-length
     returns)

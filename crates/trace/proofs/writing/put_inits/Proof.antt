@@ -36,20 +36,11 @@ loop-holds c = (omega arith, left-all _ _ (sym (append-nil _)))
 mul-wide : tie.Need-mul-wide Inv-loop μ-loop
 mul-wide c = omega (arith, c .before .before .before .before .before .good)
 
-shared-slice-read-wide : tie.Need-shared-slice-read-wide Inv-loop μ-loop
-shared-slice-read-wide c = omega arith
-
 wide-requires : tie.Need-wide-requires Inv-loop μ-loop
 wide-requires c κs = tt
 
 put-init-requires : tie.Need-put-init-requires Inv-loop μ-loop
 put-init-requires c κs = rw (c .wide .ensures) (left-small (next-line (c .before)) (c .before .before .before .before .before .before .before .pre))
-
-add-i : tie.Need-add-i Inv-loop μ-loop
-add-i c = omega arith
-
-loop-less : tie.Need-loop-less Inv-loop μ-loop
-loop-less c = omega arith
 
 loop-again : tie.Need-loop-again Inv-loop μ-loop
 loop-again c =
@@ -70,11 +61,11 @@ put-inits-spec =
     μ-loop
     loop-holds
     mul-wide
-    shared-slice-read-wide
+    (λ c. omega arith)
     wide-requires
     put-init-requires
-    add-i
-    loop-less
+    (λ c. omega arith)
+    (λ c. omega arith)
     loop-again
     same-length
     returns)

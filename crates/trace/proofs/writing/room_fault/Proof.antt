@@ -18,9 +18,6 @@ sound c z = ap (λ (a : Answer). a .number) (sym (c .layout-fault .ensures)) ∙
 count-of-requires : tie.Need-count-of-requires
 count-of-requires c κs = tt
 
-add-new : tie.Need-add-new
-add-new c = omega arith
-
 new-requires : tie.Need-new-requires
 new-requires c κs = tt
 
@@ -28,9 +25,6 @@ returns : tie.Need-returns
 returns c =
     let k = c .before .before in
     c .new .ensures ∙ sym (room-full (k .before .before .args .memory) (k .before .before .args .room .now) (k .count-of .ensures) (c .before .if1 .taken))
-
-layout-fault-requires : tie.Need-layout-fault-requires
-layout-fault-requires c κs = omega arith
 
 returns-2 : tie.Need-returns-2
 returns-2 c =
@@ -53,10 +47,10 @@ room-fault-spec =
     tie.close
     (tie.spec
     count-of-requires
-    add-new
+    (λ c. omega arith)
     new-requires
     returns
-    layout-fault-requires
+    (λ c κs. omega arith)
     returns-2
     event-fault-requires
     returns-3)

@@ -5,17 +5,8 @@ use Rattle.trace.proofs.Puts.{set-beyond}
 use Rattle.trace.proofs.writing.store_byte.Statement.{statement}
 use Rattle.trace.proofs.writing.store_byte.Tie as tie
 
-slice-write-out : tie.Need-slice-write-out
-slice-write-out c = search needs
-
-same-length : tie.Need-same-length
-same-length c = search needs
-
-returns : tie.Need-returns
-returns c = search needs
-
 returns-2 : tie.Need-returns-2
 returns-2 c = sym (set-beyond _ _ _ (c .if1 .left))
 
 pub store-byte-spec : {M : Type 1} → statement M
-store-byte-spec = tie.close (tie.spec slice-write-out same-length returns returns-2)
+store-byte-spec = tie.close (tie.spec (search needs) (search needs) (search needs) returns-2)

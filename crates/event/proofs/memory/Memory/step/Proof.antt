@@ -19,30 +19,12 @@ law c = sym (c .before .before .is-lawful .ensures) ∙ not-false _ (c .before .
 inside : (c : tie.After-index-of) → c .index-of .result < 256
 inside c = omega (arith, c .index-of .ensures, place-below _ (law c))
 
-is-lawful-requires : tie.Need-is-lawful-requires
-is-lawful-requires c κs = search needs
-
 returns : tie.Need-returns
 unfolding stepped
 returns c = rw (sym (c .before .is-lawful .ensures) ∙ not-true _ (c .if1 .taken))
 
-index-of-requires : tie.Need-index-of-requires
-index-of-requires c κs = search needs
-
-mul-was : tie.Need-mul-was
-mul-was c = search needs
-
 element-copy-out-was : tie.Need-element-copy-out-was
 element-copy-out-was c = inside c
-
-is-latest-requires : tie.Need-is-latest-requires
-is-latest-requires c κs = search needs
-
-left-by-requires : tie.Need-left-by-requires
-left-by-requires c κs = search needs
-
-mul-self : tie.Need-mul-self
-mul-self c = search needs
 
 element-write-self : tie.Need-element-write-self
 element-write-self c = inside (c .before .before .before .before)
@@ -71,14 +53,14 @@ pub step-spec : {M : Type 1} → statement M
 step-spec =
     tie.close
     (tie.spec
-    is-lawful-requires
+    (search needs)
     returns
-    index-of-requires
-    mul-was
+    (search needs)
+    (search needs)
     element-copy-out-was
-    is-latest-requires
-    left-by-requires
+    (search needs)
+    (search needs)
     returns-2
-    mul-self
+    (search needs)
     element-write-self
     returns-3)
