@@ -11,7 +11,7 @@ use event::Entry;
 use event::WORDS;
 use event::Word;
 use event::memory::Memory;
-use rules::judge;
+use judge::judge;
 use trace::reading::TraceRead;
 use trace::reading::store;
 use trace::reading::survey_in;

@@ -36,16 +36,7 @@ pub mod Effect
 pub mod Latest
 pub mod Values
 pub mod Along
--- the theorem, the cases, and what loops need
+-- the theorem, what it leaves in memory, and the table of kinds beside the view
 pub mod Theorem
 pub mod Outcome
-pub mod Passes
-pub mod Cells
-pub mod Onward
--- the judge's code
-pub mod Sight
-pub mod Events
-pub mod Arrays
-pub mod Closed
-pub mod Tallied
 pub mod Sync

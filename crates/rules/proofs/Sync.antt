@@ -6,8 +6,7 @@ use mathlib.Core.Path.{_≡_, refl}
 use Rattle.event.specs.Kind.{row, takes, lawful}
 use Rattle.event.specs.declared.Event.{Event}
 use Rattle.event.proofs.Lawful.{order-of}
-use Rattle.rules.specs.View.{view}
-use Rattle.rules.specs.Pass.{isWall}
+use Rattle.rules.specs.View.{view, isWall}
 
 by-table :
     (kind place order first second code : ℕ)

@@ -1,5 +1,5 @@
 -- Document 01, "Rules of change": what the rules see of an event, plain or synchronising. Assumes nothing.
-use mathlib.Core.Bool.{Bool, false, not, cond, _&&_, _||_}
+use mathlib.Core.Bool.{Bool, true, false, not, cond, _&&_, _||_}
 use mathlib.Core.Option.{Option, none, some}
 use Prim.Native.Nat.{ℕ}
 use lib.Dec.{eqb}
@@ -17,6 +17,17 @@ abbrev pub view : Event → View
 view e =
     cond (eqb (e .kind) 1) (load (e .place) (e .first) (eqb (e .order) used))
     (cond (eqb (e .kind) 2) (store (e .place) (e .first)) wall)
+
+-- It synchronises; it is a load.
+abbrev pub isWall : View → Bool
+isWall wall = true
+isWall (load p v u) = false
+isWall (store p v) = false
+
+abbrev pub isLoad : View → Bool
+isLoad wall = false
+isLoad (load p v u) = true
+isLoad (store p v) = false
 
 -- The location of a plain event; a synchronising one has none here.
 abbrev pub placeOf : View → Option ℕ

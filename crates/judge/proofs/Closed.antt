@@ -1,0 +1,83 @@
+-- The array of the pass from the end: cell l says whether a store to l before the items passed is closing. And the items of a room from an
+-- index on, and the flags that are set from it. Assumes nothing.
+use mathlib.Core.Path.{_≡_, refl, sym, _∙_}
+use mathlib.Core.Bool.{Bool, true, false, cond, false≢true}
+use mathlib.Core.List.{List, [], _∷_}
+use Prim.Native.Nat.{ℕ, zero, suc, _+_, _-_, _/_, _≤_, _<_}
+use native.Mathlib.Omega.{arith}
+use lib.Dec.{eqb, eqb·suc-zero}
+use lib.ListN.{length, getD, set, replicate}
+use lib.Seq.{getD-set-same, getD-set-other}
+use borrow.Author.Tests.{eq-eqb, eqb-false, eqb-true}
+use Rattle.laws.proofs.Cases.{cases, either}
+use Rattle.event.specs.Room.{eventAt, onward}
+use Rattle.event.specs.declared.Event.{Event}
+use Rattle.rules.specs.View.{View, load, store, view, wall, isLoad, isWall}
+use Rattle.rules.specs.Fault.{Fate, Item, closing, fate, gone, group, item, stays}
+use Rattle.judge.specs.Pass.{closingAfter, closingAt, itemsFrom}
+use Rattle.judge.proofs.Arrays.{Holds, either-way, holds-all, holds-set}
+use Rattle.judge.proofs.Events.{drop-next, onward-next}
+use Rattle.judge.proofs.Passes.{closing-next}
+use Rattle.judge.proofs.Sight.{Sees, a-load, a-store, a-wall}
+
+-- the items of a room
+module _ (l ns : List ℕ) (size : length ns ≡ length l / 6) where
+  pub items-next : (j : ℕ) (e : Event) (k : ℕ) → j < length l / 6 → e ≡ eventAt l j → k ≡ getD ns j 0
+      → itemsFrom l ns j ≡ item (view e) (fate k) ∷ itemsFrom l ns (j + 1)
+  items-next j e k h p q =
+      let i : j < length ns = omega arith in
+      rw (onward-next l (length l / 6) j e h p, drop-next ns j k i q)
+
+  -- the same where the index after j is called i
+  pub items-before : (j i : ℕ) (e : Event) (k : ℕ) → i ≡ j + 1 → j < length l / 6 → e ≡ eventAt l j → k ≡ getD ns j 0
+      → itemsFrom l ns j ≡ item (view e) (fate k) ∷ itemsFrom l ns i
+  items-before j i e k z h p q = items-next j e k h p q ∙ rw (← z)
+
+  pub items-end : (j : ℕ) → j ≡ length l / 6 → itemsFrom l ns j ≡ []
+  unfolding onward
+  items-end j e = let z : length l / 6 - j ≡ 0 = omega arith in rw z
+
+-- the array
+abbrev pub Closed : List Bool → List Item → Type 0
+Closed cells a = Holds 256 false cells (λ l. closing (group l a))
+
+pub closed-start : Closed (replicate 256 true) []
+closed-start = holds-all 256 false true (λ l. closing (group l [])) (λ l. refl)
+
+pub closed-wall : {v : View} {p x : ℕ} {u : Bool} (f : Fate) (a : List Item) → Sees v p x u → isWall v ≡ true → Closed (replicate 256 true) (item v f ∷ a)
+closed-wall f a a-wall h = holds-all 256 false true (λ l. closing (group l (item wall f ∷ a))) (λ l. refl)
+closed-wall f a a-load h = absurd (false≢true h)
+closed-wall f a a-store h = absurd (false≢true h)
+
+closing-at : {v : View} {p x : ℕ} {u : Bool} (n : ℕ) (a : List Item) → Sees v p x u → isWall v ≡ false → (l : ℕ)
+    → closing (group l (item v (fate n) ∷ a)) ≡ cond (eqb l p) (closingAfter (isLoad v) n (closing (group l a))) (closing (group l a))
+closing-at n a a-wall h l = absurd (false≢true (sym h))
+closing-at zero a (a-load {p} {v} {u}) h l = closing-next l (item (load p v u) gone) a ∙ either-way (eqb l p) (closing (group l a))
+closing-at (suc n) a (a-load {p} {v} {u}) h l = closing-next l (item (load p v u) (stays false (suc n))) a ∙ rw (eqb·suc-zero)
+closing-at n a (a-store {p} {v}) h l = closing-next l (item (store p v) (fate n)) a
+
+pub closed-plain : {v : View} {p x : ℕ} {u : Bool} (n : ℕ) (a : List Item) → Sees v p x u → isWall v ≡ false
+    → (cells : List Bool) {i : ℕ} → i ≡ p → i < 256 → length cells ≡ 256 → Closed cells a
+    → {d r : Bool} → d ≡ isLoad v → r ≡ closingAfter d n (getD cells i false) → Closed (set cells i r) (item v (fate n) ∷ a)
+closed-plain {v} {p} n a s h cells {i} e k size m {d} {r} q g =
+    holds-set 256 false cells (λ l. closing (group l a)) (λ l. closing (group l (item v (fate n) ∷ a))) i r k size m
+    (closing-at n a s h i ∙ (rw (eq-eqb i p e) (sym (g ∙ rw (q, m i k)))))
+    (λ l z. closing-at n a s h l ∙ rw (← e, z))
+
+pub closed-is : (cells : List Bool) {a b : List Item} → b ≡ a → Closed cells a → Closed cells b
+closed-is cells e m = rw e m
+
+-- the flags
+pub flag-is : (l ns : List ℕ) (j : ℕ) (e : Event) {i p : ℕ} {w : Bool} → i ≡ j + 1 → e ≡ eventAt l j → p ≡ e .place
+    → w ≡ closing (group p (itemsFrom l ns i)) → w ≡ closingAt l ns j
+flag-is l ns j e z q h g = g ∙ rw (h, q, z)
+
+pub flags-next : (flags : List Bool) (f : ℕ → Bool) (j n : ℕ) {i : ℕ} {w : Bool} → i ≡ j + 1 → j < length flags → w ≡ f j
+    → ((k : ℕ) → i ≤ k → k < n → getD flags k false ≡ f k) → (k : ℕ) → j ≤ k → k < n → getD (set flags j w) k false ≡ f k
+flags-next flags f j n {i} {w} z h g m k a b =
+    cases (either (eqb k j))
+    (λ e. rw (eqb-true k j e) (getD-set-same flags j w false h ∙ g))
+    (λ e. let d = eqb-false k j e in getD-set-other flags j k w false d ∙ m k (above d) b)
+  where
+    above : (k ≡ j → ⊥) → i ≤ k
+    above d = omega arith

@@ -1,0 +1,89 @@
+-- From each cell on the answer is that from the next cell on, until two cells differ or none is left. Assumes nothing.
+use Prim.Native.Nat.{ℕ, _+_, _-_, _≤_, _<_}
+use mathlib.Core.List.{List, _∷_, map}
+use mathlib.Core.Path.{_≡_, refl, sym, _∙_}
+use native.Mathlib.Numerals.{add-one}
+use native.Mathlib.Omega.{arith}
+use lib.ListN.{length, drop, getD, length-map}
+use lib.Seq.{drop-cons, drop-length}
+use Rattle.event.specs.Answer.{done}
+use Rattle.rules.specs.Verdict.{startAnswer}
+use Rattle.judge.proofs.Onward.{start-goes, start-stops}
+use Rattle.judge.proofs.start.start_answer.Statement.{statement}
+use Rattle.judge.proofs.start.start_answer.Tie as tie
+
+abbrev Inv-loop : tie.InvT-loop
+Inv-loop cells target-cells i₀ i = (i ≤ 256) × (startAnswer 0 cells target-cells ≡ startAnswer i (drop i cells) (drop i target-cells))
+
+abbrev μ-loop : tie.MeasureT-loop
+μ-loop cells target-cells i₀ i = 256 - i
+
+-- an array of 256 has 256 cells
+sized : (m : List ℕ) → length (map (λ (v : ℕ). v) m) ≡ 256 → length m ≡ 256
+sized m h = sym (length-map m (λ (v : ℕ). v)) ∙ h
+
+source-size : (c : tie.Start Inv-loop μ-loop) → length (c .args .start .cells) ≡ 256
+source-size c = sized (c .args .start .cells) (c .good .0 .1 .1 .0 .1 .0 .1)
+
+target-size : (c : tie.Start Inv-loop μ-loop) → length (c .args .target-start .cells) ≡ 256
+target-size c = sized (c .args .target-start .cells) (c .good .1 .0 .1 .1 .0 .1 .0 .1)
+
+-- the cells from the loop's on
+abbrev begin : tie.In-loop Inv-loop μ-loop → tie.Start Inv-loop μ-loop
+begin c = c .before .before .before .before
+
+abbrev index : tie.In-loop Inv-loop μ-loop → ℕ
+index c = c .before .loop .i
+
+from-here : (c : tie.In-loop Inv-loop μ-loop) → startAnswer 0 (begin c .args .start .cells) (begin c .args .target-start .cells)
+    ≡ startAnswer (index c) (getD (begin c .args .start .cells) (index c) 0 ∷ drop (index c + 1) (begin c .args .start .cells))
+    (getD (begin c .args .target-start .cells) (index c) 0 ∷ drop (index c + 1) (begin c .args .target-start .cells))
+from-here c =
+    let h : index c < length (begin c .args .start .cells) = omega (arith, source-size (begin c)) in
+    let k : index c < length (begin c .args .target-start .cells) = omega (arith, target-size (begin c)) in
+    c .before .loop .inv .1
+    ∙ rw (drop-cons (begin c .args .start .cells) (index c) 0 h, drop-cons (begin c .args .target-start .cells) (index c) 0 k, ← add-one (index c))
+
+at-end : (i : ℕ) (m n : List ℕ) → length m ≡ i → length n ≡ i → startAnswer i (drop i m) (drop i n) ≡ done
+unfolding startAnswer
+at-end i m n h k = rw (← h, drop-length m)
+
+loop-holds : tie.Need-loop-holds Inv-loop μ-loop
+loop-holds c = (omega arith, refl)
+
+new-requires : tie.Need-new-requires Inv-loop μ-loop
+new-requires c κs = tt
+
+returns : tie.Need-returns Inv-loop μ-loop
+returns c = c .new .ensures ∙ sym (from-here (c .before .before) ∙ start-stops _ _ _ _ _ (c .before .if1 .taken))
+
+loop-again : tie.Need-loop-again Inv-loop μ-loop
+loop-again c = (omega arith, from-here (c .before) ∙ (start-goes _ _ _ _ _ (c .if1 .left) ∙ rw (add-one (index (c .before)))))
+
+new-requires-2 : tie.Need-new-requires-2 Inv-loop μ-loop
+new-requires-2 c κs = tt
+
+returns-2 : tie.Need-returns-2 Inv-loop μ-loop
+returns-2 c =
+    let b = c .before .before .before .before .before in
+    let e : c .before .before .loop .i ≡ 256 = omega arith in
+    c .new2 .ensures ∙ sym (c .before .before .loop .inv .1 ∙ at-end _ _ _ (source-size b ∙ sym e) (target-size b ∙ sym e))
+
+pub start-answer-spec : {M : Type 1} → statement M
+start-answer-spec =
+    tie.close
+    (tie.spec
+    Inv-loop
+    μ-loop
+    loop-holds
+    (λ c. omega arith)
+    (λ c. omega arith)
+    (λ c. omega arith)
+    (λ c. omega arith)
+    new-requires
+    returns
+    (λ c. omega arith)
+    (λ c. omega arith)
+    loop-again
+    new-requires-2
+    returns-2)

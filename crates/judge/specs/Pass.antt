@@ -1,0 +1,83 @@
+-- The judge's small decisions: what it asks of an event, of the cells at its location and of its entry; and what its marks and flags say.
+-- Assumes nothing.
+use mathlib.Core.Path.{_≡_}
+use mathlib.Core.Bool.{Bool, true, false, not, cond, _&&_, _||_}
+use mathlib.Core.Option.{Option, none, some}
+use mathlib.Core.List.{List}
+use Prim.Native.Nat.{ℕ, _+_, _-_, _/_, _<_}
+use lib.Dec.{eqb, ltb}
+use lib.ListN.{length, getD, drop}
+use Rattle.event.specs.Kind.{has}
+use Rattle.event.specs.Room.{eventAt, onward}
+use Rattle.rules.specs.View.{View, wall, load, store, view, isWall}
+use Rattle.rules.specs.Fault.{Item, closing, group, is, unlike}
+use Rattle.judge.specs.declared.source.Cell.{Cell}
+use Rattle.judge.specs.declared.source.Tops.{Tops}
+use Rattle.judge.specs.declared.source.Witness.{Witness}
+use Rattle.event.specs.declared.Event.{Event}
+use Rattle.rules.specs.Verdict.{items}
+
+-- a number, marked or not, is used again; 0 is no number
+abbrev pub usedTwice : ℕ → Bool → Bool
+usedTwice k marked = not (eqb k 0) && marked
+
+-- the marks say which numbers up to 800 the entries name
+abbrev pub Marked : List Bool → List ℕ → Type 0
+Marked marks ns = (k : ℕ) → k < 801 → getD marks k false ≡ has k ns
+
+-- 15 or 16 of a target event, or 0
+abbrev pub newFault : Bool → Bool → Bool → ℕ
+newFault sourced isLoad fresh = cond sourced 0 (cond isLoad (cond fresh 16 0) 15)
+
+-- whether a store before a plain event is closing, by whether one after the event is
+abbrev pub closingAfter : Bool → ℕ → Bool → Bool
+closingAfter isLoad n closing = isLoad && (not (eqb n 0) || closing)
+
+-- the events of a room from an index on, with their entries
+abbrev pub itemsFrom : List ℕ → List ℕ → ℕ → List Item
+itemsFrom l ns i = items view (onward l i (length l / 6 - i)) (drop i ns)
+
+-- whether a store at the index, to the location of the event there, is closing
+abbrev pub closingAt : List ℕ → List ℕ → ℕ → Bool
+closingAt l ns i = closing (group (eventAt l i .place) (itemsFrom l ns (i + 1)))
+
+-- whether a plain event becomes the witness of its location
+abbrev pub takesOver : Bool → ℕ → Bool → Bool
+takesOver isLoad n fresh = not (eqb n 0) || (isLoad && fresh)
+
+-- the larger of two numbers
+abbrev pub larger : ℕ → ℕ → ℕ
+larger n g = cond (ltb g n) n g
+
+-- the flags say of each event whether a store there is closing
+abbrev pub Flagged : List Bool → List ℕ → List ℕ → Type 0
+Flagged flags l ns = (i : ℕ) → i < length l / 6 → getD flags i false ≡ closingAt l ns i
+
+-- what the code makes of its numbers and tests
+abbrev pub cellOf : Bool → Bool → Cell
+cellOf fresh closing = record { fresh = fresh; closing = closing }
+
+abbrev pub witnessOf : Bool → ℕ → Witness
+witnessOf held value = record { held = held; value = value }
+
+abbrev pub topsOf : ℕ → ℕ → ℕ → Tops
+topsOf all walls here = record { all = all; walls = walls; here = here }
+
+-- a location's witness
+abbrev pub witnessed : Witness → Option ℕ
+witnessed w = cond (w .held) (some (w .value)) none
+
+-- 11, 13 or 14 of a gone event, or 0
+abbrev pub goneFault : View → Cell → Option ℕ → ℕ
+goneFault wall c o = 11
+goneFault (load p v u) c o = cond (u && (c .fresh)) 13 0
+goneFault (store p v) c o = cond (c .closing && not (is v o)) 14 0
+
+-- 12 of a kept event
+abbrev pub crossedBy : View → ℕ → Tops → Bool
+crossedBy v n t = cond (isWall v) (ltb n (t .all)) (ltb n (t .walls) || ltb n (t .here))
+
+-- 10 to 14 of a source event, or 0
+abbrev pub eventFault : List Event → Event → ℕ → Cell → Option ℕ → Tops → ℕ
+eventFault t e n c o s =
+    cond (eqb n 0) (goneFault (view e) c o) (cond (unlike t e n) 10 (cond (crossedBy (view e) n s) 12 0))

@@ -1,0 +1,58 @@
+// Answers 15 and 16: the target events without a source.
+ghost use mathlib.Core.Path.{_≡_};
+ghost use mathlib.Core.List.{List, []};
+ghost use Prim.Native.Nat.{ℕ, _/_, _≤_, _<_};
+ghost use lib.ListN.{length};
+ghost use Rattle.event.specs.Room.{Placed, wholeEvents};
+ghost use Rattle.rules.specs.View.{view};
+ghost use Rattle.rules.specs.Verdict.{targetAnswer};
+ghost use Rattle.judge.specs.Pass.{newFault, Marked};
+use crate::seen::is_load;
+use crate::seen::is_wall;
+use event::Answer;
+use event::Number;
+use event::WORDS;
+use event::Word;
+use event::index_of;
+use event::room::get;
+
+// 15 or 16 of a target event, or 0, by whether it has a source, is a load, and is the first access to its location since the last
+// synchronising event.
+fn new_fault(sourced: bool, load: bool, fresh: bool) -> Number
+    ensures { λ r. ⌜ r ≡ newFault sourced load fresh ⌝ }
+{
+    if sourced {
+        return 0;
+    }
+    if load {
+        if fresh {
+            return 16;
+        }
+        return 0;
+    }
+    15
+}
+
+pub(crate) fn target_answer(target: &[Word], marks: &[bool; 801]) -> Answer
+    requires { ⌜ length (now target) / 6 ≤ 800 ⌝ }
+    requires { ⌜ Placed (now target) ⌝ }
+    ensures { λ r. ⌜ ((ns : List ℕ) → Marked (now (marks .entry)) ns → r ≡ targetAnswer view ns 1 [] (wholeEvents (now (target .entry)))) ⌝ }
+{
+    let mut fresh: [bool; 256] = [true; 256];
+    let mut k: usize = 0;
+    while k < target.len() / WORDS {
+        let e = get(target, k);
+        let at = index_of(e.place);
+        let fault = new_fault(marks[k + 1], is_load(e), fresh[at]);
+        if fault != 0 {
+            return Answer::new(fault, 2, k + 1);
+        }
+        k += 1;
+        if is_wall(e) {
+            fresh = [true; 256];
+            continue;
+        }
+        fresh[at] = false;
+    }
+    Answer::new(0, 0, 0)
+}

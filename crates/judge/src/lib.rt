@@ -1,0 +1,58 @@
+// The judge: the answer to two traces and a matching that were read, 7 to 16, in a pass or two for each question.
+pub mod inserted;
+pub mod numbers;
+pub mod seen;
+pub mod source;
+pub mod start;
+
+ghost use mathlib.Core.Path.{_≡_};
+ghost use Prim.Native.Nat.{_/_, _≤_};
+ghost use lib.ListN.{length};
+ghost use Rattle.event.specs.Room.{Placed, wholeEvents};
+ghost use Rattle.rules.specs.View.{view};
+ghost use Rattle.rules.specs.Verdict.{verdict};
+use event::Answer;
+use event::Entry;
+use event::WORDS;
+use event::Word;
+use event::memory::Memory;
+use inserted::target_answer;
+use numbers::entry_answer;
+use source::source_answer;
+use start::start_answer;
+
+// The rooms are the parts that hold the events and the entries.
+pub fn judge(
+    start: Memory,
+    target_start: Memory,
+    source: &[Word],
+    target: &[Word],
+    entries: &[Entry],
+) -> Answer
+    requires { ⌜ length (now source) / 6 ≤ 800 ⌝ }
+    requires { ⌜ Placed (now source) ⌝ }
+    requires { ⌜ length (now target) / 6 ≤ 800 ⌝ }
+    requires { ⌜ Placed (now target) ⌝ }
+    ensures { λ r. ⌜ r ≡ verdict view (start .cells) («target_start» .cells)
+        (wholeEvents (now (source .entry))) (wholeEvents (now (target .entry))) (now (entries .entry)) ⌝ }
+{
+    let begun = start_answer(start, target_start);
+    if begun.number != 0 {
+        return begun;
+    }
+    let count = entries.len();
+    if count != source.len() / WORDS {
+        return Answer::new(8, 3, count);
+    }
+    let read = entry_answer(entries, target.len() / WORDS);
+    let named = read.answer;
+    if named.number != 0 {
+        return named;
+    }
+    let found = source_answer(source, target, entries);
+    if found.number != 0 {
+        return found;
+    }
+    let marks = read.marks;
+    target_answer(target, &marks)
+}
