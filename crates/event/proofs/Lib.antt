@@ -1,5 +1,5 @@
 -- Laws that belong to no one function. Assumes nothing.
 pub mod Rooms
 pub mod Lawful
-mod Left
 pub mod Wrap
+pub mod Table

@@ -10,6 +10,8 @@ use Rattle.event.specs.declared.kind.Orders.{Orders}
 use Rattle.event.specs.declared.kind.Orders.the-variants.{Bare, Marks, Reads, Writes, Updates, Fences, NoKind}
 use Rattle.event.specs.declared.kind.Place.{Place}
 use Rattle.event.specs.declared.kind.Place.the-variants.{Location, Mutex, Nowhere}
+use Rattle.event.specs.declared.kind.Sets.{Sets}
+use Rattle.event.specs.declared.kind.Sets.the-variants.{Nothing, First, Second, Sum}
 
 -- the numbers of the orders and marks; 0 is no order
 abbrev pub rlx : ℕ
@@ -51,25 +53,25 @@ has n (m ∷ l) = eqb n m || has n l
 unfoldable pub takes : Orders → ℕ → Bool
 takes os o = has o (ordersOf os)
 
-abbrev pub aRow : Orders → Place → ℕ → Bool → Row
-aRow o p n s = record { orders = o; place = p; values = n; sync = s }
+abbrev pub aRow : Orders → Place → ℕ → Bool → Sets → Bool → Row
+aRow o p n r w s = record { orders = o; place = p; values = n; reads = r; sets = w; sync = s }
 
 abbrev pub noKind : Row
-noKind = aRow NoKind Nowhere 0 false
+noKind = aRow NoKind Nowhere 0 false Nothing false
 
--- the fixed table, by the kind's number: orders, place, how many values, whether it synchronises
+-- the fixed table, by the kind's number: orders, place, how many values, whether it reads, what it sets, whether it synchronises
 abbrev pub rows : List Row
 rows =
     noKind
-    ∷ aRow Marks Location 1 false  -- 1 load
-    ∷ aRow Bare Location 1 false  -- 2 store
-    ∷ aRow Reads Location 1 true  -- 3 aload
-    ∷ aRow Writes Location 1 true  -- 4 astore
-    ∷ aRow Updates Location 2 true  -- 5 rmw
-    ∷ aRow Updates Location 2 true  -- 6 add
-    ∷ aRow Fences Nowhere 0 true  -- 7 fence
-    ∷ aRow Bare Mutex 0 true  -- 8 lock
-    ∷ aRow Bare Mutex 0 true  -- 9 unlock
+    ∷ aRow Marks Location 1 true Nothing false  -- 1 load
+    ∷ aRow Bare Location 1 false First false  -- 2 store
+    ∷ aRow Reads Location 1 true Nothing true  -- 3 aload
+    ∷ aRow Writes Location 1 false First true  -- 4 astore
+    ∷ aRow Updates Location 2 true Second true  -- 5 rmw
+    ∷ aRow Updates Location 2 true Sum true  -- 6 add
+    ∷ aRow Fences Nowhere 0 false Nothing true  -- 7 fence
+    ∷ aRow Bare Mutex 0 false Nothing true  -- 8 lock
+    ∷ aRow Bare Mutex 0 false Nothing true  -- 9 unlock
     ∷ []
 
 unfoldable pub row : ℕ → Row
@@ -106,6 +108,16 @@ abbrev pub isLocation : Place → Bool
 isLocation Location = true
 isLocation Mutex = false
 isLocation Nowhere = false
+
+-- the order's place holds a load's mark
+abbrev pub isMarks : Orders → Bool
+isMarks Bare = false
+isMarks Marks = true
+isMarks Reads = false
+isMarks Writes = false
+isMarks Updates = false
+isMarks Fences = false
+isMarks NoKind = false
 
 -- plain: `load` and `store`; atomic: every other access to a location
 abbrev pub plain : Event → Bool

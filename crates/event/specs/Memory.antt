@@ -1,10 +1,12 @@
 -- Document 01, "Latest value": the memory takes one event at a time and hands back the memory after it. Assumes nothing.
 use Prim.Native.Nat.{ℕ, _+_, _%_, _^_}
 use mathlib.Core.Bool.{Bool, true, false, cond}
-use mathlib.Core.List.{List, [], _∷_}
+use mathlib.Core.List.{List}
 use lib.Dec.{eqb}
 use lib.ListN.{getD, set, replicate}
-use Rattle.event.specs.Kind.{has, lawful}
+use Rattle.event.specs.Kind.{row, lawful}
+use Rattle.event.specs.declared.kind.Sets.{Sets}
+use Rattle.event.specs.declared.kind.Sets.the-variants.{Nothing, First, Second, Sum}
 use Rattle.event.specs.declared.Event.{Event}
 use Rattle.event.specs.declared.memory.Memory.{Memory}
 use Rattle.event.specs.declared.memory.Stepped.{Stepped}
@@ -17,23 +19,25 @@ empty = record { cells = replicate 256 0 }
 abbrev pub wrapSum : ℕ → ℕ → ℕ → ℕ
 wrapSum width a b = (a + b) % 2 ^ width
 
--- the cells after an event: `store` and `astore` set a cell, `rmw` sets new, `add` old plus operand modulo 2^32
-unfoldable pub after : List ℕ → Event → List ℕ
-after l e =
-    cond (has (e .kind) (2 ∷ 4 ∷ [])) (set l (e .place) (e .first))
-    (cond (eqb (e .kind) 5) (set l (e .place) (e .second))
-    (cond (eqb (e .kind) 6) (set l (e .place) (wrapSum 32 (e .first) (e .second)))
-    l))
+-- what is left in a cell that held `was`, by two values: `store` and `astore` set the first, `rmw` sets new, `add` old plus operand
+-- modulo 2^32
+abbrev pub leaves : Sets → ℕ → ℕ → ℕ → ℕ
+leaves Nothing was first second = was
+leaves First was first second = first
+leaves Second was first second = second
+leaves Sum was first second = wrapSum 32 first second
 
--- what it leaves in its cell, which held `was`
+-- what an event leaves in its cell
 abbrev pub left : ℕ → Event → ℕ
-left was e =
-    cond (has (e .kind) (2 ∷ 4 ∷ [])) (e .first)
-    (cond (eqb (e .kind) 5) (e .second) (cond (eqb (e .kind) 6) (wrapSum 32 (e .first) (e .second)) was))
+left was e = leaves (row (e .kind) .sets) was (e .first) (e .second)
+
+-- the cells after it
+unfoldable pub after : List ℕ → Event → List ℕ
+after l e = set l (e .place) (left (getD l (e .place) 0) e)
 
 -- each load, `aload` and old value must equal the cell before the event
 abbrev pub reads : ℕ → Event → Bool
-reads was e = cond (has (e .kind) (1 ∷ 3 ∷ 5 ∷ 6 ∷ [])) (eqb (e .first) was) true
+reads was e = cond (row (e .kind) .reads) (eqb (e .first) was) true
 
 unfoldable pub latest : List ℕ → Event → Bool
 latest l e = reads (getD l (e .place) 0) e

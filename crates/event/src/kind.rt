@@ -1,6 +1,7 @@
-// The fixed table: a kind's number decides its orders, its place, its values and whether it synchronises.
+// The fixed table: a kind's number decides all that a kind is, its orders, its place, its values, whether it reads, what it sets and
+// whether it synchronises.
 ghost use mathlib.Core.Path.{_≡_};
-ghost use Rattle.event.specs.Kind.{aRow, row, has, takes, fitsPlace, fitsValues, fields, lawful};
+ghost use Rattle.event.specs.Kind.{aRow, row, has, takes, fitsPlace, fitsValues, fields, lawful, isMarks, isLocation, plain};
 use crate::Event;
 use crate::Word;
 
@@ -29,21 +30,34 @@ pub enum Place {
     Nowhere,
 }
 
+// What an event sets its cell to.
+pub enum Sets {
+    Nothing,
+    First,
+    Second,
+    // the sum of both values
+    Sum,
+}
+
 // A row of the table.
 pub struct Row {
     pub orders: Orders,
     pub place: Place,
     pub values: Word,
+    pub reads: bool,
+    pub sets: Sets,
     pub sync: bool,
 }
 
-fn a_row(orders: Orders, place: Place, values: Word, sync: bool) -> Row
-    ensures { λ r. ⌜ r ≡ aRow orders place values sync ⌝ }
+fn a_row(orders: Orders, place: Place, values: Word, reads: bool, sets: Sets, sync: bool) -> Row
+    ensures { λ r. ⌜ r ≡ aRow orders place values reads sets sync ⌝ }
 {
     Row {
         orders,
         place,
         values,
+        reads,
+        sets,
         sync,
     }
 }
@@ -53,16 +67,44 @@ pub fn row_of(kind: Word) -> Row
     ensures { λ r. ⌜ r ≡ row kind ⌝ }
 {
     match kind {
-        1 => a_row(Orders::Marks, Place::Location, 1, false),
-        2 => a_row(Orders::Bare, Place::Location, 1, false),
-        3 => a_row(Orders::Reads, Place::Location, 1, true),
-        4 => a_row(Orders::Writes, Place::Location, 1, true),
-        5 => a_row(Orders::Updates, Place::Location, 2, true),
-        6 => a_row(Orders::Updates, Place::Location, 2, true),
-        7 => a_row(Orders::Fences, Place::Nowhere, 0, true),
-        8 => a_row(Orders::Bare, Place::Mutex, 0, true),
-        9 => a_row(Orders::Bare, Place::Mutex, 0, true),
-        _ => a_row(Orders::NoKind, Place::Nowhere, 0, false),
+        1 => a_row(
+            Orders::Marks,
+            Place::Location,
+            1,
+            true,
+            Sets::Nothing,
+            false,
+        ),
+        2 => a_row(Orders::Bare, Place::Location, 1, false, Sets::First, false),
+        3 => a_row(Orders::Reads, Place::Location, 1, true, Sets::Nothing, true),
+        4 => a_row(Orders::Writes, Place::Location, 1, false, Sets::First, true),
+        5 => a_row(
+            Orders::Updates,
+            Place::Location,
+            2,
+            true,
+            Sets::Second,
+            true,
+        ),
+        6 => a_row(Orders::Updates, Place::Location, 2, true, Sets::Sum, true),
+        7 => a_row(
+            Orders::Fences,
+            Place::Nowhere,
+            0,
+            false,
+            Sets::Nothing,
+            true,
+        ),
+        8 => a_row(Orders::Bare, Place::Mutex, 0, false, Sets::Nothing, true),
+        9 => a_row(Orders::Bare, Place::Mutex, 0, false, Sets::Nothing, true),
+        _ => a_row(
+            Orders::NoKind,
+            Place::Nowhere,
+            0,
+            false,
+            Sets::Nothing,
+            false,
+        ),
     }
 }
 
@@ -148,6 +190,43 @@ pub fn suits(kind: Word, place: Word, order: Word, first: Word, second: Word) ->
         return false;
     }
     fits_values(row.values, first, second)
+}
+
+// Whether the order's place holds a load's mark.
+pub fn is_marks(orders: Orders) -> bool
+    ensures { λ r. ⌜ r ≡ isMarks orders ⌝ }
+{
+    match orders {
+        Orders::Bare => false,
+        Orders::Marks => true,
+        Orders::Reads => false,
+        Orders::Writes => false,
+        Orders::Updates => false,
+        Orders::Fences => false,
+        Orders::NoKind => false,
+    }
+}
+
+fn is_location(place: Place) -> bool
+    ensures { λ r. ⌜ r ≡ isLocation place ⌝ }
+{
+    match place {
+        Place::Location => true,
+        Place::Mutex => false,
+        Place::Nowhere => false,
+    }
+}
+
+// Whether an event is a `load` or a `store`.
+pub fn is_plain(e: Event) -> bool
+    ensures { λ r. ⌜ r ≡ plain e ⌝ }
+{
+    let row = row_of(e.kind);
+    let place = row.place;
+    if is_location(place) {
+        return !row.sync;
+    }
+    false
 }
 
 // Whether an event is of the layout, form 1.

@@ -4,7 +4,9 @@ ghost use Rattle.event.specs.Memory.{empty as emptyMemory, left, reads, 
 use crate::Event;
 use crate::Word;
 use crate::index_of;
+use crate::kind::Sets;
 use crate::kind::is_lawful;
+use crate::kind::row_of;
 
 pub struct Memory {
     pub cells: [Word; 256],
@@ -27,13 +29,12 @@ fn wrapped_sum(a: Word, b: Word) -> Word
 fn left_by(e: Event, was: Word) -> Word
     ensures { λ r. ⌜ r ≡ left was e ⌝ }
 {
-    let kind = e.kind;
-    match kind {
-        2 => e.first,
-        4 => e.first,
-        5 => e.second,
-        6 => wrapped_sum(e.first, e.second),
-        _ => was,
+    let sets = row_of(e.kind).sets;
+    match sets {
+        Sets::Nothing => was,
+        Sets::First => e.first,
+        Sets::Second => e.second,
+        Sets::Sum => wrapped_sum(e.first, e.second),
     }
 }
 
@@ -41,14 +42,10 @@ fn left_by(e: Event, was: Word) -> Word
 fn is_latest(e: Event, was: Word) -> bool
     ensures { λ r. ⌜ r ≡ reads was e ⌝ }
 {
-    let kind = e.kind;
-    match kind {
-        1 => e.first == was,
-        3 => e.first == was,
-        5 => e.first == was,
-        6 => e.first == was,
-        _ => true,
+    if row_of(e.kind).reads {
+        return e.first == was;
     }
+    true
 }
 
 impl Memory {

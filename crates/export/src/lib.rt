@@ -70,11 +70,11 @@ pub extern "C" fn laprunto_write_trace(
     ensures { λ _. ⌜ now (out .exit) ≡ outAfter (starting (now (memory .entry))) (now (room .entry)) (now (out .entry)) ⌝ }
 {
     let cells = *memory;
-    let found = trace::write(Memory { cells }, room, out);
+    let written = trace::write(Memory { cells }, room, out);
     *result = [
-        number_index(found.number),
-        number_index(found.side),
-        found.place,
+        number_index(written.number),
+        number_index(written.side),
+        written.place,
     ];
 }
 

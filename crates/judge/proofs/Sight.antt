@@ -6,7 +6,7 @@ use mathlib.Core.Option.{Option}
 use mathlib.Core.List.{List}
 use Prim.Native.Nat.{ℕ}
 use lib.Dec.{eqb}
-use Rattle.event.specs.Kind.{used}
+use Rattle.event.specs.Kind.{used, row, plain}
 use Rattle.event.specs.declared.Event.{Event}
 use Rattle.rules.specs.View.{View, wall, load, store, view, isLoad, isWall}
 use Rattle.rules.specs.Fault.{Item, is, isNone, item, near, stays}
@@ -20,14 +20,14 @@ pub data Sees : View → ℕ → ℕ → Bool → Type 0 where
   a-store : {p v : ℕ} {u : Bool} → Sees (store p v) p v u
 
 pub sees : (e : Event) → Sees (view e) (e .place) (e .first) (eqb (e .order) used)
-sees e = go (eqb (e .kind) 1) (eqb (e .kind) 2)
+sees e = go (plain e) (row (e .kind) .reads)
   where
     go : (c d : Bool)
-        → Sees (cond c (load (e .place) (e .first) (eqb (e .order) used)) (cond d (store (e .place) (e .first)) wall)) (e .place) (e .first) (eqb
+        → Sees (cond c (cond d (load (e .place) (e .first) (eqb (e .order) used)) (store (e .place) (e .first))) wall) (e .place) (e .first) (eqb
         (e .order) used)
-    go true d = a-load
-    go false true = a-store
-    go false false = a-wall
+    go true true = a-load
+    go true false = a-store
+    go false d = a-wall
 
 -- at an index that is its location
 pub sees-at : (e : Event) {i : ℕ} → i ≡ e .place → Sees (view e) i (e .first) (eqb (e .order) used)
@@ -60,3 +60,17 @@ new-fault b true k a-store = refl
 new-fault b false k a-wall = refl
 new-fault b false k a-load = refl
 new-fault b false k a-store = refl
+
+-- what is not plain is a wall; what is plain and reads is a load
+module _ (p v : ℕ) (u : Bool) where
+  not-plain : (c d : Bool) → isWall (cond c (cond d (load p v u) (store p v)) wall) ≡ not c
+  not-plain true true = refl
+  not-plain true false = refl
+  not-plain false d = refl
+
+  pub load-reads : (d : Bool) → isLoad (cond d (load p v u) (store p v)) ≡ d
+  load-reads true = refl
+  load-reads false = refl
+
+pub wall-not-plain : (e : Event) → isWall (view e) ≡ not (plain e)
+wall-not-plain e = not-plain (e .place) (e .first) (eqb (e .order) used) (plain e) (row (e .kind) .reads)

@@ -1,8 +1,12 @@
 // What the rules see of an event.
 ghost use mathlib.Core.Path.{_≡_};
-ghost use mathlib.Core.Bool.{_&&_};
+ghost use mathlib.Core.Bool.{_&&_, _||_};
+ghost use Rattle.event.specs.Kind.{row, isMarks};
 ghost use Rattle.rules.specs.View.{view, same, isWall, isLoad};
 use event::Event;
+use event::kind::is_marks;
+use event::kind::is_plain;
+use event::kind::row_of;
 
 pub(crate) fn both(a: bool, b: bool) -> bool
     ensures { λ r. ⌜ r ≡ (a && b) ⌝ }
@@ -10,48 +14,50 @@ pub(crate) fn both(a: bool, b: bool) -> bool
     a && b
 }
 
+pub(crate) fn either(a: bool, b: bool) -> bool
+    ensures { λ r. ⌜ r ≡ (a || b) ⌝ }
+{
+    a || b
+}
+
 pub(crate) fn is_wall(e: Event) -> bool
     ensures { λ r. ⌜ r ≡ isWall (view e) ⌝ }
 {
-    let kind = e.kind;
-    match kind {
-        1 => false,
-        2 => false,
-        _ => true,
-    }
+    !is_plain(e)
 }
 
 pub(crate) fn is_load(e: Event) -> bool
     ensures { λ r. ⌜ r ≡ isLoad (view e) ⌝ }
 {
-    let kind = e.kind;
-    match kind {
-        1 => true,
-        _ => false,
+    if is_plain(e) {
+        return row_of(e.kind).reads;
     }
+    false
+}
+
+// Whether the order's place of an event holds a mark.
+fn is_marked(e: Event) -> bool
+    ensures { λ r. ⌜ r ≡ isMarks (row (e .kind) .orders) ⌝ }
+{
+    let orders = row_of(e.kind).orders;
+    is_marks(orders)
 }
 
 // Whether two events are the same, the marks of loads apart.
 pub(crate) fn is_same(e: Event, f: Event) -> bool
     ensures { λ r. ⌜ r ≡ same e f ⌝ }
 {
-    if e.kind != f.kind {
-        return false;
-    }
-    if e.place != f.place {
-        return false;
-    }
-    if e.first != f.first {
-        return false;
-    }
-    if e.second != f.second {
-        return false;
-    }
-    if e.code != f.code {
-        return false;
-    }
-    if e.kind == 1 {
-        return true;
-    }
-    e.order == f.order
+    both(
+        e.kind == f.kind,
+        both(
+            e.place == f.place,
+            both(
+                e.first == f.first,
+                both(
+                    e.second == f.second,
+                    both(e.code == f.code, either(is_marked(e), e.order == f.order)),
+                ),
+            ),
+        ),
+    )
 }

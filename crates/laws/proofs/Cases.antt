@@ -1,8 +1,9 @@
 -- Two cases taken apart, and what the cases of a test are. Assumes nothing.
-use Prim.Native.Nat.{ℕ, _<_, _≤_}
+use Prim.Native.Nat.{ℕ, zero, suc, _<_, _≤_}
 use mathlib.Core.Bool.{Bool, true, false, cond}
 use mathlib.Core.Logic.{_⊎_, inl, inr}
 use mathlib.Core.Path.{_≡_, refl}
+use native.Mathlib.Omega.{arith}
 use lib.Dec.{ltb}
 use borrow.Author.Tests.{ltb-true, ltb-false}
 
@@ -19,6 +20,15 @@ either false = inr refl
 -- a number is below another, or not
 pub side : (m n : ℕ) → (m < n) ⊎ (n ≤ m)
 side m n = cases (either (ltb m n)) (λ e. inl (ltb-true m n e)) (λ e. inr (ltb-false m n e))
+
+-- a number that is none of 1 to n is 0 or beyond them, as where no arm of a `match` on 1 to n is taken
+abbrev pub NoneOf : ℕ → ℕ → Type 0
+NoneOf zero k = Unit {0}
+NoneOf (suc n) k = NoneOf n k × (k ≡ suc n → ⊥)
+
+pub beyond : (n k : ℕ) → NoneOf n k → 1 ≤ k → suc n ≤ k
+beyond zero k h p = p
+beyond (suc n) k h p = omega (arith, beyond n k (h .0) p, h .1)
 
 -- one of two things by a test: where its number is 0, it is not the one whose number is not
 module _ {A : Type 0} (f : A → ℕ) where

@@ -3,7 +3,7 @@ use mathlib.Core.Bool.{Bool, true, false, not, cond, _&&_, _||_}
 use mathlib.Core.Option.{Option, none, some}
 use Prim.Native.Nat.{ℕ}
 use lib.Dec.{eqb}
-use Rattle.event.specs.Kind.{used}
+use Rattle.event.specs.Kind.{used, row, plain, isMarks}
 use Rattle.event.specs.declared.Event.{Event}
 
 -- A plain event is a load, which says whether its value is used, or a store; every synchronising event is a wall.
@@ -12,11 +12,12 @@ pub data View : Type 0 where
   load : (place value : ℕ) (used : Bool) → View
   store : (place value : ℕ) → View
 
--- The one function through which the rules see an event: kind 1 is a load, kind 2 a store, every other kind synchronises.
+-- The one function through which the rules see an event: of the plain ones those that read are loads, the others stores.
 abbrev pub view : Event → View
 view e =
-    cond (eqb (e .kind) 1) (load (e .place) (e .first) (eqb (e .order) used))
-    (cond (eqb (e .kind) 2) (store (e .place) (e .first)) wall)
+    cond (plain e)
+    (cond (row (e .kind) .reads) (load (e .place) (e .first) (eqb (e .order) used)) (store (e .place) (e .first)))
+    wall
 
 -- It synchronises; it is a load.
 abbrev pub isWall : View → Bool
@@ -59,4 +60,4 @@ same e f =
     && (eqb (e .first) (f .first)
     && (eqb (e .second) (f .second)
     && (eqb (e .code) (f .code)
-    && (eqb (e .kind) 1 || eqb (e .order) (f .order))))))
+    && (isMarks (row (e .kind) .orders) || eqb (e .order) (f .order))))))

@@ -3,15 +3,13 @@ use borrow.Author.Needs.{needs}
 use Rattle.event.proofs.kind.fits_place.Statement.{statement}
 use Rattle.event.proofs.kind.fits_place.Tie as tie
 
-returns : tie.Need-returns
-returns c = rw (c .enum-told .given .1)
-
-returns-2 : tie.Need-returns-2
-returns-2 c = rw (c .enum-told2 .given .1)
-
-returns-3 : tie.Need-returns-3
-returns-3 c = rw (c .enum-told3 .given .1)
-
 pub fits-place-spec : {M : Type 1} → statement M
 fits-place-spec =
-    tie.close (tie.spec (search needs) (search needs) (search needs) returns returns-2 returns-3)
+    tie.close
+    (tie.spec
+    (search needs)
+    (search needs)
+    (search needs)
+    (λ c. rw (c .enum-told .given .1))
+    (λ c. rw (c .enum-told2 .given .1))
+    (λ c. rw (c .enum-told3 .given .1)))

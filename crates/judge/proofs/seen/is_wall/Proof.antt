@@ -1,16 +1,12 @@
--- Each arm is the view at that kind. Assumes nothing.
-use borrow.Author.Tests.{ne-eqb}
+-- What is not plain is a wall. Assumes nothing.
+use mathlib.Core.Path.{sym}
+use borrow.Author.Needs.{needs}
+use Rattle.judge.proofs.Sight.{wall-not-plain}
 use Rattle.judge.proofs.seen.is_wall.Statement.{statement}
 use Rattle.judge.proofs.seen.is_wall.Tie as tie
 
 returns : tie.Need-returns
-returns c = rw (c .match .keys1)
-
-returns-2 : tie.Need-returns-2
-returns-2 c = rw (c .match .keys2)
-
-returns-3 : tie.Need-returns-3
-returns-3 c = rw (ne-eqb _ _ (c .match .rest .0 .1), ne-eqb _ _ (c .match .rest .1))
+returns c = rw (c .is-plain .ensures) (sym (wall-not-plain (c .before .args .e)))
 
 pub is-wall-spec : {M : Type 1} → statement M
-is-wall-spec = tie.close (tie.spec returns returns-2 returns-3)
+is-wall-spec = tie.close (tie.spec (search needs) returns)

@@ -6,9 +6,8 @@ use native.Mathlib.Omega.{arith}
 use borrow.Author.Tests.{not-true, not-false}
 use lib.Seq.{set-getD}
 use Rattle.event.specs.Kind.{lawful}
-use Rattle.event.specs.Memory.{stepped, latest}
+use Rattle.event.specs.Memory.{after, latest, stepped}
 use Rattle.event.proofs.Lawful.{place-below}
-use Rattle.event.proofs.Left.{after-left}
 use borrow.Author.Needs.{needs}
 use Rattle.event.proofs.memory.Memory.step.Statement.{statement}
 use Rattle.event.proofs.memory.Memory.step.Tie as tie
@@ -31,12 +30,11 @@ element-write-self c = inside (c .before .before .before .before)
 
 -- an event that leaves its cell as it was
 returns-2 : tie.Need-returns-2
-unfolding stepped latest
+unfolding stepped latest after
 returns-2 c =
     let i = c .before .before .before .before in
     rw (
       law i,
-      after-left,
       c .before .before .is-latest .ensures,
       i .index-of .ensures,
       (rw (i .index-of .ensures) at (sym (c .before .left-by .ensures) ∙ c .if2 .taken)),
@@ -44,10 +42,10 @@ returns-2 c =
     )
 
 returns-3 : tie.Need-returns-3
-unfolding stepped latest
+unfolding stepped latest after
 returns-3 c =
     let i = c .before .before .before .before in
-    rw (law i, after-left, c .before .before .is-latest .ensures, c .before .left-by .ensures, i .index-of .ensures)
+    rw (law i, c .before .before .is-latest .ensures, c .before .left-by .ensures, i .index-of .ensures)
 
 pub step-spec : {M : Type 1} → statement M
 step-spec =

@@ -1,0 +1,74 @@
+-- What a test finds of every row of the fixed table holds of every kind. Each law about kinds is one such test, which the check computes, so that a
+-- kind more is a row and no law. Assumes nothing.
+use Prim.Native.Nat.{ℕ, zero, suc}
+use mathlib.Core.Bool.{Bool, true, false, _&&_, not, cond, _||_, false≢true}
+use mathlib.Core.List.{List, [], _∷_}
+use mathlib.Core.Path.{_≡_, refl}
+use lib.ListN.{getD}
+use Rattle.laws.proofs.Bools.{and-left, and-right}
+use Rattle.event.specs.Kind.{row, rows, noKind, isLocation}
+use Rattle.event.specs.declared.kind.Row.{Row}
+use Rattle.event.specs.declared.kind.Place.{Place}
+use Rattle.event.specs.declared.kind.Place.the-variants.{Location, Mutex, Nowhere}
+use Rattle.event.specs.declared.kind.Sets.{Sets}
+use Rattle.event.specs.declared.kind.Sets.the-variants.{Nothing, First, Second, Sum}
+
+abbrev pub every : (Row → Bool) → List Row → Bool
+every test [] = true
+every test (r ∷ l) = test r && every test l
+
+found : (test : Row → Bool) (l : List Row) → every test l ≡ true → test noKind ≡ true → (k : ℕ) → test (getD l k noKind) ≡ true
+found test [] h n k = n
+found test (r ∷ l) h n zero = and-left _ _ h
+found test (r ∷ l) h n (suc k) = found test l (and-right (test r) _ h) n k
+
+pub each-row : (test : Row → Bool) → every test rows ≡ true → (k : ℕ) → test (row k) ≡ true
+unfolding row
+each-row test h k = found test rows h (and-left _ _ h) k
+
+-- a row that is plain
+abbrev plainRow : Row → Bool
+plainRow r = isLocation (r .place) && not (r .sync)
+
+-- it sets nothing if it reads, else its first value
+abbrev simple : Bool → Sets → Bool
+simple true Nothing = true
+simple false First = true
+simple true First = false
+simple true Second = false
+simple true Sum = false
+simple false Nothing = false
+simple false Second = false
+simple false Sum = false
+
+simple-read : (s : Sets) → simple true s ≡ true → s ≡ Nothing
+simple-read Nothing h = refl
+simple-read First h = absurd (false≢true h)
+simple-read Second h = absurd (false≢true h)
+simple-read Sum h = absurd (false≢true h)
+
+simple-store : (s : Sets) → simple false s ≡ true → s ≡ First
+simple-store First h = refl
+simple-store Nothing h = absurd (false≢true h)
+simple-store Second h = absurd (false≢true h)
+simple-store Sum h = absurd (false≢true h)
+
+plain-simple : (k : ℕ) → (not (plainRow (row k)) || simple (row k .reads) (row k .sets)) ≡ true
+plain-simple k = each-row (λ r. not (plainRow r) || simple (r .reads) (r .sets)) refl k
+
+-- a plain kind that reads sets nothing, and one that does not sets its first value
+module _ (k : ℕ) (p : plainRow (row k) ≡ true) where
+  told : simple (row k .reads) (row k .sets) ≡ true
+  told = rw p at (plain-simple k)
+
+  pub plain-load : row k .reads ≡ true → row k .sets ≡ Nothing
+  plain-load r = simple-read (row k .sets) (rw r at told)
+
+  pub plain-store : row k .reads ≡ false → row k .sets ≡ First
+  plain-store r = simple-store (row k .sets) (rw r at told)
+
+-- a place that is a location is one
+pub a-location : (p : Place) (b : Bool) → (isLocation p && b) ≡ true → p ≡ Location
+a-location Location b h = refl
+a-location Mutex b h = absurd (false≢true h)
+a-location Nowhere b h = absurd (false≢true h)
