@@ -14,8 +14,8 @@ struct text {
 };
 
 struct trace {
-    uint32_t words[LAPRUNTO_TRACE_WORDS];
-    uint32_t memory[LAPRUNTO_CELLS];
+    laprunto_word words[LAPRUNTO_TRACE_WORDS];
+    laprunto_word memory[LAPRUNTO_CELLS];
     size_t events;
 };
 
@@ -49,23 +49,23 @@ static int comes_back(const struct text *text, const struct trace *trace) {
     }
     laprunto_read_trace(written.bytes, written.size, again.words, LAPRUNTO_TRACE_WORDS, again.memory, result);
     return result[LAPRUNTO_NUMBER] == 0 && result[LAPRUNTO_COUNT] == trace->events &&
-           memcmp(again.words, trace->words, words * sizeof(uint32_t)) == 0 &&
+           memcmp(again.words, trace->words, words * sizeof(laprunto_word)) == 0 &&
            memcmp(again.memory, trace->memory, sizeof trace->memory) == 0;
 }
 
 /* Whether a matching, read alone, gives the entries of the check. */
-static int same_entries(const struct text *text, const uint32_t *entries, size_t count) {
-    static uint32_t again[LAPRUNTO_ENTRY_WORDS];
+static int same_entries(const struct text *text, const laprunto_entry *entries, size_t count) {
+    static laprunto_entry again[LAPRUNTO_ENTRY_WORDS];
     size_t result[LAPRUNTO_READ];
     laprunto_read_matching(text->bytes, text->size, again, LAPRUNTO_ENTRY_WORDS, result);
     return result[LAPRUNTO_NUMBER] == 0 && result[LAPRUNTO_COUNT] == count &&
-           memcmp(again, entries, count * sizeof(uint32_t)) == 0;
+           memcmp(again, entries, count * sizeof(laprunto_entry)) == 0;
 }
 
 int main(int count, char **names) {
     static struct text texts[3];
     static struct trace source, target;
-    static uint32_t entries[LAPRUNTO_ENTRY_WORDS];
+    static laprunto_entry entries[LAPRUNTO_ENTRY_WORDS];
     size_t result[LAPRUNTO_CHECKED];
     size_t from, to;
     for (int i = 0; i < 3; i++) {
@@ -78,8 +78,8 @@ int main(int count, char **names) {
     target.events = result[LAPRUNTO_TARGET_EVENTS];
     printf("%s\t%zu\t%zu\t%zu\n", result[LAPRUNTO_NUMBER] == 0 ? "accepted" : "refused", result[LAPRUNTO_NUMBER],
            result[LAPRUNTO_SIDE], result[LAPRUNTO_PLACE]);
-    laprunto_offending_line(texts[0].bytes, texts[0].size, texts[1].bytes, texts[1].size, (uint32_t)result[LAPRUNTO_NUMBER],
-                            (uint32_t)result[LAPRUNTO_SIDE], result[LAPRUNTO_PLACE], &from, &to);
+    laprunto_offending_line(texts[0].bytes, texts[0].size, texts[1].bytes, texts[1].size, (laprunto_number)result[LAPRUNTO_NUMBER],
+                            (laprunto_number)result[LAPRUNTO_SIDE], result[LAPRUNTO_PLACE], &from, &to);
     print_line(&texts[result[LAPRUNTO_SIDE] == 2], from, to);
 
     /* A reading's refusal stores nothing; 0 and 7 to 16 come after all three texts were read. */

@@ -2,34 +2,19 @@
 //! `laprunto` prints. Then both traces that were read are written again, and what
 //! was written is read back: status 1 if anything came back otherwise.
 
+mod laprunto;
+
+use laprunto::{laprunto_check, laprunto_offending_line, laprunto_read_matching, laprunto_read_trace, laprunto_write_trace};
+use laprunto::{Entry, Memory, Number, Word};
 use std::io::{Read, Write};
 
 const TEXT_BYTES: usize = 32_400;
 const EVENTS: usize = 800;
 const WORDS: usize = 6;
 
-type Memory = [u32; 256];
-
-// As `laprunto.h` declares them: a slice is its pointer and its length.
-#[rustfmt::skip]
-extern "C" {
-    fn laprunto_read_trace(text: *const u8, bytes: usize, room: *mut u32, words: usize, memory: *mut Memory, result: *mut [usize; 4]);
-    fn laprunto_read_matching(text: *const u8, bytes: usize, room: *mut u32, words: usize, result: *mut [usize; 4]);
-    fn laprunto_write_trace(memory: *const Memory, room: *const u32, words: usize, out: *mut u8, bytes: usize, result: *mut [usize; 3]);
-    fn laprunto_check(
-        source: *const u8, source_bytes: usize, target: *const u8, target_bytes: usize, matching: *const u8, matching_bytes: usize,
-        source_room: *mut u32, source_words: usize, target_room: *mut u32, target_words: usize, entry_room: *mut u32, entry_words: usize,
-        source_memory: *mut Memory, target_memory: *mut Memory, result: *mut [usize; 6],
-    );
-    fn laprunto_offending_line(
-        source: *const u8, source_bytes: usize, target: *const u8, target_bytes: usize, number: u32, side: u32, place: usize,
-        from: *mut usize, to: *mut usize,
-    );
-}
-
 #[derive(PartialEq)]
 struct Trace {
-    words: Vec<u32>,
+    words: Vec<Word>,
     memory: Memory,
 }
 
@@ -39,7 +24,7 @@ struct Checked {
     place: usize,
     source: Trace,
     target: Trace,
-    entries: Vec<u32>,
+    entries: Vec<Entry>,
 }
 
 fn check(source: &[u8], target: &[u8], matching: &[u8]) -> Checked {
@@ -77,7 +62,7 @@ fn check(source: &[u8], target: &[u8], matching: &[u8]) -> Checked {
 }
 
 fn offending_line<'a>(source: &'a [u8], target: &'a [u8], checked: &Checked) -> &'a [u8] {
-    let (number, side) = (checked.number as u32, checked.side as u32);
+    let (number, side) = (checked.number as Number, checked.side as Number);
     let (mut from, mut to) = (0, 0);
     unsafe {
         laprunto_offending_line(
@@ -120,7 +105,7 @@ fn read_trace(text: &[u8]) -> Option<Trace> {
     (number == 0).then_some(Trace { words, memory })
 }
 
-fn read_matching(text: &[u8]) -> Option<Vec<u32>> {
+fn read_matching(text: &[u8]) -> Option<Vec<Entry>> {
     let mut entries = vec![0; EVENTS];
     let mut result = [0; 4];
     unsafe {

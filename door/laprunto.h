@@ -3,11 +3,11 @@
  * Link target/staticlib/libexport.a (`rt staticlib export`). Each function is proved against its contract in
  * crates/export/src/lib.rt and wants no other library than C's own memcpy, memmove and memset.
  *
- * Slices. A text or a room is a pointer and the number of its elements: bytes of a text, words of a room. Any number is fine, 0 too,
+ * Slices. A text or a room is a pointer and the number of its elements: bytes of a text, words or entries of a room. Any number is fine, 0 too,
  * and so is any content. A pointer is never null, not even for length 0, and what a call may write overlaps nothing else that the
  * call is handed. A call that keeps to this gets an answer, whatever the bytes are; nothing else is asked.
  *
- * Rooms. An event is six words: kind, place, order, first, second, code; an entry is one word: the target number, or 0 for gone
+ * Rooms. An event is six words: kind, place, order, first, second, code; an entry is one number: the target number, or 0 for gone
  * (docs/LAYOUT.md has the numbers of kinds and orders). A room of w words holds w / 6 events. Refused readings leave rooms as they
  * were; else the events or entries stand at the front and the rest is unchanged. LAPRUNTO_TRACE_WORDS and LAPRUNTO_ENTRY_WORDS
  * hold the most.
@@ -25,6 +25,10 @@
 #ifdef __cplusplus
 extern "C" {
 #endif
+
+typedef uint32_t laprunto_word;   /* a value and a word of an event */
+typedef uint32_t laprunto_number; /* a number that is no value: an answer's, a side's */
+typedef uint32_t laprunto_entry;  /* an entry of a matching */
 
 enum {
     LAPRUNTO_TEXT_BYTES = 32400, /* the longest text */
@@ -49,31 +53,31 @@ enum {
 };
 
 /* Reads a trace text alone: side 1 where it refuses. Writes all of memory and result. */
-void laprunto_read_trace(const uint8_t *text, size_t text_bytes, uint32_t *room, size_t room_words,
-                         uint32_t memory[LAPRUNTO_CELLS], size_t result[LAPRUNTO_READ]);
+void laprunto_read_trace(const uint8_t *text, size_t text_bytes, laprunto_word *room, size_t room_words,
+                         laprunto_word memory[LAPRUNTO_CELLS], size_t result[LAPRUNTO_READ]);
 
 /* Reads a matching text alone: side 3 where it refuses. Writes all of result. */
-void laprunto_read_matching(const uint8_t *text, size_t text_bytes, uint32_t *room, size_t room_words,
+void laprunto_read_matching(const uint8_t *text, size_t text_bytes, laprunto_entry *room, size_t room_entries,
                             size_t result[LAPRUNTO_READ]);
 
 /* Writes the trace with this starting memory and the events of these words, all of them: one cut short at the end counts and is
  * refused. The place of number 0 is how many bytes stand at the front of out, the place of 17 how many it needs; the rest of out,
  * and all of it under a refusal, is unchanged. Writes all of result. */
-void laprunto_write_trace(const uint32_t memory[LAPRUNTO_CELLS], const uint32_t *room, size_t room_words, uint8_t *out,
-                          size_t out_bytes, size_t result[LAPRUNTO_ANSWER]);
+void laprunto_write_trace(const laprunto_word memory[LAPRUNTO_CELLS], const laprunto_word *room, size_t room_words,
+                          uint8_t *out, size_t out_bytes, size_t result[LAPRUNTO_ANSWER]);
 
 /* Checks a matching between a source and a target text. Writes all of both memories and of result. */
 void laprunto_check(const uint8_t *source, size_t source_bytes, const uint8_t *target, size_t target_bytes,
-                    const uint8_t *matching, size_t matching_bytes, uint32_t *source_room, size_t source_room_words,
-                    uint32_t *target_room, size_t target_room_words, uint32_t *entry_room, size_t entry_room_words,
-                    uint32_t source_memory[LAPRUNTO_CELLS], uint32_t target_memory[LAPRUNTO_CELLS],
-                    size_t result[LAPRUNTO_CHECKED]);
+                    const uint8_t *matching, size_t matching_bytes, laprunto_word *source_room, size_t source_room_words,
+                    laprunto_word *target_room, size_t target_room_words, laprunto_entry *entry_room,
+                    size_t entry_room_entries, laprunto_word source_memory[LAPRUNTO_CELLS],
+                    laprunto_word target_memory[LAPRUNTO_CELLS], size_t result[LAPRUNTO_CHECKED]);
 
 /* The line that an answer of a check finds fault with: the bytes from *from to before *to, of the target text where side is 2, else
  * of the source text. *from and *to are equal where there is none. The line has no LF. Any three numbers may be handed in; *from is
  * never above *to, nor *to above the length of the text. */
 void laprunto_offending_line(const uint8_t *source, size_t source_bytes, const uint8_t *target, size_t target_bytes,
-                             uint32_t number, uint32_t side, size_t place, size_t *from, size_t *to);
+                             laprunto_number number, laprunto_number side, size_t place, size_t *from, size_t *to);
 
 #ifdef __cplusplus
 }

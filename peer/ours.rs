@@ -3,61 +3,8 @@
 
 use crate::peer::{Answer, Checked, MatchingRead, Memory, TraceRead, CELLS};
 
-mod door {
-    extern "C" {
-        pub fn laprunto_read_trace(
-            text: *const u8,
-            text_bytes: usize,
-            room: *mut u32,
-            room_words: usize,
-            memory: *mut [u32; 256],
-            result: *mut [usize; 4],
-        );
-        pub fn laprunto_read_matching(
-            text: *const u8,
-            text_bytes: usize,
-            room: *mut u32,
-            room_words: usize,
-            result: *mut [usize; 4],
-        );
-        pub fn laprunto_write_trace(
-            memory: *const [u32; 256],
-            room: *const u32,
-            room_words: usize,
-            out: *mut u8,
-            out_bytes: usize,
-            result: *mut [usize; 3],
-        );
-        pub fn laprunto_check(
-            source: *const u8,
-            source_bytes: usize,
-            target: *const u8,
-            target_bytes: usize,
-            matching: *const u8,
-            matching_bytes: usize,
-            source_room: *mut u32,
-            source_room_words: usize,
-            target_room: *mut u32,
-            target_room_words: usize,
-            entry_room: *mut u32,
-            entry_room_words: usize,
-            source_memory: *mut [u32; 256],
-            target_memory: *mut [u32; 256],
-            result: *mut [usize; 6],
-        );
-        pub fn laprunto_offending_line(
-            source: *const u8,
-            source_bytes: usize,
-            target: *const u8,
-            target_bytes: usize,
-            number: u32,
-            side: u32,
-            place: usize,
-            from: *mut usize,
-            to: *mut usize,
-        );
-    }
-}
+#[path = "../door/laprunto.rs"]
+mod door;
 
 fn answer(number: usize, side: usize, place: usize) -> Answer {
     Answer { number: number as u32, side: side as u32, place: place as u32 }

@@ -1,0 +1,26 @@
+//! The functions of `libexport.a`, as `laprunto.h` declares them: a slice is its
+//! pointer and its length. Every Rust program here takes them from this file.
+
+/// A value and a word of an event.
+pub type Word = u32;
+/// A number that is no value: an answer's, a side's.
+pub type Number = u32;
+/// An entry of a matching.
+pub type Entry = Number;
+pub type Memory = [Word; 256];
+
+#[rustfmt::skip]
+extern "C" {
+    pub fn laprunto_read_trace(text: *const u8, bytes: usize, room: *mut Word, words: usize, memory: *mut Memory, result: *mut [usize; 4]);
+    pub fn laprunto_read_matching(text: *const u8, bytes: usize, room: *mut Entry, entries: usize, result: *mut [usize; 4]);
+    pub fn laprunto_write_trace(memory: *const Memory, room: *const Word, words: usize, out: *mut u8, bytes: usize, result: *mut [usize; 3]);
+    pub fn laprunto_check(
+        source: *const u8, source_bytes: usize, target: *const u8, target_bytes: usize, matching: *const u8, matching_bytes: usize,
+        source_room: *mut Word, source_words: usize, target_room: *mut Word, target_words: usize, entry_room: *mut Entry, entries: usize,
+        source_memory: *mut Memory, target_memory: *mut Memory, result: *mut [usize; 6],
+    );
+    pub fn laprunto_offending_line(
+        source: *const u8, source_bytes: usize, target: *const u8, target_bytes: usize, number: Number, side: Number, place: usize,
+        from: *mut usize, to: *mut usize,
+    );
+}
