@@ -1,6 +1,7 @@
 //! The same check as slowly and literally as the requirement states it: fields
 //! as strings, quadratic searches, one list of tests after another. It exists
-//! to be compared with the fast one and shares no code with it.
+//! to be compared with the fast one and shares no code with it. It stays at
+//! document 01: no later request is in it, and cases of those are not put to it.
 
 pub type Triple = (u32, u32, u32);
 

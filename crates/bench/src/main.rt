@@ -1,16 +1,18 @@
-// Checks P10's three files and prints what is found, then runs every vector of the file `vectors` and prints which differ.
+// Checks the files of both examples as the program does, then runs every vector of the file `vectors` and prints which differ.
+mod back;
 mod run;
 mod vector;
 
 ghost use mathlib.Core.Path.{_≡_};
 ghost use lib.ListN.{length};
 ghost use Rattle.io.specs.Counts.{Counts};
-use checker::check;
-use checker::line::offending_line;
-use event::Entry;
-use event::Word;
+use back::Back;
 use event::number_index;
-use libc::STDOUT_FILENO;
+use files::check::check_files;
+use files::print::print;
+use files::print::print_answer;
+use files::print::print_number;
+use files::read::read_file;
 use run::Outcome;
 use run::outcome_of;
 use vector::NUMBER;
@@ -26,17 +28,11 @@ use vector::vector_at;
 // The answers that a check gives are 0 to 17.
 const ANSWERS: usize = 18;
 
-// How many vectors were run, and how many differ.
+// How many vectors were run, how many differ, and how many of their traces were written again.
 struct Totals {
     vectors: usize,
     differing: usize,
-}
-
-// One byte more than the longest text.
-fn text_buffer() -> [u8; 32401]
-    ensures { λ r. ⌜ 32401 ≡ length r ⌝ }
-{
-    [0; 32401]
+    written: usize,
 }
 
 // The most bytes of a file of vectors.
@@ -46,81 +42,17 @@ fn vectors_buffer() -> [u8; 1800000]
     [0; 1800000]
 }
 
-// The bytes of a file, which is empty if it can't be opened.
-fn read_file(name: &[u8], buf: &mut [u8]) -> usize
-    ensures { λ r. ⌜ Counts r (now (buf .exit)) ⌝ }
-{
-    let fd = os::open_read(name);
-    if fd < 0 {
-        return 0;
-    }
-    let got = io::read_full(fd, buf);
-    libc::close(fd);
-    got
-}
-
-fn print(text: &[u8]) {
-    io::write_all(STDOUT_FILENO, text);
-}
-
-fn print_number(n: usize) {
-    print(b"\t");
-    io::print_decimal(STDOUT_FILENO, n as u64);
-}
-
-fn print_answer(number: usize, side: usize, place: usize) {
-    print_number(number);
-    print_number(side);
-    print_number(place);
-    print(b"\n");
-}
-
-fn print_line(line: &[u8]) {
-    if line.len() != 0 {
-        print(line);
-        print(b"\n");
-    }
-}
-
-// Three texts checked, and what is found printed.
-fn print_check<'a>(source: &'a [u8], target: &'a [u8], matching: &[u8]) {
-    let mut source_room: [Word; 4800] = [0; 4800];
-    let mut target_room: [Word; 4800] = [0; 4800];
-    let mut entry_room: [Entry; 800] = [0; 800];
-    let checked = check(
-        source,
-        target,
-        matching,
-        &mut source_room,
-        &mut target_room,
-        &mut entry_room,
+// Both examples, as the program checks them.
+fn print_examples() {
+    check_files(
+        b"examples/lock/source",
+        b"examples/lock/target",
+        b"examples/lock/matching",
     );
-    let answer = checked.answer;
-    if answer.number == 0 {
-        print(b"accepted");
-    } else {
-        print(b"refused");
-    }
-    print_answer(
-        number_index(answer.number),
-        number_index(answer.side),
-        answer.place,
-    );
-    print_line(offending_line(source, target, answer));
-}
-
-// P10's three files, read and checked.
-fn print_files() {
-    let mut source = text_buffer();
-    let mut target = text_buffer();
-    let mut matching = text_buffer();
-    let source_bytes = read_file(b"source", &mut source);
-    let target_bytes = read_file(b"target", &mut target);
-    let matching_bytes = read_file(b"matching", &mut matching);
-    print_check(
-        &source[..source_bytes],
-        &target[..target_bytes],
-        &matching[..matching_bytes],
+    check_files(
+        b"examples/task/source",
+        b"examples/task/target",
+        b"examples/task/matching",
     );
 }
 
@@ -132,6 +64,12 @@ fn is_right(outcome: Outcome) -> bool {
     if !outcome.line_right {
         return false;
     }
+    if !outcome.source_back.right {
+        return false;
+    }
+    if !outcome.target_back.right {
+        return false;
+    }
     outcome.rooms_right
 }
 
@@ -139,26 +77,26 @@ fn is_right(outcome: Outcome) -> bool {
 fn print_differing(ordinal: usize, header: &[u8], outcome: Outcome) {
     let answer = outcome.answer;
     print(b"vector");
-    print_number(ordinal);
+    print_number(ordinal as u64);
     print(b"\t");
     print(name_of(header));
     print(b"\nexpected");
-    print_answer(
-        number_at(header, NUMBER),
-        number_at(header, SIDE),
-        number_at(header, PLACE),
-    );
-    print(b"given");
-    print_answer(
-        number_index(answer.number),
-        number_index(answer.side),
-        answer.place,
-    );
+    print_number(number_at(header, NUMBER) as u64);
+    print_number(number_at(header, SIDE) as u64);
+    print_number(number_at(header, PLACE) as u64);
+    print(b"\ngiven");
+    print_answer(answer);
     if !outcome.line_right {
         print(b"another line\n");
     }
     if !outcome.rooms_right {
         print(b"a room changed\n");
+    }
+    if !outcome.source_back.right {
+        print(b"another source written\n");
+    }
+    if !outcome.target_back.right {
+        print(b"another target written\n");
     }
 }
 
@@ -168,6 +106,14 @@ fn one_more(n: usize) -> usize {
         return n;
     }
     n + 1
+}
+
+// One more, if a trace was written again.
+fn and_one(n: usize, back: Back) -> usize {
+    if back.lawful {
+        return one_more(n);
+    }
+    n
 }
 
 // One more vector that has an answer.
@@ -195,16 +141,22 @@ fn run_at(data: &[u8], at: usize, vector: Vector) -> Outcome {
 // The totals after one vector more, which is printed if it differs.
 fn after(totals: Totals, header: &[u8], outcome: Outcome) -> Totals {
     let vectors = one_more(totals.vectors);
+    let written = and_one(
+        and_one(totals.written, outcome.source_back),
+        outcome.target_back,
+    );
     if is_right(outcome) {
         return Totals {
             vectors,
             differing: totals.differing,
+            written,
         };
     }
     print_differing(vectors, header, outcome);
     Totals {
         vectors,
         differing: one_more(totals.differing),
+        written,
     }
 }
 
@@ -213,6 +165,7 @@ fn run_all(data: &[u8], counts: &mut [usize; ANSWERS]) -> Totals {
     let mut totals = Totals {
         vectors: 0,
         differing: 0,
+        written: 0,
     };
     let mut at: usize = 0;
     while at < data.len() {
@@ -231,8 +184,8 @@ fn run_all(data: &[u8], counts: &mut [usize; ANSWERS]) -> Totals {
 
 fn print_count(number: usize, vectors: usize) {
     print(b"answer");
-    print_number(number);
-    print_number(vectors);
+    print_number(number as u64);
+    print_number(vectors as u64);
     print(b"\n");
 }
 
@@ -250,15 +203,17 @@ fn print_vectors(data: &[u8]) {
     let mut counts: [usize; ANSWERS] = [0; ANSWERS];
     let totals = run_all(data, &mut counts);
     print(b"vectors");
-    print_number(totals.vectors);
+    print_number(totals.vectors as u64);
     print(b"\ndiffering");
-    print_number(totals.differing);
+    print_number(totals.differing as u64);
+    print(b"\nwritten back");
+    print_number(totals.written as u64);
     print(b"\n");
     print_counts(&counts);
 }
 
 fn main() {
-    print_files();
+    print_examples();
     let mut data = vectors_buffer();
     let bytes = read_file(b"vectors", &mut data);
     print_vectors(&data[..bytes]);

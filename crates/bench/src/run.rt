@@ -1,5 +1,7 @@
 // One vector run: its texts checked in rooms of its lengths, and all that comes back compared.
 ghost use Rattle.io.specs.Counts.{Counts};
+use super::back::Back;
+use super::back::back_of;
 use super::vector::ENTRY_WORDS;
 use super::vector::NUMBER;
 use super::vector::PLACE;
@@ -36,10 +38,12 @@ pub(crate) struct Outcome {
     pub answer_right: bool,
     pub line_right: bool,
     pub rooms_right: bool,
+    pub source_back: Back,
+    pub target_back: Back,
 }
 
 // The words of a room that is lent, of the words that there are.
-fn lent_words(room: &[Word], words: usize) -> usize
+pub(crate) fn lent_words(room: &[Word], words: usize) -> usize
     ensures { λ r. ⌜ Counts r (now (room .entry)) ⌝ }
 {
     if words < room.len() {
@@ -49,7 +53,7 @@ fn lent_words(room: &[Word], words: usize) -> usize
 }
 
 // The words of events.
-fn words_of(events: usize) -> usize {
+pub(crate) fn words_of(events: usize) -> usize {
     if MOST_EVENTS < events {
         return 0;
     }
@@ -156,10 +160,14 @@ pub(crate) fn outcome_of<'a>(
     let answer = ran.answer;
     let answer_right = is_said(header, answer);
     let line_right = same_bytes(offending_line(source, target, answer), line);
+    let source_back = back_of(source);
+    let target_back = back_of(target);
     Outcome {
         answer,
         answer_right,
         line_right,
         rooms_right: ran.rooms_right,
+        source_back,
+        target_back,
     }
 }

@@ -1,0 +1,47 @@
+// What the program `laprunto` does: three files checked, and what is found printed.
+use crate::print::print;
+use crate::print::print_answer;
+use crate::print::print_line;
+use crate::read::read_file;
+use crate::read::text_buffer;
+use checker::check;
+use checker::line::offending_line;
+use event::Entry;
+use event::Word;
+
+fn print_check<'a>(source: &'a [u8], target: &'a [u8], matching: &[u8]) {
+    let mut source_room: [Word; 4800] = [0; 4800];
+    let mut target_room: [Word; 4800] = [0; 4800];
+    let mut entry_room: [Entry; 800] = [0; 800];
+    let checked = check(
+        source,
+        target,
+        matching,
+        &mut source_room,
+        &mut target_room,
+        &mut entry_room,
+    );
+    let answer = checked.answer;
+    if answer.number == 0 {
+        print(b"accepted");
+    } else {
+        print(b"refused");
+    }
+    print_answer(answer);
+    print_line(offending_line(source, target, answer));
+}
+
+// The files of these names, read and checked.
+pub fn check_files(source_name: &[u8], target_name: &[u8], matching_name: &[u8]) {
+    let mut source = text_buffer();
+    let mut target = text_buffer();
+    let mut matching = text_buffer();
+    let source_bytes = read_file(source_name, &mut source);
+    let target_bytes = read_file(target_name, &mut target);
+    let matching_bytes = read_file(matching_name, &mut matching);
+    print_check(
+        &source[..source_bytes],
+        &target[..target_bytes],
+        &matching[..matching_bytes],
+    );
+}

@@ -1,0 +1,29 @@
+// The lines that the programs print, on standard output: fields parted by tabs.
+use event::Answer;
+use libc::STDOUT_FILENO;
+
+pub fn print(text: &[u8]) {
+    io::write_all(STDOUT_FILENO, text);
+}
+
+// A number, with the tab before it.
+pub fn print_number(n: u64) {
+    print(b"\t");
+    io::print_decimal(STDOUT_FILENO, n);
+}
+
+// An answer's number, side and place, and the end of the line.
+pub fn print_answer(answer: Answer) {
+    print_number(answer.number as u64);
+    print_number(answer.side as u64);
+    print_number(answer.place as u64);
+    print(b"\n");
+}
+
+// A line, if there is one.
+pub fn print_line(line: &[u8]) {
+    if line.len() != 0 {
+        print(line);
+        print(b"\n");
+    }
+}
