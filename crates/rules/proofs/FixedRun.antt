@@ -23,7 +23,7 @@ module _ {E : Type 0} (view : E → View) (Gone : E → Type 0) (Above : E → E
   orderly-last (out r g m) o = o .1
   orderly-last (under {e = e} q) o = (all-one (Clash view Above e) (move-last q) (o .0), orderly-last q (o .1))
 
-  orderly-lasts : {s t : List E} → Lasts view Gone s t → Orderly view Above s → Orderly view Above t
+  pub orderly-lasts : {s t : List E} → Lasts view Gone s t → Orderly view Above s → Orderly view Above t
   orderly-lasts (end r) o = o
   orderly-lasts (more q r) o = orderly-lasts r (orderly-last q o)
 
@@ -38,7 +38,7 @@ module _ {E : Type 0} (view : E → View) (Gone : E → Type 0) (Above : E → E
   each-low P (after h q) k = (k .0, each-low P q (k .1))
 
   module _ (asym : (e f : E) → Above e f → Above f e → ⊥) where
-    orderly-low : {s t : List E} → Low Above s t → Orderly view Above s → Orderly view Above t
+    pub orderly-low : {s t : List E} → Low Above s t → Orderly view Above s → Orderly view Above t
     orderly-low (low {e = e} {f = f} h) o = ((λ k. absurd (asym e f h k), o .1 .0), (o .0 .1, o .1 .1))
     orderly-low (after {e = e} h q) o = (each-low (Clash view Above e) q (o .0), orderly-low q (o .1))
 

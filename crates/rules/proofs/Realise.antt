@@ -23,11 +23,11 @@ use Rattle.rules.proofs.Entries.{Entries, from-start}
 use Rattle.rules.proofs.Target.{Given, kept}
 use Rattle.rules.proofs.Image.{Has, Over, run-over, over-nil}
 use Rattle.rules.proofs.Traced.{Known, Of, Shows, ends, faithful-run, has-item, has-target, known-new, known-source, likes, of-view, shows-view}
-use Rattle.rules.proofs.Traced.{starts, turn, Leaves, Overtakes, image, shows-above, shows-gone}
+use Rattle.rules.proofs.Traced.{starts, turn, Leaves, Overtakes, image, shows-above, shows-gone, Genuine, genuines}
 use Rattle.rules.proofs.Pairing.{at-faithful, faithful-at, numbered-placeds, paired}
 use Rattle.rules.proofs.Reach.{faultless}
 use Rattle.rules.proofs.Order.{ordered-of, orderly-of}
-use Rattle.rules.proofs.Fixed.{InOrder}
+use Rattle.rules.proofs.Fixed.{InOrder, Orderly}
 use Rattle.rules.proofs.Sorting.{above-asym}
 use Rattle.rules.proofs.FixedImage.{fill-over, lasts-over, lows-over, orderly-over}
 use Rattle.rules.proofs.FixedRun.{run-in-order}
@@ -57,9 +57,11 @@ module _ (view : Event → View) (alike : (e f : Event) → T (same e f) → Ali
   started : Over (Shows view s t ns) (number 1 s) (items view s ns)
   started = starts view s t ns 0 s ns (ready .entries .many) (from-start noEvent s) (from-start 0 ns)
 
-  -- without faults the fixed order leads to the target
+  -- without faults the fixed order leads to the target; its events are those of their numbers, marks included, and at the start an event that stands
+  -- above a later one may be swapped with it
   pub in-order : Faultfree view s t ns → (u : List Traced)
       × InOrder (viewed view) (Leaves view s t ns) (Overtakes view s t ns) Inserted (number 1 s) u × Ends ns 1 u t
+      × Each (Genuine view s t ns) u × Orderly (viewed view) (Overtakes view s t ns) (number 1 s)
   in-order f =
       let r = split view t [] s ns (f .at-source) in
       let c = canonical (items view s ns) (placeds view ns 1 t) (given (r .0))
@@ -73,19 +75,18 @@ module _ (view : Event → View) (alike : (e f : Event) → T (same e f) → Ali
         d .0,
         record { kept = a .0; sorted = b .0; removing = a .1; sorting = b .1; inserting = d .1 },
         ends view s t ns (ready .entries .used-once) (faithful-at t s ns (ready .entries .many) (r .0)) 0 t (d .2) (c .1) (from-start noEvent t),
+        genuines view s t ns (d .2),
+        orderly-over R (viewed view) viewOf look (Overtakes view s t ns) Above (shows-above view s t ns) started (orderly-of (items view s ns) (r .2)),
       )
 
   -- and is a run
   pub realised : Faultfree view s t ns → Realises view s t ns
   unfolding Realises
   realised f =
-      let r = split view t [] s ns (f .at-source) in
-      let o = orderly-over (Shows view s t ns) (viewed view) viewOf (shows-view view s t ns) (Overtakes view s t ns) Above (shows-above view s t ns)
-      started (orderly-of (items view s ns) (r .2)) in
       let c = in-order f in (
         c .0,
         run-in-order (viewed view) (Leaves view s t ns) (Overtakes view s t ns) Inserted
-            (λ x z. above-asym (image view s t ns x) (image view s t ns z)) (c .1) o,
+            (λ x z. above-asym (image view s t ns x) (image view s t ns z)) (c .1) (c .4),
         c .2,
       )
 

@@ -22,8 +22,9 @@ use Rattle.rules.proofs.Same.{alike}
 use Rattle.rules.proofs.Clean.{both, clean-source, clean-target, source-clean, target-clean}
 use Rattle.rules.proofs.Entries.{entries}
 use Rattle.rules.proofs.Effect.{sees}
-use Rattle.rules.proofs.Fixed.{InOrder}
-use Rattle.rules.proofs.Traced.{Leaves, Overtakes}
+use Rattle.rules.proofs.Fixed.{InOrder, Orderly}
+use Rattle.rules.proofs.Traced.{Genuine, Leaves, Overtakes}
+use Rattle.laws.proofs.Lists.{Each}
 
 module _ (m n : Memory) (s t : List Event) (ns : List ℕ) (p : Passed m n s t ns) where
   ready : Ready view s t ns
@@ -55,6 +56,7 @@ module _ (m n : Memory) (s t : List Event) (ns : List ℕ) (p : Passed m n s t n
   -- order, then the insertions by rising number
   pub in-fixed-order : verdict view (m .cells) (n .cells) s t ns ≡ done → (u : List Traced)
       × InOrder (viewed view) (Leaves view s t ns) (Overtakes view s t ns) Inserted (number 1 s) u × Ends ns 1 u t
+      × Each (Genuine view s t ns) u × Orderly (viewed view) (Overtakes view s t ns) (number 1 s)
   in-fixed-order h = in-order view alike s t ns ready (clean-verdict h)
 
 pub demand-3 : Demand3

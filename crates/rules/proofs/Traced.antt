@@ -85,6 +85,10 @@ module _ (view : Event → View) (s t : List Event) (ns : List ℕ) where
   turn over-nil = over-nil
   turn (over-cons q o) = over-cons (sym (q .0)) (turn o)
 
+  pub genuines : {u : List Traced} {v : List Item} → Over Shows u v → Each Genuine u
+  genuines over-nil = tt
+  genuines (over-cons q o) = (q .1, genuines o)
+
   pub has-item : (x : Traced) → Has Of New Inserted x
   has-item (traced (old i) e) w = absurd w
   has-item (traced (new n) e) w = (item (view e) (stays true n), tt, refl)
