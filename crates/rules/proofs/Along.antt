@@ -1,5 +1,5 @@
--- Values along runs, move by move: the cell holds the value of the near access before, so what a move removes or inserts there was, or is, the
--- latest; therefore each trace of a run has the latest values and leaves the same memory as the first. Assumes nothing.
+-- Values along runs, move by move, by any rules under which a single move keeps a trace right and the memory that it leaves. Document 01's are
+-- such: the cell holds the value of the near access before, so what a move removes or inserts there was, or is, the latest. Assumes nothing.
 use mathlib.Core.Path.{_≡_, refl, sym, _∙_, ap, subst}
 use mathlib.Core.Logic.{_⊎_, inl, inr}
 use mathlib.Core.Bool.{Bool, true, false, cond}
@@ -16,13 +16,61 @@ use Rattle.event.specs.declared.Event.{Event}
 use Rattle.event.specs.declared.memory.Memory.{Memory}
 use Rattle.event.specs.declared.memory.Stepped.{Stepped}
 use Rattle.rules.specs.View.{view, View, load, store, valueOf, wall}
-use Rattle.rules.specs.Moves.{Run, group, near, Removable, Insertable, Move, Moves, By, remove, insert, swap, next, done, step, Holds, Phase, extend}
-use Rattle.rules.specs.Run.{Traced, traced, old, new, eventOf, Inserted, viewed}
+use Rattle.rules.specs.Moves.{Rules, Run, group, near, Removable, Insertable, Move, Moves, By, remove, insert, swap, next, done, step, Holds, Phase}
+use Rattle.rules.specs.Moves.{extend}
+use Rattle.rules.specs.Run.{Traced, traced, old, new, eventOf, Inserted, changes, viewed}
 use Rattle.rules.specs.Demand.{right, Values}
 use Rattle.rules.proofs.Latest.{Effect, effect}
 use Rattle.rules.proofs.Values.{Keeps, does, first-right, into, leaves, out-of, overwritten, rest-right, swapped, idle}
 use Rattle.rules.proofs.Effect.{sees, Sees, cell, right-lawful, step-length}
 use Rattle.rules.proofs.Truth.{and}
+use Rattle.rules.proofs.Chain.{by-end}
+
+-- ---- any rules
+
+-- what they must be, in runs from the memory m: by what is known of the events behind and of the memory after them, a move keeps a trace right and
+-- the memory that it leaves
+pub record Keeping (may : Rules Traced) (m : Memory) : Type 1 where
+  pub Knows : List Traced → Memory → Type 0
+  pub start : Knows [] m
+  pub onward : (x : Traced) (b : List Traced) (n : Memory) → Knows b n → T (stepped n (eventOf x) .right) → Knows (x ∷ b) (stepped n (eventOf x) .memory)
+  pub removing : (x : Traced) (b a : List Traced) (n : Memory) → may .Removes b x a → Knows b n → T (right n (eventOf x ∷ map eventOf a))
+      → Keeps n (eventOf x ∷ map eventOf a) (map eventOf a)
+  pub inserting : (x : Traced) (b : List Traced) (s : List Event) (n : Memory) → may .Inserts b x → Knows b n → T (right n s) → Keeps n s (eventOf x ∷ s)
+  pub swapping : (x y : Traced) (s : List Event) (n : Memory) → may .Swaps x y → T (right n (eventOf x ∷ eventOf y ∷ s))
+      → Keeps n (eventOf x ∷ eventOf y ∷ s) (eventOf y ∷ eventOf x ∷ s)
+
+module _ {may : Rules Traced} {m : Memory} (k : Keeping may m) where
+  pub moved : {φ : Phase} {b s t : List Traced} → Move may φ b s t → (n : Memory) → k .Knows b n → T (right n (map eventOf s))
+      → Keeps n (map eventOf s) (map eventOf t)
+  moved (remove {b = b} {a = a} {e = x} r) n w h = k .removing x b a n r w h
+  moved (insert {b = b} {a = a} {e = x} i) n w h = k .inserting x b (map eventOf a) n i w h
+  moved (swap {a = a} {e = x} {f = y} d) n w h = k .swapping x y (map eventOf a) n d h
+  moved (next {b = b} {s = s} {t = t} {e = x} q) n w h =
+      let e = eventOf x in
+      let o = stepped n e .memory in
+      let f = first-right n e (map eventOf s) h in
+      let r = moved q o (k .onward x b n w f) (rest-right n e (map eventOf s) h) in
+      (and (stepped n e .right) (right o (map eventOf t)) f (r .0), r .1)
+
+  come-by : {φ : Phase} {s t : List Traced} (r : Moves may φ [] s t) (x : List Traced) → By may x r → T (right m (map eventOf s))
+      → Keeps m (map eventOf s) (map eventOf x)
+  come-by done x i h = rw i (h, refl)
+  come-by (step q r) x (inl i) h = rw i (h, refl)
+  come-by (step q r) x (inr n) h =
+      let a = moved q m (k .start) h in
+      let b = come-by r x n (a .0) in
+      (b .0, b .1 ∙ a .1)
+
+  pub along : {s u : List Traced} (r : Run may s u) (x : List Traced) → By may x (r .1) ⊎ By may x (r .2) → T (right m (map eventOf s))
+      → Keeps m (map eventOf s) (map eventOf x)
+  along r x (inl i) h = come-by (r .1) x i h
+  along r x (inr i) h =
+      let a = come-by (r .1) (r .0) (by-end (r .1)) h in
+      let b = come-by (r .2) x i (a .0) in
+      (b .0, b .1 ∙ a .1)
+
+-- ---- document 01's rules
 
 module _ (look : Event → View) (sees : Sees look) where
   -- each cell holds the value of the near access
@@ -83,46 +131,15 @@ module _ (look : Event → View) (sees : Sees look) where
   lawful-new (traced (old i) e) w = absurd w
   lawful-new (traced (new n) e) w = w
 
-  -- a move keeps a trace right and the memory that it leaves
-  pub moved : {φ : Phase} {b s t : List Traced} → Move (viewed look) Inserted φ b s t → (m : Memory) → length (m .cells) ≡ 256 → Knows b m
-      → T (right m (map eventOf s)) → Keeps m (map eventOf s) (map eventOf t)
-  moved (remove {b = b} {a = a} {e = x} r) m c k h = removed x b a m (look (eventOf x)) refl r k h
-  moved (insert {b = b} {a = a} {e = x} w r) m c k h = inserted x b (map eventOf a) m (look (eventOf x)) refl (lawful-new x w) r k h
-  moved (swap {a = a} {e = x} {f = y} d) m c k h = swapped look sees m (eventOf x) (eventOf y) (map eventOf a) d h
-  moved (next {b = b} {s = s} {t = t} {e = x} q) m c k h =
-      let e = eventOf x in
-      let n = stepped m e .memory in
-      let f = first-right m e (map eventOf s) h in
-      let r = moved q n (step-length m e ∙ c) (knows-next x b m c k f) (rest-right m e (map eventOf s) h) in
-      (and (stepped m e .right) (right n (map eventOf t)) f (r .0), r .1)
-
-  -- ---- moves
-
-  module _ (m : Memory) (c : length (m .cells) ≡ 256) where
-    all-moved : {φ : Phase} {s t : List Traced} → Moves (viewed look) Inserted φ [] s t → T (right m (map eventOf s))
-        → Keeps m (map eventOf s) (map eventOf t)
-    all-moved done h = (h, refl)
-    all-moved (step q r) h =
-        let a = moved q m c (λ p w k. absurd k) h in
-        let b = all-moved r (a .0) in
-        (b .0, b .1 ∙ a .1)
-
-    come-by : {φ : Phase} {s t : List Traced} (r : Moves (viewed look) Inserted φ [] s t) (x : List Traced) → By (viewed look) Inserted x r
-        → T (right m (map eventOf s)) → Keeps m (map eventOf s) (map eventOf x)
-    come-by done x i h = rw i (h, refl)
-    come-by (step q r) x (inl i) h = rw i (h, refl)
-    come-by (step q r) x (inr n) h =
-        let a = moved q m c (λ p w k. absurd k) h in
-        let b = come-by r x n (a .0) in
-        (b .0, b .1 ∙ a .1)
-
-    pub along : {s u : List Traced} (r : Run (viewed look) Inserted s u) (x : List Traced)
-        → By (viewed look) Inserted x (r .1) ⊎ By (viewed look) Inserted x (r .2) → T (right m (map eventOf s)) → Keeps m (map eventOf s) (map eventOf x)
-    along r x (inl i) h = come-by (r .1) x i h
-    along r x (inr i) h =
-        let a = all-moved (r .1) h in
-        let b = come-by (r .2) x i (a .0) in
-        (b .0, b .1 ∙ a .1)
+  pub keeping : (m : Memory) → length (m .cells) ≡ 256 → Keeping (changes look) m
+  keeping m c = record {
+    Knows = λ b n. (length (n .cells) ≡ 256) × Knows b n;
+    start = (c, λ p w k. absurd k);
+    onward = λ x b n w f. (step-length n (eventOf x) ∙ w .0, knows-next x b n (w .0) (w .1) f);
+    removing = λ x b a n r w h. removed x b a n (look (eventOf x)) refl r (w .1) h;
+    inserting = λ x b s n i w h. inserted x b s n (look (eventOf x)) refl (lawful-new x (i .0)) (i .1) (w .1) h;
+    swapping = λ x y s n d h. swapped look sees n (eventOf x) (eventOf y) s d h;
+  }
 
 pub values : Values
-values m s u r c h x i = along view sees m c r x i h
+values m s u r c h x i = along (keeping view sees m c) r x i h

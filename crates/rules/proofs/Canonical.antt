@@ -4,9 +4,8 @@ use mathlib.Core.Bool.{true, false}
 use mathlib.Core.List.{List, [], _∷_}
 use Prim.Native.Nat.{ℕ, suc}
 use Rattle.laws.proofs.Lists.{Each}
-use Rattle.rules.specs.Fault.{viewOf}
-use Rattle.rules.proofs.Item.{wall, load, store, gone, stays, Item, item, New, keep, sourced, Numbered, Supported, Likes, Faultless, Kept, Above}
-use Rattle.rules.proofs.Item.{Gone}
+use Rattle.rules.proofs.Item.{wall, load, store, gone, stays, Item, item, keep, sourced, Numbered, Supported, Likes, Faultless, Kept, Above}
+use Rattle.rules.proofs.Item.{Gone, may}
 use Rattle.rules.proofs.Word.{keptLoad, recent, Agree₁, Agree}
 use Rattle.rules.proofs.Place.{word, at-own, recent-near, holds-recent}
 use Rattle.rules.proofs.Order.{Exact, rising, rising-sourced}
@@ -18,7 +17,7 @@ use Rattle.rules.proofs.Image.{Over}
 use Rattle.rules.proofs.Fixed.{Fill as FillOf, InOrder, full, leave, put}
 
 abbrev Fill : List Item → List Item → List Item → Type 0
-Fill b s t = FillOf viewOf New b s t
+Fill b s t = FillOf may b s t
 
 fill : (b t : List Item) (i : ℕ) → Numbered i t → ((l : ℕ) → Agree (recent (word l b)) (word l t)) → Supported b t → Fill b (sourced t) t
 fill b [] i n g h = full
@@ -27,13 +26,13 @@ fill b (item v (stays false m) ∷ t) i n g h = leave (fill (item v (stays false
 fill b (item wall (stays true m) ∷ t) i n g h = absurd (h .0)
 fill b (item (load p v u) (stays true m) ∷ t) i n g h =
     let f = at-own (λ x. Agree₁ x (recent (word p b))) p {x = keptLoad v} (g p .0) in
-    put tt (holds-recent p b v (near-fits (recent (word p b)) v (recent-near p b (h .0)) f))
+    put (tt, holds-recent p b v (near-fits (recent (word p b)) v (recent-near p b (h .0)) f))
     (fill (item (load p v u) (stays true m) ∷ b) t (suc i) (n .1) (λ l. g l .1) (h .1))
 fill b (item (store p v) (stays true m) ∷ t) i n g h = absurd (h .0)
 
 -- the fixed order, of items
 abbrev pub Canonical : List Item → List Item → Type 0
-Canonical s t = InOrder viewOf Gone Above New s t
+Canonical s t = InOrder may Gone Above s t
 
 all-kept : (s : List Item) → Each Kept (keep s)
 all-kept [] = tt

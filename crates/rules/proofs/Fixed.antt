@@ -1,19 +1,18 @@
--- The fixed order of a run, for any events: which of them are gone, which stand above which by their target numbers and which are new are
--- parameters. Only definitions. Assumes nothing.
+-- The fixed order of a run, by any rules: which events are gone and which stand above which by their target numbers are parameters too. Only
+-- definitions. Assumes nothing.
 use mathlib.Core.List.{List, [], _∷_}
 use Rattle.laws.proofs.Lists.{Each}
-use Rattle.rules.specs.Moves.{Removable, Insertable, Swappable}
-use Rattle.rules.specs.View.{View}
+use Rattle.rules.specs.Moves.{Rules}
 
-module _ {E : Type 0} (view : E → View) (Gone : E → Type 0) where
+module _ {E : Type 0} (may : Rules E) (Gone : E → Type 0) where
   -- no gone event may be removed
   abbrev pub Still : List E → List E → Type 0
   Still b [] = Unit {0}
-  Still b (e ∷ a) = (Gone e → Removable view b (view e) a → ⊥) × Still (e ∷ b) a
+  Still b (e ∷ a) = (Gone e → may .Removes b e a → ⊥) × Still (e ∷ b) a
 
   -- the last gone event that may be removed is
   pub data Last : List E → List E → List E → Type 0 where
-    out : {b a : List E} {e : E} → Still (e ∷ b) a → Gone e → Removable view b (view e) a → Last b (e ∷ a) a
+    out : {b a : List E} {e : E} → Still (e ∷ b) a → Gone e → may .Removes b e a → Last b (e ∷ a) a
     under : {b s t : List E} {e : E} → Last (e ∷ b) s t → Last b (e ∷ s) (e ∷ t)
 
   -- as long as there is one
@@ -38,26 +37,26 @@ module _ {E : Type 0} (Above : E → E → Type 0) where
     calm : {s : List E} → Calm s → Lows s s
     again : {s t u : List E} → Low s t → Lows t u → Lows s u
 
-module _ {E : Type 0} (view : E → View) (New : E → Type 0) where
-  -- the new events are inserted from the front on
+module _ {E : Type 0} (may : Rules E) where
+  -- what may be inserted is, from the front on
   pub data Fill : List E → List E → List E → Type 0 where
     full : {b : List E} → Fill b [] []
     leave : {b s t : List E} {e : E} → Fill (e ∷ b) s t → Fill b (e ∷ s) (e ∷ t)
-    put : {b s t : List E} {e : E} → New e → Insertable view b (view e) → Fill (e ∷ b) s t → Fill b s (e ∷ t)
+    put : {b s t : List E} {e : E} → may .Inserts b e → Fill (e ∷ b) s t → Fill b s (e ∷ t)
 
-module _ {E : Type 0} (view : E → View) (Above : E → E → Type 0) where
-  -- an event that stands above a later one may be swapped with it
-  abbrev pub Clash : E → E → Type 0
-  Clash e f = Above e f → Swappable view e f
+  module _ (Above : E → E → Type 0) where
+    -- an event that stands above a later one may be swapped with it
+    abbrev pub Clash : E → E → Type 0
+    Clash e f = Above e f → may .Swaps e f
 
-  abbrev pub Orderly : List E → Type 0
-  Orderly [] = Unit {0}
-  Orderly (e ∷ s) = Each (Clash e) s × Orderly s
+    abbrev pub Orderly : List E → Type 0
+    Orderly [] = Unit {0}
+    Orderly (e ∷ s) = Each (Clash e) s × Orderly s
 
 -- removing, then sorting, then inserting
-pub record InOrder {E : Type 0} (view : E → View) (Gone : E → Type 0) (Above : E → E → Type 0) (New : E → Type 0) (s t : List E) : Type 0 where
+pub record InOrder {E : Type 0} (may : Rules E) (Gone : E → Type 0) (Above : E → E → Type 0) (s t : List E) : Type 0 where
   pub kept : List E
   pub sorted : List E
-  pub removing : Lasts view Gone s kept
+  pub removing : Lasts may Gone s kept
   pub sorting : Lows Above kept sorted
-  pub inserting : Fill view New [] sorted t
+  pub inserting : Fill may [] sorted t

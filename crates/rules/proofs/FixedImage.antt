@@ -1,31 +1,28 @@
--- The fixed order of one list of events is that of another that is related to it one by one, so that the rules see the same, the same are gone,
--- and the same stand above one another. What is inserted needs a counterpart. Assumes nothing.
-use mathlib.Core.Path.{_≡_}
+-- The fixed order of one list of events is that of another that is related to it one by one, where the same are gone, the same stand above one
+-- another, and the rules allow the same. What is inserted needs a counterpart. Assumes nothing.
 use mathlib.Core.Logic.{_↔_}
 use mathlib.Core.List.{List, [], _∷_}
 use Rattle.laws.proofs.Lists.{Each}
-use Rattle.rules.specs.Moves.{Removable, Insertable}
-use Rattle.rules.specs.View.{View}
+use Rattle.rules.specs.Moves.{Rules}
 use Rattle.rules.proofs.Fixed.{Clash, Orderly, Still, Last, Lasts, out, under, end, more, Calm, Low, Lows, low, after, calm, again, Fill, full}
 use Rattle.rules.proofs.Fixed.{leave, put}
-use Rattle.rules.proofs.Image.{Has, Over, insertable, over-cons, over-nil, removable, removable-back}
+use Rattle.rules.proofs.Image.{Allows, Over, over-cons, over-nil}
 
-module _ {E F : Type 0} (R : E → F → Type 0) (viewE : E → View) (viewF : F → View) (look : (x : E) (y : F) → R x y → viewE x ≡ viewF y) where
+module _ {E F : Type 0} {R : E → F → Type 0} {mayE : Rules E} {mayF : Rules F} {Has : F → Type 0} (allows : Allows R mayE mayF Has) where
   -- ---- removing
 
   module _ (GoneE : E → Type 0) (GoneF : F → Type 0) (gone : (x : E) (y : F) → R x y → GoneE x ↔ GoneF y) where
-    still-over : {b s : List E} {b′ s′ : List F} → Over R b b′ → Over R s s′ → Still viewF GoneF b′ s′ → Still viewE GoneE b s
+    still-over : {b s : List E} {b′ s′ : List F} → Over R b b′ → Over R s s′ → Still mayF GoneF b′ s′ → Still mayE GoneE b s
     still-over o over-nil h = tt
-    still-over {b = b} o (over-cons {x = x} {y = y} {s = s} q p) h =
-        (λ g r. h .0 (gone x y q .0 g) (removable-back R viewE viewF look (viewF y) o p (rw (look x y q) at r)), still-over (over-cons q o) p (h .1))
+    still-over o (over-cons {x = x} {y = y} q p) h =
+        (λ g r. h .0 (gone x y q .0 g) (allows .removes x y q o p .0 r), still-over (over-cons q o) p (h .1))
 
-    last-over : {b s : List E} {b′ s′ t′ : List F} → Last viewF GoneF b′ s′ t′ → Over R b b′ → Over R s s′ → (t : List E) × Last viewE GoneE b s t × Over R t t′
-    last-over {b = b} (out {e = y} h g m) o (over-cons {x = x} {s = s} q p) =
-        let r : Removable viewE b (viewE x) s = rw (look x y q) (removable R viewE viewF look (viewF y) o p m) in
-        (s, out (still-over (over-cons q o) p h) (gone x y q .1 g) r, p)
+    last-over : {b s : List E} {b′ s′ t′ : List F} → Last mayF GoneF b′ s′ t′ → Over R b b′ → Over R s s′ → (t : List E) × Last mayE GoneE b s t × Over R t t′
+    last-over (out {e = y} h g m) o (over-cons {x = x} {s = s} q p) =
+        (s, out (still-over (over-cons q o) p h) (gone x y q .1 g) (allows .removes x y q o p .1 m), p)
     last-over (under l) o (over-cons {x = x} q p) = let r = last-over l (over-cons q o) p in (x ∷ r .0, under (r .1), over-cons q (r .2))
 
-    pub lasts-over : {s : List E} {s′ t′ : List F} → Lasts viewF GoneF s′ t′ → Over R s s′ → (t : List E) × Lasts viewE GoneE s t × Over R t t′
+    pub lasts-over : {s : List E} {s′ t′ : List F} → Lasts mayF GoneF s′ t′ → Over R s s′ → (t : List E) × Lasts mayE GoneE s t × Over R t t′
     lasts-over {s} (end h) p = (s, end (still-over over-nil p h), p)
     lasts-over (more l r) p =
         let a = last-over l over-nil p in
@@ -41,12 +38,12 @@ module _ {E F : Type 0} (R : E → F → Type 0) (viewE : E → View) (viewF : F
     calm-over (over-cons {x = x} {y = y} q (over-cons {x = z} {y = w} r p)) c =
         (λ h. c .0 (above x z y w q r .0 h), calm-over (over-cons r p) (c .1))
 
-    clash-over : (x : E) (y : F) → R x y → {s : List E} {s′ : List F} → Over R s s′ → Each (Clash viewF AboveF y) s′ → Each (Clash viewE AboveE x) s
+    clash-over : (x : E) (y : F) → R x y → {s : List E} {s′ : List F} → Over R s s′ → Each (Clash mayF AboveF y) s′ → Each (Clash mayE AboveE x) s
     clash-over x y q over-nil h = tt
     clash-over x y q (over-cons {x = z} {y = w} r p) h =
-        (λ k. rw (look x y q, look z w r) (h .0 (above x z y w q r .0 k)), clash-over x y q p (h .1))
+        (λ k. allows .swaps x z y w q r (h .0 (above x z y w q r .0 k)), clash-over x y q p (h .1))
 
-    pub orderly-over : {s : List E} {s′ : List F} → Over R s s′ → Orderly viewF AboveF s′ → Orderly viewE AboveE s
+    pub orderly-over : {s : List E} {s′ : List F} → Over R s s′ → Orderly mayF AboveF s′ → Orderly mayE AboveE s
     orderly-over over-nil o = tt
     orderly-over (over-cons {x = x} {y = y} q p) o = (clash-over x y q p (o .0), orderly-over p (o .1))
 
@@ -66,15 +63,13 @@ module _ {E F : Type 0} (R : E → F → Type 0) (viewE : E → View) (viewF : F
 
   -- ---- inserting
 
-  module _ (NewE : E → Type 0) (NewF : F → Type 0) where
-    pub fill-over : {b s : List E} {b′ s′ t′ : List F} → Fill viewF NewF b′ s′ t′ → Over R b b′ → Over R s s′ → Each (Has R NewE NewF) t′
-        → (t : List E) × Fill viewE NewE b s t × Over R t t′
-    fill-over full o over-nil h = ([], full, over-nil)
-    fill-over (leave f) o (over-cons {x = x} q p) h =
-        let r = fill-over f (over-cons q o) p (h .1) in
-        (x ∷ r .0, leave (r .1), over-cons q (r .2))
-    fill-over {b = b} (put {e = y} w i f) o p h =
-        let n = h .0 w in
-        let g : Insertable viewE b (viewE (n .0)) = rw (look (n .0) y (n .2)) (insertable R viewE viewF look (viewF y) o i) in
-        let r = fill-over f (over-cons (n .2) o) p (h .1) in
-        (n .0 ∷ r .0, put (n .1) g (r .1), over-cons (n .2) (r .2))
+  pub fill-over : {b s : List E} {b′ s′ t′ : List F} → Fill mayF b′ s′ t′ → Over R b b′ → Over R s s′ → Each Has t′
+      → (t : List E) × Fill mayE b s t × Over R t t′
+  fill-over full o over-nil h = ([], full, over-nil)
+  fill-over (leave f) o (over-cons {x = x} q p) h =
+      let r = fill-over f (over-cons q o) p (h .1) in
+      (x ∷ r .0, leave (r .1), over-cons q (r .2))
+  fill-over (put {e = y} i f) o p h =
+      let n = allows .inserts y (h .0) o i in
+      let r = fill-over f (over-cons (n .2) o) p (h .1) in
+      (n .0 ∷ r .0, put (n .1) (r .1), over-cons (n .2) (r .2))

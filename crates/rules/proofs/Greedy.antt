@@ -9,9 +9,8 @@ use Prim.Native.Nat.{ℕ, zero, suc}
 use native.Mathlib.Omega.{arith}
 use lib.Dec.{T, eqb, eqb-refl}
 use borrow.Author.Tests.{eqb-true}
-use Rattle.rules.specs.Fault.{viewOf}
 use Rattle.rules.proofs.Item.{View, wall, load, store, gone, stays, Item, item, valueOf, near, Holds, Stores, Removable, one, Move, remove, keep}
-use Rattle.rules.proofs.Item.{Sound, Gone}
+use Rattle.rules.proofs.Item.{Sound, Gone, may}
 use Rattle.rules.proofs.Fixed.{Still as StillOf, Last as LastOf, Lasts as LastsOf, out, under, end, more}
 use Rattle.rules.proofs.Word.{Letter, far, keptLoad, keptStore, goneLoad, goneStore, late, recent, over, know, known, fits, Agree, first-unused, Ok}
 use Rattle.rules.proofs.Word.{ok-of-fine, some≢none}
@@ -25,13 +24,13 @@ abbrev K : ℕ → List Item → Option ℕ
 K l b = known (word l b)
 
 abbrev Still : List Item → List Item → Type 0
-Still b s = StillOf viewOf Gone b s
+Still b s = StillOf may Gone b s
 
 abbrev Last : List Item → List Item → List Item → Type 0
-Last b s t = LastOf viewOf Gone b s t
+Last b s t = LastOf may Gone b s t
 
 abbrev Lasts : List Item → List Item → Type 0
-Lasts s t = LastsOf viewOf Gone s t
+Lasts s t = LastsOf may Gone s t
 
 -- ---- where nothing may be removed, nothing is gone
 

@@ -7,7 +7,7 @@ use mathlib.Core.Option.{Option, none, some}
 use mathlib.Core.List.{List, [], _∷_}
 use Prim.Native.Nat.{ℕ}
 use lib.Dec.{eqb, eqb-refl, T-not}
-use Rattle.rules.proofs.Item.{wall, load, store, gone, stays, Item, item, place, New, Insertable, Differ, Swappable, two, Move, insert, swap, next}
+use Rattle.rules.proofs.Item.{wall, load, store, gone, stays, Item, item, place, Insertable, Differ, Swappable, two, Move, insert, swap, next}
 use Rattle.rules.proofs.Item.{Moves, done, step, Supported₁, Supported}
 use Rattle.rules.proofs.Word.{Letter, far, fence, keptLoad, keptStore, goneLoad, goneStore, late, recent, fits, some≢none}
 use Rattle.rules.proofs.WordMoves.{Apart, left, right}
@@ -44,16 +44,16 @@ supported-more b c (e ∷ s) f h =
     (supported₁-more b c e f (h .0), supported-more (e ∷ b) (e ∷ c) s (λ l. late-more (letter l e) (N l b) (N l c) (f l)) (h .1))
 
 -- an inserted item is supported, and so is what follows it
-inserted : (b : List Item) (e : Item) (a : List Item) → New e → Insertable b e → Supported b a → Supported₁ b e × Supported (e ∷ b) a
-inserted b (item v gone) a w i h = absurd w
-inserted b (item v (stays false n)) a w i h = absurd w
-inserted b (item wall (stays true n)) a w i h = absurd i
-inserted b (item (load p v u) (stays true n)) a w i h = (
-  near-recent p b (λ e. some≢none (sym (recent-holds p b v i) ∙ e)),
+inserted : (b : List Item) (e : Item) (a : List Item) → Insertable b e → Supported b a → Supported₁ b e × Supported (e ∷ b) a
+inserted b (item v gone) a i h = absurd (i .0)
+inserted b (item v (stays false n)) a i h = absurd (i .0)
+inserted b (item wall (stays true n)) a i h = absurd (i .1)
+inserted b (item (load p v u) (stays true n)) a i h = (
+  near-recent p b (λ e. some≢none (sym (recent-holds p b v (i .1)) ∙ e)),
   supported-more b (item (load p v u) (stays true n) ∷ b) a
       (λ l k. by-place (λ x. late x (N l b) ≢ none) l p (keptLoad v) k (λ _ e. some≢none e)) h,
 )
-inserted b (item (store p v) (stays true n)) a w i h = absurd i
+inserted b (item (store p v) (stays true n)) a i h = absurd (i .1)
 
 late-apart : {x y : Letter} (n : Option ℕ) → Apart x y → late y (late x n) ≢ none → late x (late y n) ≢ none
 late-apart n left h = h
@@ -83,7 +83,7 @@ backward b (item (load p v u) (stays true n)) f d h = near-recent p (f ∷ b) (u
 backward b (item (store p v) (stays true n)) f d h = h
 
 supported-move : {b s t : List Item} → Move two b s t → Supported b s → Supported b t
-supported-move (insert {b = b} {a = a} {e = e} w i) h = inserted b e a w i h
+supported-move (insert {b = b} {a = a} {e = e} i) h = inserted b e a i h
 supported-move (swap {b = b} {a = a} {e = e} {f = f} d) h = (
   forward b e f d (h .1 .0),
   (

@@ -11,8 +11,7 @@ use Rattle.laws.proofs.Lists.{Each}
 pub use Rattle.rules.specs.View.{View, wall, load, store, placeOf, valueOf, differ}
 pub use Rattle.rules.specs.Moves.{Holds, Stores, Phase, one, two, remove, insert, swap, next, done, step}
 pub use Rattle.rules.specs.Fault.{Fate, gone, stays, Item, item, viewOf, group, near, closing, witness}
-use Rattle.rules.specs.Moves.{Removable as RemovableOf, Insertable as InsertableOf, Swappable as SwappableOf, Move as MoveOf, Moves as MovesOf}
-use Rattle.rules.specs.Moves.{Run as RunOf}
+use Rattle.rules.specs.Moves.{Rules, rules, Move as MoveOf, Moves as MovesOf, Run as RunOf}
 use Rattle.rules.proofs.Fixed.{Clash as ClashOf, Orderly as OrderlyOf}
 
 abbrev pub New : Item → Type 0
@@ -21,6 +20,10 @@ New (item v (stays w n)) = T w
 
 -- ---- the moves, of items
 
+-- document 01's rules
+abbrev pub may : Rules Item
+may = rules viewOf New
+
 abbrev pub place : Item → Option ℕ
 place e = placeOf (viewOf e)
 
@@ -28,22 +31,22 @@ abbrev pub Differ : Option ℕ → Option ℕ → Type 0
 Differ p q = T (differ p q)
 
 abbrev pub Removable : List Item → Item → List Item → Type 0
-Removable b e a = RemovableOf viewOf b (viewOf e) a
+Removable b e a = may .Removes b e a
 
 abbrev pub Insertable : List Item → Item → Type 0
-Insertable b e = InsertableOf viewOf b (viewOf e)
+Insertable b e = may .Inserts b e
 
 abbrev pub Swappable : Item → Item → Type 0
-Swappable e f = SwappableOf viewOf e f
+Swappable e f = may .Swaps e f
 
 abbrev pub Move : Phase → List Item → List Item → List Item → Type 0
-Move φ b s t = MoveOf viewOf New φ b s t
+Move φ b s t = MoveOf may φ b s t
 
 abbrev pub Moves : Phase → List Item → List Item → List Item → Type 0
-Moves φ b s t = MovesOf viewOf New φ b s t
+Moves φ b s t = MovesOf may φ b s t
 
 unfoldable pub Run : List Item → List Item → Type 0
-Run s t = RunOf viewOf New s t
+Run s t = RunOf may s t
 
 -- ---- faults, as statements
 
@@ -66,10 +69,10 @@ Above (item v (stays w n)) (item v′ (stays w′ n′)) = n′ < n
 
 -- no fault 12: an earlier item has the greater number only where the two may be swapped
 abbrev pub Clash : Item → Item → Type 0
-Clash e f = ClashOf viewOf Above e f
+Clash e f = ClashOf may Above e f
 
 abbrev pub Orderly : List Item → Type 0
-Orderly s = OrderlyOf viewOf Above s
+Orderly s = OrderlyOf may Above s
 
 -- the same, looking back from each item
 abbrev pub Ordered : List Item → List Item → Type 0

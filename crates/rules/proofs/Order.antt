@@ -1,14 +1,13 @@
--- Fault 12: a target is in order, and a move that removes only what is gone leaves no inversion that could not be swapped; so a source with a run
--- to a target shows none. Looking back from each item or ahead from it says the same. Assumes nothing.
+-- Fault 12: a target is in order, and what is gone is in nobody's way; so a source with a run to a target shows none. Looking back from each item or
+-- ahead from it says the same. Assumes nothing.
 use mathlib.Core.Path.{_≡_}
 use mathlib.Core.Bool.{Bool, true, false}
 use mathlib.Core.List.{List, [], _∷_}
 use Prim.Native.Nat.{ℕ, suc, _≤_}
 use native.Mathlib.Omega.{arith}
 use Rattle.laws.proofs.Lists.{Each, each-all, each-imp}
-use Rattle.rules.proofs.Item.{View, gone, stays, Item, item, Swappable, Phase, Move, remove, insert, swap, next, Above, Orderly, sourced, Numbered}
+use Rattle.rules.proofs.Item.{View, gone, stays, Item, item, Swappable, Above, Orderly, sourced, Numbered}
 use Rattle.rules.proofs.Item.{Pull, here, there, Clash, Gone, Ordered}
-use Rattle.rules.proofs.Place.{Strict}
 use Rattle.rules.proofs.Chain.{all-zip}
 
 -- the same items, in some order
@@ -79,26 +78,15 @@ pub orderly-rising : (t : List Item) → Rising t → Orderly t
 orderly-rising [] h = tt
 orderly-rising (e ∷ t) h = (each-imp (λ f. Above f e) (Clash e) (no-above e) t (h .0), orderly-rising t (h .1))
 
-clash-gone : (e f : Item) → Gone f → Clash e f
-clash-gone (item v gone) f g k = absurd k
-clash-gone (item v (stays w n)) (item v′ gone) g k = absurd k
-clash-gone (item v (stays w n)) (item v′ (stays w′ n′)) g k = absurd g
+-- what is gone stands above nothing, and nothing above it
+pub gone-above : (e f : Item) → Gone e → Above e f → ⊥
+gone-above (item v gone) f g k = k
+gone-above (item v (stays w n)) f g k = g
 
-gone-clash : (e f : Item) → Gone e → Clash e f
-gone-clash (item v gone) f g k = absurd k
-gone-clash (item v (stays w n)) f g k = absurd g
-
-clash-move : (e : Item) {φ : Phase} {b s t : List Item} (m : Move φ b s t) → Strict m → Each (Clash e) t → Each (Clash e) s
-clash-move e (remove {e = x} r) g h = (clash-gone e x g, h)
-clash-move e (insert w i) g h = h .1
-clash-move e (swap d) g h = (h .1 .0, (h .0, h .1 .1))
-clash-move e (next m) g h = (h .0, clash-move e m g (h .1))
-
-pub orderly-move : {φ : Phase} {b s t : List Item} (m : Move φ b s t) → Strict m → Orderly t → Orderly s
-orderly-move (remove {a = a} {e = e} r) g o = (each-all (Clash e) (λ f. gone-clash e f g) a, o)
-orderly-move (insert w i) g o = o .1
-orderly-move (swap d) g o = ((λ _. d, o .1 .0), (o .0 .1, o .1 .1))
-orderly-move (next {e = e} m) g o = (clash-move e m g (o .0), orderly-move m g (o .1))
+pub above-gone : (e f : Item) → Gone f → Above e f → ⊥
+above-gone (item v gone) f g k = k
+above-gone (item v (stays w n)) (item v′ gone) g k = k
+above-gone (item v (stays w n)) (item v′ (stays w′ n′)) g k = g
 
 pub orderly-target : (t : List Item) → Numbered 1 t → Orderly t
 orderly-target t n = orderly-rising t (rising 1 t n)

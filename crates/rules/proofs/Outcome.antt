@@ -16,8 +16,7 @@ use Rattle.event.specs.declared.Answer.{Answer}
 use Rattle.event.specs.declared.Event.{Event}
 use Rattle.event.specs.declared.memory.Memory.{Memory}
 use Rattle.rules.specs.View.{view, same}
-use Rattle.rules.specs.Moves.{Phase, Moves, By, done, step}
-use Rattle.rules.specs.Run.{number, Inserted, viewed, Traced, eventOf, Ends, Realises}
+use Rattle.rules.specs.Run.{number, Traced, eventOf, Ends, Realises}
 use Rattle.rules.specs.Demand.{right, final, Passed}
 use Rattle.rules.specs.Verdict.{startAnswer, verdict}
 use Rattle.rules.proofs.Same.{Shared, shared}
@@ -25,6 +24,7 @@ use Rattle.rules.proofs.Truth.{T-true}
 use Rattle.rules.proofs.Values.{first-right, rest-right}
 use Rattle.rules.proofs.Effect.{right-lawful}
 use Rattle.rules.proofs.Theorem.{demand-3}
+use Rattle.rules.proofs.Chain.{by-end}
 use Rattle.rules.proofs.Along.{values}
 
 -- ---- the same events leave the same memory
@@ -71,10 +71,6 @@ alike-cells l (v ∷ c) (w ∷ d) h a = go (eqb v w) refl a (alike-cells (suc l)
 events-number : (i : ℕ) (s : List Event) → map eventOf (number i s) ≡ s
 events-number i [] = refl
 events-number i (e ∷ s) = ap (λ (r : List Event). e ∷ r) (events-number (suc i) s)
-
-by-end : {φ : Phase} {b s t : List Traced} (r : Moves (viewed view) Inserted φ b s t) → By (viewed view) Inserted t r
-by-end done = refl
-by-end (step m r) = inr (by-end r)
 
 pub same-memory : (m n : Memory) (s t : List Event) (ns : List ℕ) → Passed m n s t ns → verdict view (m .cells) (n .cells) s t ns ≡ accepted
     → final n t ≡ final m s

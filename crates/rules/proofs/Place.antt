@@ -8,7 +8,8 @@ use mathlib.Core.List.{List, [], _∷_, map, head?}
 use Prim.Native.Nat.{ℕ}
 use lib.Dec.{T, eqb, eqb→eq, eqb-refl, T-not}
 use Rattle.rules.proofs.Item.{View, wall, load, store, gone, stays, Item, item, viewOf, place, valueOf, group, near, Holds, Stores, Removable}
-use Rattle.rules.proofs.Item.{Differ, Phase, one, Move, remove, insert, swap, next, closing, witness, Sound₁, Sound, Gone}
+use Rattle.rules.proofs.Item.{Differ, one, Move, remove, swap, next, closing, witness, Sound₁, Sound, Gone}
+use Rattle.rules.proofs.Chain.{Strict}
 use Rattle.rules.proofs.Word.{Letter, far, fence, keptLoad, keptStore, goneLoad, goneStore, recent, over, shut, seed, known, Fine₁, Fine, none≢some}
 use Rattle.rules.proofs.Word.{Agree}
 use Rattle.rules.proofs.WordMoves.{Cut, Apart, left, right, Step, cut, flip, on}
@@ -225,14 +226,7 @@ apart-of l (some p) (some q) x y d =
     by-place (λ z. Apart x z) l q y right λ f.
     absurd (T-not (eqb p q) d (subst (λ z. T (eqb p z)) (sym e ∙ f) (eqb-refl p)))
 
--- a move removes only what is gone
-abbrev pub Strict : {φ : Phase} {b s t : List Item} → Move φ b s t → Type 0
-Strict (remove {e = e} r) = Gone e
-Strict (insert w i) = Unit {0}
-Strict (swap d) = Unit {0}
-Strict (next m) = Strict m
-
-pub step-of : (l : ℕ) {b s t : List Item} (m : Move one b s t) → Strict m → Step (word l b) (word l s) (word l t)
+pub step-of : (l : ℕ) {b s t : List Item} (m : Move one b s t) → Strict Gone m → Step (word l b) (word l s) (word l t)
 step-of l (remove {b = b} {a = a} {e = e} r) g = cut (cut-of l b e a g r)
 step-of l (swap {e = e} {f = f} d) g = flip (apart-of l (place e) (place f) (glyph e) (glyph f) d)
 step-of l (next m) g = on (step-of l m g)

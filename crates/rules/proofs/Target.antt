@@ -10,13 +10,13 @@ use Prim.Native.Nat.{ℕ, suc, _+_, _≤_}
 use native.Mathlib.Omega.{arith}
 use lib.Dec.{T}
 use Rattle.laws.proofs.Lists.{Each}
-use Rattle.rules.proofs.Item.{View, gone, stays, Item, item, one, two, Move, remove, insert, swap, next, Moves, done, step, Supported₁, Supported}
+use Rattle.rules.proofs.Item.{View, gone, stays, Item, item, one, two, Move, remove, swap, next, Moves, done, step, Supported₁, Supported}
 use Rattle.rules.proofs.Item.{keep, sourced, Numbered, Like, same, marks, Likes, like-nil, like-cons, Pull, here, there, Match, none-left, pick}
 use Rattle.rules.proofs.Item.{Gone, New}
-use Rattle.rules.proofs.Place.{letter, word, Strict, Agrees}
+use Rattle.rules.proofs.Place.{letter, word, Agrees}
 use Rattle.rules.proofs.Order.{Exact, all-unpull}
 use Rattle.rules.proofs.Insertion.{N, late-more, supported₁-more}
-use Rattle.rules.proofs.Chain.{all-one}
+use Rattle.rules.proofs.Chain.{all-one, total, less-one, less-ones, same-twos, Strict, AllStrict}
 use Rattle.rules.proofs.Image.{Over, over-cons, over-nil}
 
 -- ---- likeness
@@ -120,8 +120,7 @@ weight (item v (stays true n)) = 0
 weight (item v (stays false n)) = 1
 
 abbrev size : List Item → ℕ
-size [] = 0
-size (e ∷ s) = weight e + size s
+size s = total weight s
 
 size-keep : (s : List Item) → size (keep s) ≡ size s
 size-keep [] = refl
@@ -151,49 +150,32 @@ size-match : {s t : List Item} → Match s t → size s ≡ size t
 size-match none-left = refl
 size-match (pick p q m) = let h = size-match m in let k = weight-like q in let i = size-pull p in omega arith
 
-size-move : {b s t : List Item} → Move one b s t → size t ≤ size s
-size-move (remove r) = omega arith
-size-move (swap d) = omega arith
-size-move (next m) = let h = size-move m in omega arith
-
-size-moves : {b s t : List Item} → Moves one b s t → size t ≤ size s
-size-moves done = omega arith
-size-moves (step m r) = let h = size-move m in let k = size-moves r in omega arith
-
-size-two : {b s t : List Item} → Move two b s t → size t ≡ size s
-size-two (insert {e = item v gone} w i) = absurd w
-size-two (insert {e = item v (stays true n)} w i) = omega arith
-size-two (insert {e = item v (stays false n)} w i) = absurd w
-size-two (swap d) = omega arith
-size-two (next m) = let h = size-two m in omega arith
-
-size-twos : {b s t : List Item} → Moves two b s t → size t ≡ size s
-size-twos done = refl
-size-twos (step m r) = let h = size-two m in let k = size-twos r in omega arith
+-- what is new weighs nothing
+new-weight : (e : Item) → New e → weight e ≡ 0
+new-weight (item v gone) w = refl
+new-weight (item v (stays true n)) w = refl
+new-weight (item v (stays false n)) w = absurd w
 
 light : (e : Item) → NotNew e → weight e ≤ 0 → Gone e
 light (item v gone) w h = tt
 light (item v (stays true n)) w h = absurd w
 light (item v (stays false n)) w h = absurd (omega arith)
 
-strict : {b s t : List Item} (m : Move one b s t) → Each NotNew s → size s ≤ size t → Strict m
+strict : {b s t : List Item} (m : Move one b s t) → Each NotNew s → size s ≤ size t → Strict Gone m
 strict (remove {e = e} r) w h = light e (w .0) (omega arith)
 strict (swap d) w h = tt
 strict (next m) w h = strict m (w .1) (omega arith)
 
-abbrev pub AllStrict : {b s t : List Item} → Moves one b s t → Type 0
-AllStrict done = Unit {0}
-AllStrict (step m r) = Strict m × AllStrict r
-
-stricts : {b s t : List Item} (r : Moves one b s t) → Each NotNew s → size s ≤ size t → AllStrict r
+stricts : {b s t : List Item} (r : Moves one b s t) → Each NotNew s → size s ≤ size t → AllStrict Gone r
 stricts done w h = tt
 stricts (step m r) w h =
-    let k = size-move m in let i = size-moves r in
+    let k = less-one weight m in let i = less-ones weight r in
     (strict m w (omega arith), stricts r (all-one NotNew m w) (omega arith))
 
-pub all-strict : {s m u : List Item} (t : List Item) (r : Moves one [] s m) → Moves two [] m u → Likes u t → Match (keep s) (sourced t) → AllStrict r
+pub all-strict : {s m u : List Item} (t : List Item) (r : Moves one [] s m) → Moves two [] m u → Likes u t → Match (keep s) (sourced t) → AllStrict Gone r
 all-strict {s} t r q k m =
-    let a = size-match m in let b = size-keep s in let c = size-sourced t in let d = size-likes k in let e = size-twos q in
+    let a = size-match m in let b = size-keep s in let c = size-sourced t in let d = size-likes k in
+    let e = same-twos weight (λ b e i. new-weight e (i .0)) q in
     stricts r (not-new s t m) (omega arith)
 
 -- what the theorem asks of a source and a target

@@ -13,7 +13,7 @@ use Rattle.event.specs.Answer.{done}
 use Rattle.event.specs.declared.memory.Memory.{Memory}
 use Rattle.rules.specs.View.{view}
 use Rattle.rules.specs.Moves.{Run, By}
-use Rattle.rules.specs.Run.{Traced, eventOf, Inserted, viewed, Realises}
+use Rattle.rules.specs.Run.{Traced, eventOf, changes, Realises}
 use Rattle.rules.specs.Verdict.{startAnswer, countAnswer, entryAnswer, verdict}
 
 -- Every event of a trace is lawful and has the latest value, from a memory on.
@@ -47,6 +47,6 @@ Demand3 =
 -- value that the first leaves there.
 abbrev pub Values : Type 0
 Values =
-    (m : Memory) (s u : List Traced) (r : Run (viewed view) Inserted s u) → length (m .cells) ≡ 256 → T (right m (map eventOf s))
-    → (x : List Traced) → By (viewed view) Inserted x (r .1) ⊎ By (viewed view) Inserted x (r .2)
+    (m : Memory) (s u : List Traced) (r : Run (changes view) s u) → length (m .cells) ≡ 256 → T (right m (map eventOf s))
+    → (x : List Traced) → By (changes view) x (r .1) ⊎ By (changes view) x (r .2)
     → T (right m (map eventOf x)) × (final m (map eventOf x) ≡ final m (map eventOf s))

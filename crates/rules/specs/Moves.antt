@@ -1,5 +1,6 @@
 -- Document 01, "Rules of change": near accesses, removal, swap and insertion, for any type E of events that the rules see through
--- `view`. What came before an event, and what comes after it, is listed nearest first. Assumes nothing.
+-- `view`; and moves and runs, by these or any other rules. What came before an event, and what comes after it, is listed nearest first.
+-- Assumes nothing.
 use mathlib.Core.Path.{_≡_}
 use mathlib.Core.Logic.{_⊎_}
 use mathlib.Core.Bool.{true, false, cond}
@@ -27,9 +28,12 @@ extend l wall e g = []
 extend l (load p v u) e g = cond (eqb l p) (e ∷ g) g
 extend l (store p v) e g = cond (eqb l p) (e ∷ g) g
 
--- Removals and swaps come first, insertions and swaps after.
-pub data Phase : Type 0 where
-  one two : Phase
+-- Rules of change: what may be removed between what came before and what comes after, what may be inserted behind what came before, and
+-- which two adjacent events may be swapped.
+pub record Rules (E : Type 0) : Type 1 where
+  pub Removes : List E → E → List E → Type 0
+  pub Inserts : List E → E → Type 0
+  pub Swaps : E → E → Type 0
 
 module _ {E : Type 0} (view : E → View) where
   -- The accesses to a location up to the first synchronising event.
@@ -58,24 +62,36 @@ module _ {E : Type 0} (view : E → View) where
   abbrev pub Swappable : E → E → Type 0
   Swappable e f = T (apart (view e) (view f))
 
-  module _ (new : E → Type 0) where
-    -- One move of a phase, behind the events b: here, or further on. Only what is new is inserted.
-    pub data Move : Phase → List E → List E → List E → Type 0 where
-      remove : {b a : List E} {e : E} → Removable b (view e) a → Move one b (e ∷ a) a
-      insert : {b a : List E} {e : E} → new e → Insertable b (view e) → Move two b a (e ∷ a)
-      swap : {φ : Phase} {b a : List E} {e f : E} → Swappable e f → Move φ b (e ∷ f ∷ a) (f ∷ e ∷ a)
-      next : {φ : Phase} {b s t : List E} {e : E} → Move φ (e ∷ b) s t → Move φ b (e ∷ s) (e ∷ t)
+  -- Document 01's rules; only what is new is inserted.
+  abbrev pub rules : (E → Type 0) → Rules E
+  rules new = record {
+    Removes = λ b e a. Removable b (view e) a;
+    Inserts = λ b e. new e × Insertable b (view e);
+    Swaps = Swappable;
+  }
 
-    -- Moves of a phase, one after the other, each on the trace as it stands.
-    pub data Moves (φ : Phase) (b : List E) : List E → List E → Type 0 where
-      done : {s : List E} → Moves φ b s s
-      step : {s t u : List E} → Move φ b s t → Moves φ b t u → Moves φ b s u
+-- Removals and swaps come first, insertions and swaps after.
+pub data Phase : Type 0 where
+  one two : Phase
 
-    -- A trace that moves come by: the one that they begin with, or one that comes later.
-    abbrev pub By : List E → {φ : Phase} {b s t : List E} → Moves φ b s t → Type 0
-    By x (done {s = s}) = x ≡ s
-    By x (step {s = s} m r) = (x ≡ s) ⊎ By x r
+module _ {E : Type 0} (may : Rules E) where
+  -- One move of a phase, behind the events b: here, or further on.
+  pub data Move : Phase → List E → List E → List E → Type 0 where
+    remove : {b a : List E} {e : E} → may .Removes b e a → Move one b (e ∷ a) a
+    insert : {b a : List E} {e : E} → may .Inserts b e → Move two b a (e ∷ a)
+    swap : {φ : Phase} {b a : List E} {e f : E} → may .Swaps e f → Move φ b (e ∷ f ∷ a) (f ∷ e ∷ a)
+    next : {φ : Phase} {b s t : List E} {e : E} → Move φ (e ∷ b) s t → Move φ b (e ∷ s) (e ∷ t)
 
-    -- A run: the trace in the middle has lost what is removed, and nothing is inserted yet.
-    abbrev pub Run : List E → List E → Type 0
-    Run s t = (m : List E) × Moves one [] s m × Moves two [] m t
+  -- Moves of a phase, one after the other, each on the trace as it stands.
+  pub data Moves (φ : Phase) (b : List E) : List E → List E → Type 0 where
+    done : {s : List E} → Moves φ b s s
+    step : {s t u : List E} → Move φ b s t → Moves φ b t u → Moves φ b s u
+
+  -- A trace that moves come by: the one that they begin with, or one that comes later.
+  abbrev pub By : List E → {φ : Phase} {b s t : List E} → Moves φ b s t → Type 0
+  By x (done {s = s}) = x ≡ s
+  By x (step {s = s} m r) = (x ≡ s) ⊎ By x r
+
+  -- A run: the trace in the middle has lost what is removed, and nothing is inserted yet.
+  abbrev pub Run : List E → List E → Type 0
+  Run s t = (m : List E) × Moves one [] s m × Moves two [] m t

@@ -8,7 +8,7 @@ use lib.Dec.{T, eqb}
 use Rattle.event.specs.Kind.{lawful}
 use Rattle.event.specs.declared.Event.{Event}
 use Rattle.rules.specs.View.{View, same}
-use Rattle.rules.specs.Moves.{Run}
+use Rattle.rules.specs.Moves.{Rules, Run, rules}
 
 -- Where an event of a run comes from: it is the source event of a number, or it is inserted, to become the target event of a number.
 pub data Tag : Type 0 where
@@ -52,6 +52,10 @@ module _ (view : Event → View) where
   abbrev pub viewed : Traced → View
   viewed x = view (eventOf x)
 
+  -- The rules of change, for such events.
+  abbrev pub changes : Rules Traced
+  changes = rules viewed Inserted
+
   -- A run from the source ends at the target, every kept event at its number and every gone one removed.
   unfoldable pub Realises : List Event → List Event → List ℕ → Type 0
-  Realises s t ns = (u : List Traced) × Run viewed Inserted (number 1 s) u × Ends ns 1 u t
+  Realises s t ns = (u : List Traced) × Run changes (number 1 s) u × Ends ns 1 u t
