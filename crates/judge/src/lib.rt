@@ -1,9 +1,9 @@
 // The judge: the answer to two traces and a matching that were read, 7 to 16, in a pass or two for each question.
-pub mod inserted;
-pub mod numbers;
+pub mod entries;
 pub mod seen;
 pub mod source;
 pub mod start;
+pub mod target;
 
 ghost use mathlib.Core.Path.{_≡_};
 ghost use Prim.Native.Nat.{_/_, _≤_};
@@ -11,15 +11,15 @@ ghost use lib.ListN.{length};
 ghost use Rattle.event.specs.Room.{Placed, wholeEvents};
 ghost use Rattle.rules.specs.View.{view};
 ghost use Rattle.rules.specs.Verdict.{verdict};
+use entries::entry_answer;
 use event::Answer;
 use event::Entry;
 use event::WORDS;
 use event::Word;
 use event::memory::Memory;
-use inserted::target_answer;
-use numbers::entry_answer;
 use source::source_answer;
 use start::start_answer;
+use target::target_answer;
 
 // The rooms are the parts that hold the events and the entries.
 pub fn judge(

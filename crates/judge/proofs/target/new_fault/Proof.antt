@@ -1,6 +1,6 @@
 -- The tests, in the definition's order. Assumes nothing.
-use Rattle.judge.proofs.inserted.new_fault.Statement.{statement}
-use Rattle.judge.proofs.inserted.new_fault.Tie as tie
+use Rattle.judge.proofs.target.new_fault.Statement.{statement}
+use Rattle.judge.proofs.target.new_fault.Tie as tie
 
 returns : tie.Need-returns
 returns c = rw (c .if1 .taken)

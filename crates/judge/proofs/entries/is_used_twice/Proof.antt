@@ -1,7 +1,7 @@
 -- By whether the number is 0. Assumes nothing.
 use borrow.Author.Tests.{eq-eqb, ne-eqb}
-use Rattle.judge.proofs.numbers.is_used_twice.Statement.{statement}
-use Rattle.judge.proofs.numbers.is_used_twice.Tie as tie
+use Rattle.judge.proofs.entries.is_used_twice.Statement.{statement}
+use Rattle.judge.proofs.entries.is_used_twice.Tie as tie
 
 returns : tie.Need-returns
 returns c = rw (eq-eqb _ _ (c .if1 .taken))

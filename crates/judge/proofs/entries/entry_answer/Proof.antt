@@ -18,8 +18,8 @@ use Rattle.judge.specs.Pass.{Marked, usedTwice}
 use Rattle.judge.proofs.Events.{drop-next}
 use Rattle.judge.proofs.Onward.{entry-goes, entry-stops}
 use Rattle.judge.proofs.Arrays.{marked-start, marked-next}
-use Rattle.judge.proofs.numbers.entry_answer.Statement.{statement}
-use Rattle.judge.proofs.numbers.entry_answer.Tie as tie
+use Rattle.judge.proofs.entries.entry_answer.Statement.{statement}
+use Rattle.judge.proofs.entries.entry_answer.Tie as tie
 
 abbrev Inv-loop : tie.InvT-loop
 Inv-loop entries targets marks₀ i₀ marks i =

@@ -19,8 +19,8 @@ use Rattle.judge.proofs.Arrays.{Fresh, fresh-plain, fresh-start, fresh-
 use Rattle.judge.proofs.Events.{onward-next}
 use Rattle.judge.proofs.Onward.{target-goes, target-stops}
 use Rattle.judge.proofs.Sight.{new-fault, sees}
-use Rattle.judge.proofs.inserted.target_answer.Statement.{statement}
-use Rattle.judge.proofs.inserted.target_answer.Tie as tie
+use Rattle.judge.proofs.target.target_answer.Statement.{statement}
+use Rattle.judge.proofs.target.target_answer.Tie as tie
 
 abbrev Inv-loop : tie.InvT-loop
 Inv-loop target marks fresh₀ k₀ fresh k =
