@@ -53,25 +53,30 @@ has n (m ∷ l) = eqb n m || has n l
 unfoldable pub takes : Orders → ℕ → Bool
 takes os o = has o (ordersOf os)
 
-abbrev pub aRow : Orders → Place → ℕ → Bool → Sets → Bool → Row
-aRow o p n r w s = record { orders = o; place = p; values = n; reads = r; sets = w; sync = s }
+-- a kind that accesses a location: orders, how many values, whether it reads, what it sets, whether it synchronises
+abbrev pub accessRow : Orders → ℕ → Bool → Sets → Bool → Row
+accessRow o n r w s = record { orders = o; place = Location; values = n; reads = r; sets = w; sync = s }
+
+-- a kind that accesses none, and synchronises
+abbrev pub barrierRow : Orders → Place → Row
+barrierRow o p = record { orders = o; place = p; values = 0; reads = false; sets = Nothing; sync = true }
 
 abbrev pub noKind : Row
-noKind = aRow NoKind Nowhere 0 false Nothing false
+noKind = record { orders = NoKind; place = Nowhere; values = 0; reads = false; sets = Nothing; sync = false }
 
--- the fixed table, by the kind's number: orders, place, how many values, whether it reads, what it sets, whether it synchronises
+-- the fixed table, by the kind's number
 abbrev pub rows : List Row
 rows =
     noKind
-    ∷ aRow Marks Location 1 true Nothing false  -- 1 load
-    ∷ aRow Bare Location 1 false First false  -- 2 store
-    ∷ aRow Reads Location 1 true Nothing true  -- 3 aload
-    ∷ aRow Writes Location 1 false First true  -- 4 astore
-    ∷ aRow Updates Location 2 true Second true  -- 5 rmw
-    ∷ aRow Updates Location 2 true Sum true  -- 6 add
-    ∷ aRow Fences Nowhere 0 false Nothing true  -- 7 fence
-    ∷ aRow Bare Mutex 0 false Nothing true  -- 8 lock
-    ∷ aRow Bare Mutex 0 false Nothing true  -- 9 unlock
+    ∷ accessRow Marks 1 true Nothing false  -- 1 load
+    ∷ accessRow Bare 1 false First false  -- 2 store
+    ∷ accessRow Reads 1 true Nothing true  -- 3 aload
+    ∷ accessRow Writes 1 false First true  -- 4 astore
+    ∷ accessRow Updates 2 true Second true  -- 5 rmw
+    ∷ accessRow Updates 2 true Sum true  -- 6 add
+    ∷ barrierRow Fences Nowhere  -- 7 fence
+    ∷ barrierRow Bare Mutex  -- 8 lock
+    ∷ barrierRow Bare Mutex  -- 9 unlock
     ∷ []
 
 unfoldable pub row : ℕ → Row

@@ -1,7 +1,7 @@
 // The fixed table: a kind's number decides all that a kind is, its orders, its place, its values, whether it reads, what it sets and
 // whether it synchronises.
 ghost use mathlib.Core.Path.{_≡_};
-ghost use Rattle.event.specs.Kind.{aRow, row, has, takes, fitsPlace, fitsValues, fields, lawful, isMarks, isLocation, plain};
+ghost use Rattle.event.specs.Kind.{accessRow, barrierRow, noKind, row, has, takes, fitsPlace, fitsValues, fields, lawful, isMarks, isLocation, plain};
 use crate::Event;
 use crate::Word;
 
@@ -49,16 +49,44 @@ pub struct Row {
     pub sync: bool,
 }
 
-fn a_row(orders: Orders, place: Place, values: Word, reads: bool, sets: Sets, sync: bool) -> Row
-    ensures { λ r. ⌜ r ≡ aRow orders place values reads sets sync ⌝ }
+// A kind that accesses a location.
+fn access(orders: Orders, values: Word, reads: bool, sets: Sets, sync: bool) -> Row
+    ensures { λ r. ⌜ r ≡ accessRow orders values reads sets sync ⌝ }
 {
     Row {
         orders,
-        place,
+        place: Place::Location,
         values,
         reads,
         sets,
         sync,
+    }
+}
+
+// A kind that accesses none, and synchronises.
+fn barrier(orders: Orders, place: Place) -> Row
+    ensures { λ r. ⌜ r ≡ barrierRow orders place ⌝ }
+{
+    Row {
+        orders,
+        place,
+        values: 0,
+        reads: false,
+        sets: Sets::Nothing,
+        sync: true,
+    }
+}
+
+fn no_kind() -> Row
+    ensures { λ r. ⌜ r ≡ noKind ⌝ }
+{
+    Row {
+        orders: Orders::NoKind,
+        place: Place::Nowhere,
+        values: 0,
+        reads: false,
+        sets: Sets::Nothing,
+        sync: false,
     }
 }
 
@@ -67,44 +95,16 @@ pub fn row_of(kind: Word) -> Row
     ensures { λ r. ⌜ r ≡ row kind ⌝ }
 {
     match kind {
-        1 => a_row(
-            Orders::Marks,
-            Place::Location,
-            1,
-            true,
-            Sets::Nothing,
-            false,
-        ),
-        2 => a_row(Orders::Bare, Place::Location, 1, false, Sets::First, false),
-        3 => a_row(Orders::Reads, Place::Location, 1, true, Sets::Nothing, true),
-        4 => a_row(Orders::Writes, Place::Location, 1, false, Sets::First, true),
-        5 => a_row(
-            Orders::Updates,
-            Place::Location,
-            2,
-            true,
-            Sets::Second,
-            true,
-        ),
-        6 => a_row(Orders::Updates, Place::Location, 2, true, Sets::Sum, true),
-        7 => a_row(
-            Orders::Fences,
-            Place::Nowhere,
-            0,
-            false,
-            Sets::Nothing,
-            true,
-        ),
-        8 => a_row(Orders::Bare, Place::Mutex, 0, false, Sets::Nothing, true),
-        9 => a_row(Orders::Bare, Place::Mutex, 0, false, Sets::Nothing, true),
-        _ => a_row(
-            Orders::NoKind,
-            Place::Nowhere,
-            0,
-            false,
-            Sets::Nothing,
-            false,
-        ),
+        1 => access(Orders::Marks, 1, true, Sets::Nothing, false),
+        2 => access(Orders::Bare, 1, false, Sets::First, false),
+        3 => access(Orders::Reads, 1, true, Sets::Nothing, true),
+        4 => access(Orders::Writes, 1, false, Sets::First, true),
+        5 => access(Orders::Updates, 2, true, Sets::Second, true),
+        6 => access(Orders::Updates, 2, true, Sets::Sum, true),
+        7 => barrier(Orders::Fences, Place::Nowhere),
+        8 => barrier(Orders::Bare, Place::Mutex),
+        9 => barrier(Orders::Bare, Place::Mutex),
+        _ => no_kind(),
     }
 }
 
