@@ -6,6 +6,7 @@ use mathlib.Core.Bool.{Bool, true, false, cond}
 use mathlib.Core.List.{List, [], _∷_}
 use native.Mathlib.Omega.{arith}
 use lib.Dec.{eqb, leb}
+use lib.ListN.{length}
 use borrow.Author.Tests.{eqb-false, ne-eqb}
 use Rattle.laws.proofs.Lists.{Each, Free}
 use Rattle.event.specs.Kind.{row, lawful, lastPlace}
@@ -26,6 +27,7 @@ use Rattle.record.specs.Record.{lastValue, numberIf, orderIf, lawfulLine
 use Rattle.record.specs.declared.Record.{Record}
 use Rattle.record.specs.declared.Record.the-variants.{Init, Line, Refused}
 use Rattle.record.proofs.Tables.{word-of, kind-number, order-number, kind-not-init, kind-free, order-free}
+use Rattle.record.proofs.Tables.{init-free as word-free}
 use Rattle.record.proofs.Stands.{Stand, stand-order, stand-words, kind-below, kind-some, the-stand, the-place, no-first, no-second}
 
 -- a record's line is read as the record
@@ -35,7 +37,7 @@ unfolding numberIf
 number-field false max n fs k h z = rw (z refl)
 number-field true max n fs k h z = rw (round max n h)
 
-order-field : (b : Bool) (other o : ℕ) (fs : List (List ℕ)) (k : ℕ → List (List ℕ) → Record) → o < 8
+order-field : (b : Bool) (other o : ℕ) (fs : List (List ℕ)) (k : ℕ → List (List ℕ) → Record) → o ≤ length orderWords
     → orderIf b other (fieldIf b (wordAt orderWords o) fs) k ≡ k (cond b o other) fs
 unfolding orderIf
 order-field false other o fs k h = refl
@@ -85,7 +87,7 @@ event-free s l e =
 
 pub init-free : (s : ℕ) → s < 11 → (p v : ℕ) → Each (Free s) (initWord ∷ decimal p ∷ decimal v ∷ [])
 init-free s l p v = (
-  ((λ e. omega arith), ((λ e. omega arith), ((λ e. omega arith), ((λ e. omega arith), tt)))),
+  word-free s l,
   (number-free s l p, (number-free s l v, tt)),
 )
 
@@ -103,7 +105,7 @@ rest-read e h a b =
 pub event-read : (e : Event) → lawful e ≡ true → e .first ≤ 4294967295 → e .second ≤ 4294967295 → recordOf (eventLine e) ≡ Line e
 unfolding recordOf eventLine
 event-read e h a b =
-    rw (event-fields e, cut-glue 9 _ _ (event-free 9 (omega arith) e), kind-not-init (e .kind) (kind-below e h), kind-number (e .kind) (kind-below e h))
+    rw (event-fields e, cut-glue 9 _ _ (event-free 9 (omega arith) e), kind-not-init (e .kind), kind-number (e .kind) (kind-below e h))
     (rest-read e h a b)
 
 pub init-read : (p v : ℕ) → p ≤ 255 → v ≤ 4294967295 → (v ≡ 0 → ⊥) → recordOf (initLine p v) ≡ Init p v

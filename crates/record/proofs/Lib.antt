@@ -5,4 +5,3 @@ pub mod Taking
 pub mod Layouts
 pub mod Records
 pub mod Prints
-pub mod Names

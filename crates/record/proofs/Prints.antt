@@ -15,7 +15,7 @@ use Rattle.text.specs.Cut.{glue}
 use Rattle.text.specs.Number.{decimal}
 use Rattle.text.proofs.Decimals.{length-some, length-more, length-below}
 use Rattle.record.specs.Layout.{kindWords, initWord, wordAt, fieldIf, eventLine, initLine}
-use Rattle.record.proofs.Tables.{each-below}
+use Rattle.record.proofs.Tables.{each-to}
 use Rattle.record.proofs.Stands.{stand-length, kind-below, the-stand, the-place}
 use Rattle.record.proofs.Layouts.{parts, there, event-fields, event-free, init-free}
 
@@ -70,9 +70,9 @@ of-kind k = record { kind = k; place = 0; order = 0; first = 0; second = 0; code
 abbrev most : ℕ → ℕ
 most k = suc (length (wordAt kindWords k)) + cost (parts (of-kind k))
 
-kind-cost : (k : ℕ) → k < 10 → most k ≤ 34
+kind-cost : (k : ℕ) → k ≤ length kindWords → most k ≤ 34
 unfolding row
-kind-cost k h = leb-true _ _ (each-below (λ n. leb (most n) 34) 10 refl k h)
+kind-cost k h = leb-true _ _ (each-to (λ n. leb (most n) 34) (length kindWords) refl k h)
 
 pub event-length : (e : Event) → lawful e ≡ true → e .first ≤ 4294967295 → e .second ≤ 4294967295 → length (eventLine e) ≤ 33
 unfolding eventLine

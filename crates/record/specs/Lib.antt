@@ -1,6 +1,7 @@
--- What the contracts of this crate say, by page: the layout of a line, its reading field by field, the words as they are written.
+-- What the contracts of this crate say. The first two pages are what a reader has to believe: the layout of a line, and what a line is.
 -- Assumes nothing.
 pub mod Layout
-pub mod Part
 pub mod Record
-pub mod Name
+-- Inner pages, which the contracts of single functions cite: a field taken at a place of a line, a row of a table of words.
+pub mod Part
+pub mod Table

@@ -1,5 +1,4 @@
 // What a line of a trace is: a starting value, an event, or not of the layout. Its fields come through the small reader.
-pub mod name;
 pub mod part;
 pub mod word;
 

@@ -3,10 +3,11 @@
 ghost use mathlib.Core.Path.{_≡_};
 ghost use mathlib.Core.List.{[], _∷_, _++_, map};
 ghost use Prim.Native.Nat.{_≤_};
-ghost use lib.ListN.{length, set, take};
+ghost use lib.ListN.{length, getD, set};
 ghost use Rattle.event.specs.Room.{onward};
 ghost use Rattle.text.specs.Number.{decimal};
 ghost use Rattle.record.specs.Layout.{orderWords, wordAt, eventLine};
+ghost use Rattle.record.specs.Table.{wordIn};
 ghost use Rattle.trace.specs.Fault.{eventFault};
 ghost use Rattle.trace.specs.Put.{Put, Small, tabIf, initPart};
 ghost use Rattle.trace.specs.Writing.{countOf, layoutFault, textOf, initLines, traceText, roomFault};
@@ -25,12 +26,13 @@ use event::kind::row_of;
 use event::memory::Memory;
 use event::memory::Stepped;
 use event::room::get;
-use record::name::Name;
-use record::name::kind_name;
-use record::name::order_name;
+use record::word::KIND_WORDS;
+use record::word::ORDER_WORDS;
+use record::word::ROW;
 use record::word::has_mark;
 use record::word::has_order;
 use record::word::has_place;
+use record::word::word_in;
 use text::write::put_number;
 
 // How many events a part of a room has: one that is cut short at its end counts.
@@ -126,15 +128,16 @@ fn put(out: &mut [u8], at: usize, bytes: &[u8]) -> usize
     at + i
 }
 
-// The bytes of a word that count.
-fn put_name(out: &mut [u8], at: usize, name: Name) -> usize
-    requires { ⌜ name .size ≤ length (name .bytes) ⌝ }
-    requires { ⌜ Small at (take (name .size) (name .bytes)) ⌝ }
-    ensures { λ r. ⌜ Put (now (out .entry)) at (take (name .size) (name .bytes)) (now (out .exit)) r ⌝ }
+// The word of a number in a table of words; nothing for a number that has none there.
+fn put_word(out: &mut [u8], at: usize, table: &[[u8; ROW]], n: Word) -> usize
+    requires { ⌜ Small at (getD (map wordIn (now table)) n []) ⌝ }
+    ensures { λ r. ⌜ Put (now (out .entry)) at (getD (map wordIn (now (table .entry))) n []) (now (out .exit)) r ⌝ }
 {
-    let bytes = name.bytes;
-    let size = name.size;
-    put(out, at, &bytes[..size])
+    let i = index_of(n);
+    if table.len() <= i {
+        return at;
+    }
+    put(out, at, word_in(&table[i]))
 }
 
 // A TAB and an order or a mark, if the line is to have it.
@@ -146,7 +149,7 @@ fn put_order_if(wanted: bool, out: &mut [u8], at: usize, order: Word) -> usize
         return at;
     }
     let next = put(out, at, b"\t");
-    put_name(out, next, order_name(order))
+    put_word(out, next, &ORDER_WORDS, order)
 }
 
 // The most digits of a number.
@@ -182,7 +185,7 @@ fn put_event(out: &mut [u8], at: usize, e: Event) -> usize
     let orders = row.orders;
     let located = row.place;
     let values = row.values;
-    let after_kind = put_name(out, at, kind_name(e.kind));
+    let after_kind = put_word(out, at, &KIND_WORDS, e.kind);
     let after_place = put_number_if(has_place(located), out, after_kind, wide(e.place));
     let after_order = put_order_if(has_order(orders), out, after_place, e.order);
     let after_first = put_number_if(1 <= values, out, after_order, wide(e.first));

@@ -17,28 +17,28 @@ use Rattle.trace.proofs.writing.put_event.Statement.{statement}
 use Rattle.trace.proofs.writing.put_event.Tie as tie
 
 -- the place after the kind's word, from each later one, and the start
-abbrev k₂ : tie.After-put-number-if → tie.After-put-name
+abbrev k₂ : tie.After-put-number-if → tie.After-put-word
 k₂ c = c .before .before .before .before .before .before
 
-abbrev k₃ : tie.After-put-order-if → tie.After-put-name
+abbrev k₃ : tie.After-put-order-if → tie.After-put-word
 k₃ c = k₂ (c .before .before .before .before .before)
 
-abbrev k₄ : tie.After-put-number-if2 → tie.After-put-name
+abbrev k₄ : tie.After-put-number-if2 → tie.After-put-word
 k₄ c = k₃ (c .before .before .before .before .before)
 
-abbrev k₅ : tie.After-put-number-if3 → tie.After-put-name
+abbrev k₅ : tie.After-put-number-if3 → tie.After-put-word
 k₅ c = k₄ (c .before .before .before .before .before)
 
-abbrev k₆ : tie.After-put-order-if2 → tie.After-put-name
+abbrev k₆ : tie.After-put-order-if2 → tie.After-put-word
 k₆ c = k₅ (c .before .before .before .before .before)
 
-abbrev begin : tie.After-put-name → tie.Start
+abbrev begin : tie.After-put-word → tie.Start
 begin k = k .before .before .before .before .before
 
-abbrev event : tie.After-put-name → Event
+abbrev event : tie.After-put-word → Event
 event k = begin k .args .e
 
-row-is : (k : tie.After-put-name) → k .before .before .before .row-of .result ≡ row (event k .kind)
+row-is : (k : tie.After-put-word) → k .before .before .before .row-of .result ≡ row (event k .kind)
 row-is k = k .before .before .before .row-of .ensures
 
 -- each part, by the row r and what was asked of it
@@ -59,15 +59,15 @@ module _ (e : Event) {r : Row} (h : r ≡ row (e .kind)) where
   mark-told p = rw (p, h)
 
 -- the parts of the line from the i-th on are left
-abbrev Rest : tie.After-put-name → List ℕ → ℕ → ℕ → Type 0
+abbrev Rest : tie.After-put-word → List ℕ → ℕ → ℕ → Type 0
 Rest k now here i = Left (begin k .args .out .now) (begin k .args .at) (eventLine (event k) ++ 10 ∷ []) now here (drop i (partsOf (event k)))
 
 at-first : (c : tie.After-row-of) → let a = c .before .before .args in
     Left (a .out .now) (a .at) (eventLine (a .e) ++ 10 ∷ []) (a .out .now) (a .at) (partsOf (a .e))
 at-first c = left-all _ _ (event-parts (c .before .before .args .e))
 
-after-kind : (c : tie.After-put-name) → Rest c (c .put-name .last .0) (c .put-name .result) 1
-after-kind c = left-next (at-first (c .before .before .before)) (rw (c .before .kind-name .ensures .1) at (c .put-name .ensures))
+after-kind : (c : tie.After-put-word) → Rest c (c .put-word .last .0) (c .put-word .result) 1
+after-kind c = left-next (at-first (c .before .before .before)) (c .put-word .ensures)
 
 place-is : (c : tie.After-wide) → let k = c .before .before .before .before .before in
     tabIf (c .before .before .has-place .result) (decimal (c .wide .result)) ≡ placeIn (event k)
@@ -113,12 +113,11 @@ line-put c = left-none (left-next (after-mark (c .before .before .before .before
 row-of-requires : tie.Need-row-of-requires
 row-of-requires c κs = tt
 
-kind-name-requires : tie.Need-kind-name-requires
-kind-name-requires c κs = tt
+slice-aggregate-put-word : tie.Need-slice-aggregate-put-word
+slice-aggregate-put-word c = refl
 
-put-name-requires : tie.Need-put-name-requires
-put-name-requires c κs =
-    (c .kind-name .ensures .0, rw (c .kind-name .ensures .1) (left-small (at-first (c .before .before)) (c .before .before .before .before .pre)))
+put-word-requires : tie.Need-put-word-requires
+put-word-requires c κs = left-small (at-first (c .before .before)) (c .before .before .before .before .pre)
 
 has-place-requires : tie.Need-has-place-requires
 has-place-requires c κs = tt
@@ -182,8 +181,8 @@ put-event-spec =
     tie.close
     (tie.spec
     row-of-requires
-    kind-name-requires
-    put-name-requires
+    slice-aggregate-put-word
+    put-word-requires
     has-place-requires
     wide-requires
     put-number-if-requires

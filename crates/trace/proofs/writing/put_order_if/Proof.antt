@@ -26,23 +26,20 @@ slice-aggregate-put c = refl
 put-requires : tie.Need-put-requires
 put-requires c κs = omega (arith, small (c .before .before))
 
-order-name-requires : tie.Need-order-name-requires
-order-name-requires c κs = tt
+slice-aggregate-put-word : tie.Need-slice-aggregate-put-word
+slice-aggregate-put-word c = refl
 
-put-name-requires : tie.Need-put-name-requires
-put-name-requires c κs =
-    let n = c .order-name .ensures in
-    let p = c .before .before .before .before in
-    (n .0, rw (n .1) (omega (arith, p .put .ensures .counted, small (p .before .before .before))))
+put-word-requires : tie.Need-put-word-requires
+put-word-requires c κs = let p = c .before .before .before .before in omega (arith, p .put .ensures .counted, small (p .before .before .before))
 
 same-length : tie.Need-same-length
-same-length c = c .before .before .put-name .kept .0 ∙ c .before .before .before .before .before .before .before .put .kept .0
+same-length c = c .before .before .put-word .kept .0 ∙ c .before .before .before .before .before .before .before .put .kept .0
 
 returns-2 : tie.Need-returns-2
 returns-2 c =
     let p = c .before .before in
     let q = p .before .before .before .before .before in
-    rw (wanted (q .before .before .before)) (then (q .put .ensures) (rw (p .before .order-name .ensures .1) at (p .put-name .ensures)))
+    rw (wanted (q .before .before .before)) (then (q .put .ensures) (p .put-word .ensures))
 
 pub put-order-if-spec : {M : Type 1} → statement M
 put-order-if-spec =
@@ -51,7 +48,7 @@ put-order-if-spec =
     returns
     slice-aggregate-put
     put-requires
-    order-name-requires
-    put-name-requires
+    slice-aggregate-put-word
+    put-word-requires
     same-length
     returns-2)
