@@ -1,14 +1,18 @@
 -- The lines of a text by a place in it: the line that starts there, by where it ends, and the lines after it. Assumes nothing.
 use Prim.Native.Nat.{ℕ, suc, _+_, _-_, _≤_, _<_}
-use mathlib.Core.Path.{_≡_, refl, sym, _∙_, subst}
+use mathlib.Core.Path.{_≡_, refl, sym, _∙_, ap}
 use mathlib.Core.Bool.{true, false}
 use mathlib.Core.List.{List, [], _∷_}
 use native.Mathlib.Omega.{arith}
+use lib.Dec.{ltb}
 use lib.ListN.{length, getD, take, drop, length-drop, drop-of-length-le}
 use lib.Seq.{drop-cons, take-all}
+use borrow.Author.Tests.{ltb-true, ltb-false}
+use Rattle.laws.proofs.Cases.{cases, either}
 use Rattle.text.specs.Cut.{until, cut, isEmpty}
-use Rattle.text.specs.Line.{lineLen, splitFrom}
-use Rattle.text.proofs.Cuts.{from-step, from-in, from-out, until-in}
+use Rattle.text.specs.Line.{lineLen, lineAt, split, splitFrom, body, saidIn}
+use Rattle.text.specs.declared.line.LineStep.the-variants.{Line, TextEnd}
+use Rattle.text.proofs.Cuts.{from-start, from-step, from-in, from-out, until-in}
 
 -- some part is left
 abbrev pub Some : List (List ℕ) → Type 0
@@ -50,3 +54,48 @@ module _ (t : List ℕ) (at e : ℕ) (p : e ≡ at + lineLen (drop at t)) where
 -- some part starts at a place within the text
 pub parts-some : (t : List ℕ) (at : ℕ) → at ≤ length t → Some (splitFrom t at)
 parts-some t at h = rw (parts-line t at (at + lineLen (drop at t)) refl h) tt
+
+-- what the next line of a text tells, by where it ends: the parts from there on are the line and those after its LF
+pub record Next (t : List ℕ) (at to : ℕ) : Type 0 where
+  pub rises : at ≤ to
+  pub within : to < length t
+  pub parts : splitFrom t at ≡ take (to - at) (drop at t) ∷ splitFrom t (to + 1)
+  pub some : Some (splitFrom t (to + 1))
+
+module _ (t : List ℕ) (at : ℕ) where
+  abbrev stop : ℕ
+  stop = at + lineLen (drop at t)
+
+  pub next : (to : ℕ) → at ≤ length t → lineAt t at ≡ Line to → Next t at to
+  unfolding lineAt
+  next to h e =
+      cases (either (ltb stop (length t)))
+      (λ q. let s : stop ≡ to = cc (rw q at e) in
+      let w = ltb-true stop (length t) q in
+      record {
+        rises = omega arith;
+        within = omega (arith, w);
+        parts = parts-line t at to (sym s) h;
+        some = parts-some t (to + 1) (omega (arith, w));
+      })
+      (λ q. absurd (let z : _≡_ {A = ℕ} 0 1 = cc (rw q at e) in omega arith))
+
+  -- no LF is left: what stands there is the last part
+  pub last : at ≤ length t → lineAt t at ≡ TextEnd → splitFrom t at ≡ drop at t ∷ []
+  unfolding lineAt
+  last h e =
+      cases (either (ltb stop (length t))) (λ q. absurd (let z : _≡_ {A = ℕ} 0 1 = cc (rw q at e) in omega arith))
+      (λ q. let w = ltb-false stop (length t) q in
+      let o : length t < stop + 1 = omega arith in
+      let d : length (drop at t) ≤ stop - at = omega (arith, length-drop at t) in
+      parts-line t at stop refl h ∙ rw (from-out 10 t (stop + 1) o, take-all (stop - at) (drop at t) d))
+
+  pub rest-some : at < length t → isEmpty (drop at t) ≡ false
+  rest-some h = not-empty (drop at t) (omega (arith, length-drop at t))
+
+  pub rest-none : length t ≤ at → isEmpty (drop at t) ≡ true
+  rest-none h = rw (drop-of-length-le t h)
+
+-- the lines after line 1 start where line 2 does
+pub body-from : (t : List ℕ) → body (split t) ≡ splitFrom t (lineLen t + 1)
+body-from t = ap body (sym (from-start 10 t) ∙ parts-line t 0 (lineLen t) (omega arith) (omega arith))

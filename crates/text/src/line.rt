@@ -2,7 +2,7 @@
 ghost use mathlib.Core.Path.{_≡_};
 ghost use Prim.Native.Nat.{_+_};
 ghost use lib.ListN.{drop};
-ghost use Rattle.text.specs.Line.{lineLen};
+ghost use Rattle.text.specs.Line.{lineLen, lineAt};
 use super::scan::find;
 
 // The longest text.
@@ -11,9 +11,35 @@ pub const TEXT_LIMIT: usize = 32400;
 // The byte that ends a line.
 pub const LF: u8 = 10;
 
+pub enum LineStep {
+    Line { to: usize },
+    TextEnd,
+}
+
 // Where the line that starts at `from` ends: at the next LF, or at the end of the text.
 pub fn line_end(text: &[u8], from: usize) -> usize
     ensures { λ r. ⌜ r ≡ from + lineLen (drop from (now (text .entry))) ⌝ }
 {
     find(text, from, LF)
+}
+
+// The line that starts at a place, up to its LF, or that no LF is left.
+pub fn next_line(text: &[u8], at: usize) -> LineStep
+    ensures { λ r. ⌜ r ≡ lineAt (now (text .entry)) at ⌝ }
+{
+    if text.len() <= at {
+        return LineStep::TextEnd;
+    }
+    let to = line_end(text, at);
+    if text.len() <= to {
+        return LineStep::TextEnd;
+    }
+    LineStep::Line { to }
+}
+
+// Where line 2 starts; beyond the end of a text that has no LF.
+pub fn line_two(text: &[u8]) -> usize
+    ensures { λ r. ⌜ r ≡ lineLen (now (text .entry)) + 1 ⌝ }
+{
+    line_end(text, 0) + 1
 }
