@@ -79,6 +79,10 @@ offendingSpan source target a =
 abbrev pub faultText : List ℕ → List ℕ → Answer → List ℕ
 faultText source target a = cond (eqb (faultSide a) 2) target source
 
+-- In memory (a block, and how far in) a part begins so many bytes after its text does.
+abbrev pub Begins : ℕ × ℕ → ℕ × ℕ → ℕ → Type 0
+Begins part text from = (part .0 ≡ text .0) × (part .1 ≡ text .1 + from)
+
 -- A part of a text that is a given line.
 pub record Spans (t line : List ℕ) (s : Span) : Type 0 where
   pub rises : s .from ≤ s .to

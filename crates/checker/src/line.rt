@@ -18,6 +18,7 @@ ghost use Rattle.checker.specs.Line.{
   offendingLine,
   offendingSpan,
   Spans,
+  Begins,
 };
 ghost use Rattle.text.specs.Line.{split};
 use event::Answer;
@@ -156,6 +157,8 @@ pub fn offending_span(source: &[u8], target: &[u8], answer: Answer) -> Span
 // The offending line of a check, without its LF, as that part of the source or target text; else an empty part of the source.
 pub fn offending_line<'a>(source: &'a [u8], target: &'a [u8], answer: Answer) -> &'a [u8]
     ensures { λ r. ⌜ now r ≡ offendingLine (now (source .entry)) (now (target .entry)) answer ⌝ }
+    ensures { λ r. ⌜ Begins (r .ptr) (cond (eqb (faultSide answer) 2) (target .entry .ptr) (source .entry .ptr))
+        (offendingSpan (now (source .entry)) (now (target .entry)) answer .from) ⌝ }
 {
     let span = offending_span(source, target, answer);
     let from = span.from;
