@@ -68,7 +68,7 @@ alike-cells l (v ∷ c) (w ∷ d) h a = go (eqb v w) refl a (alike-cells (suc l)
 
 -- ---- the target's last memory
 
-events-number : (i : ℕ) (s : List Event) → map eventOf (number i s) ≡ s
+pub events-number : (i : ℕ) (s : List Event) → map eventOf (number i s) ≡ s
 events-number i [] = refl
 events-number i (e ∷ s) = ap (λ (r : List Event). e ∷ r) (events-number (suc i) s)
 
