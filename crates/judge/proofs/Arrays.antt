@@ -3,16 +3,15 @@
 use mathlib.Core.Path.{_≡_, refl, sym, _∙_}
 use mathlib.Core.Bool.{Bool, true, false, cond, false≢true}
 use mathlib.Core.List.{List, [], _∷_}
-use Prim.Native.Nat.{ℕ, _<_}
+use Prim.Native.Nat.{ℕ, zero, suc, _<_}
 use native.Mathlib.Omega.{arith}
 use lib.Dec.{eqb}
 use lib.ListN.{length, getD, set, replicate, getD-replicate}
 use lib.Seq.{getD-set-same, getD-set-other}
-use borrow.Author.Tests.{eqb-true, eqb-false, eq-eqb}
+use borrow.Author.Tests.{eqb-true, eqb-false, eq-eqb, ne-eqb}
 use Rattle.laws.proofs.Cases.{cases, either}
-use Rattle.event.specs.Kind.{has}
 use Rattle.rules.specs.View.{View, load, store, wall, isWall}
-use Rattle.rules.specs.Fault.{Fate, Item, isNone, item, near}
+use Rattle.rules.specs.Fault.{Fate, Item, isGone, isNone, item, near}
 use Rattle.judge.specs.Pass.{Marked}
 use Rattle.judge.proofs.Passes.{none-next}
 use Rattle.judge.proofs.Sight.{Sees, a-load, a-store, a-wall}
@@ -39,12 +38,23 @@ module _ {A : Type 0} (n : ℕ) (d : A) where
       (λ e. getD-set-other cells p l v d (eqb-false l p e) ∙ (holds l h ∙ sym (there l e)))
 
 -- the numbers that entries name
+pub kept-number : (n : ℕ) → isGone n ≡ false → 0 < n
+kept-number zero g = absurd (false≢true (sym g))
+kept-number (suc n) g = omega arith
+
 pub marked-start : Marked (replicate 801 false) []
-marked-start = holds-all 801 false false (λ l. has l []) (λ l. refl)
+marked-start k p h = getD-replicate 801 k false false h
+
+pub marked-gone : (marks : List Bool) (b : List ℕ) (k : ℕ) → isGone k ≡ true → Marked marks b → Marked marks (k ∷ b)
+marked-gone marks b zero g m l p h = let z : l ≡ 0 → ⊥ = λ e. omega arith in m l p h ∙ rw (ne-eqb l 0 z)
+marked-gone marks b (suc k) g m l p h = absurd (false≢true g)
 
 pub marked-next : (marks : List Bool) (b : List ℕ) (k : ℕ) → k < 801 → length marks ≡ 801 → Marked marks b → Marked (set marks k true) (k ∷ b)
-marked-next marks b k h size m =
-    holds-set 801 false marks (λ l. has l b) (λ l. has l (k ∷ b)) k true h size m (rw (eq-eqb k k refl)) (λ l e. rw e)
+marked-next marks b k h size m l p i =
+    let w : k < length marks = omega arith in
+    cases (either (eqb l k))
+    (λ e. rw (eqb-true l k e, eq-eqb k k refl) (getD-set-same marks k true false w))
+    (λ e. getD-set-other marks k l true false (eqb-false l k e) ∙ (m l p i ∙ rw e))
 
 -- the locations without an access since the last synchronising event
 abbrev pub Fresh : List Bool → List Item → Type 0

@@ -5,7 +5,7 @@ use mathlib.Core.Bool.{Bool, true, false, cond, false≢true}
 use mathlib.Core.List.{List, [], _∷_}
 use Prim.Native.Nat.{ℕ, zero, suc, _+_, _-_, _/_, _≤_, _<_}
 use native.Mathlib.Omega.{arith}
-use lib.Dec.{eqb, eqb·suc-zero}
+use lib.Dec.{eqb}
 use lib.ListN.{length, getD, set, replicate}
 use lib.Seq.{getD-set-same, getD-set-other}
 use borrow.Author.Tests.{eq-eqb, eqb-false, eqb-true}
@@ -53,7 +53,7 @@ closing-at : {v : View} {p x : ℕ} {u : Bool} (n : ℕ) (a : List Item) → See
     → closing (group l (item v (fate n) ∷ a)) ≡ cond (eqb l p) (closingAfter (isLoad v) n (closing (group l a))) (closing (group l a))
 closing-at n a a-wall h l = absurd (false≢true (sym h))
 closing-at zero a (a-load {p} {v} {u}) h l = closing-next l (item (load p v u) gone) a ∙ either-way (eqb l p) (closing (group l a))
-closing-at (suc n) a (a-load {p} {v} {u}) h l = closing-next l (item (load p v u) (stays false (suc n))) a ∙ rw (eqb·suc-zero)
+closing-at (suc n) a (a-load {p} {v} {u}) h l = closing-next l (item (load p v u) (stays false (suc n))) a
 closing-at n a (a-store {p} {v}) h l = closing-next l (item (store p v) (fate n)) a
 
 pub closed-plain : {v : View} {p x : ℕ} {u : Bool} (n : ℕ) (a : List Item) → Sees v p x u → isWall v ≡ false

@@ -10,7 +10,7 @@ use borrow.Author.Tests.{ne-eqb}
 use Rattle.event.specs.Kind.{has}
 use Rattle.event.specs.Answer.{answer}
 use Rattle.event.specs.declared.Event.{Event}
-use Rattle.rules.specs.Fault.{Item, fate, item}
+use Rattle.rules.specs.Fault.{Item, fate, isGone, item}
 use Rattle.rules.specs.View.{View}
 use Rattle.rules.specs.Verdict.{entryAnswer, items, placed, sourceAnswer, sourceFault, startAnswer, targetAnswer, targetFault}
 use Rattle.rules.proofs.Truth.{taken}
@@ -28,23 +28,23 @@ unfolding startAnswer
 start-stops l v w m n ne = not-taken (startAnswer (suc l) m n) (answer 7 2 l) (eqb v w) (ne-eqb v w ne)
 
 -- 9: the test, for a kept number
-pub entry-goes : (n i k : ℕ) (b ks : List ℕ) → (not (eqb k 0) && (ltb n k || has k b)) ≡ false → entryAnswer n i b (k ∷ ks) ≡ entryAnswer n (suc i) (k ∷ b) ks
+pub entry-goes : (n i k : ℕ) (b ks : List ℕ) → (not (isGone k) && (ltb n k || has k b)) ≡ false → entryAnswer n i b (k ∷ ks) ≡ entryAnswer n (suc i) (k ∷ b) ks
 unfolding entryAnswer
 entry-goes n i k b ks e = rw e
 
-pub entry-stops : (n i k : ℕ) (b ks : List ℕ) → (not (eqb k 0) && (ltb n k || has k b)) ≡ true → entryAnswer n i b (k ∷ ks) ≡ answer 9 3 i
+pub entry-stops : (n i k : ℕ) (b ks : List ℕ) → (not (isGone k) && (ltb n k || has k b)) ≡ true → entryAnswer n i b (k ∷ ks) ≡ answer 9 3 i
 unfolding entryAnswer
 entry-stops n i k b ks e = rw e
 
 module _ (view : Event → View) where
   -- 10 to 14
   module _ (t : List Event) (i : ℕ) (b : List Item) (e : Event) (s : List Event) (n : ℕ) (ns : List ℕ) where
-    pub source-goes : sourceFault t b e n (item (view e) (fate n)) (items view s ns) ≡ 0
+    pub source-goes : sourceFault t b e (item (view e) (fate n)) (items view s ns) ≡ 0
         → sourceAnswer view t i b (e ∷ s) (n ∷ ns) ≡ sourceAnswer view t (suc i) (item (view e) (fate n) ∷ b) s ns
     unfolding sourceAnswer
     source-goes h = rw h
 
-    pub source-stops : (k : ℕ) → sourceFault t b e n (item (view e) (fate n)) (items view s ns) ≡ suc k
+    pub source-stops : (k : ℕ) → sourceFault t b e (item (view e) (fate n)) (items view s ns) ≡ suc k
         → sourceAnswer view t i b (e ∷ s) (n ∷ ns) ≡ answer (suc k) 1 i
     unfolding sourceAnswer
     source-stops k h = rw (h, eqb·suc-zero)

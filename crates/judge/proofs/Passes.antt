@@ -12,6 +12,7 @@ use borrow.Author.Tests.{ltb-true, ltb-false}
 use Rattle.rules.specs.Fault.{gone, group, near, Item, closing, crossed, isNone, item, stays, viewOf, witness}
 use Rattle.rules.specs.View.{load, store, wall, View, apart, placeOf}
 use Rattle.rules.proofs.Place.{witness-store}
+use Rattle.judge.specs.Pass.{larger}
 
 -- ---- closing, for 14, from the end of the source
 
@@ -88,9 +89,6 @@ witness-next l (item (store p v) gone) b =
 witness-next l (item (store p v) (stays w n)) b = witness-go (eqb l p) (item (store p v) (stays w n)) (group l b) (some v) refl
 
 -- ---- the greatest number of what is kept, for 12, from the front
-
-abbrev pub larger : ℕ → ℕ → ℕ
-larger n g = cond (ltb g n) n g
 
 -- of all
 abbrev pub top : List Item → ℕ

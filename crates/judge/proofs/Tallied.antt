@@ -6,16 +6,16 @@ use mathlib.Core.Option.{Option, some}
 use mathlib.Core.List.{List, [], _∷_}
 use Prim.Native.Nat.{ℕ, zero, suc, _<_}
 use native.Mathlib.Omega.{arith}
-use lib.Dec.{eqb, eqb·suc-zero, leb·suc-zero}
+use lib.Dec.{eqb}
 use lib.ListN.{length, getD, set, replicate, getD-replicate, length-set}
 use lib.Seq.{getD-set-same, getD-set-other}
 use borrow.Author.Tests.{eq-eqb, eqb-false, eqb-true, ne-eqb}
 use Rattle.laws.proofs.Cases.{cases, either}
 use Rattle.event.specs.declared.Event.{Event}
 use Rattle.rules.specs.View.{View, load, store, isLoad, isWall}
-use Rattle.rules.specs.Fault.{Item, closing, fate, gone, group, isNone, item, near, stays, unlike, witness}
+use Rattle.rules.specs.Fault.{Item, closing, fate, gone, group, isGone, isNone, item, near, stays, unlike, witness}
 use Rattle.rules.specs.Verdict.{sourceFault}
-use Rattle.judge.specs.Pass.{cellOf, crossedBy, goneFault, larger, takesOver, topsOf, witnessOf, witnessed}
+use Rattle.judge.specs.Pass.{cellOf, crossedBy, goneFault, takesOver, topAfter, topsOf, witnessOf, witnessed}
 use Rattle.judge.specs.declared.source.Cell.{Cell}
 use Rattle.judge.specs.declared.source.Tops.{Tops}
 use Rattle.judge.specs.declared.source.Witness.{Witness}
@@ -40,9 +40,9 @@ witness-at : {v : View} {p x : ℕ} {u : Bool} (n : ℕ) (b : List Item) → See
     ≡ cond (eqb l p) (cond (takesOver (isLoad v) n (isNone (near l b))) (some x) (witness (group l b))) (witness (group l b))
 witness-at n b a-wall h l = absurd (false≢true (sym h))
 witness-at zero b (a-load {p} {v} {u}) h l = witness-next l (item (load p v u) gone) b
-witness-at (suc n) b (a-load {p} {v} {u}) h l = witness-next l (item (load p v u) (stays false (suc n))) b ∙ rw (eqb·suc-zero)
+witness-at (suc n) b (a-load {p} {v} {u}) h l = witness-next l (item (load p v u) (stays false (suc n))) b
 witness-at zero b (a-store {p} {v}) h l = witness-next l (item (store p v) gone) b ∙ either-way (eqb l p) (witness (group l b))
-witness-at (suc n) b (a-store {p} {v}) h l = witness-next l (item (store p v) (stays false (suc n))) b ∙ rw (eqb·suc-zero)
+witness-at (suc n) b (a-store {p} {v}) h l = witness-next l (item (store p v) (stays false (suc n))) b
 
 witness-plain : {v : View} {p x : ℕ} {u : Bool} (n : ℕ) (b : List Item) → Sees v p x u → isWall v ≡ false
     → (fresh held : List Bool) (value : List ℕ) {i : ℕ} → i ≡ p → i < 256 → length held ≡ 256 → length value ≡ 256
@@ -62,18 +62,15 @@ witness-plain {p = p} n b s h fresh held value {i} e k size size′ f m w q l j 
 
 -- ---- the greatest numbers
 
-larger-zero : (g : ℕ) → larger 0 g ≡ g
-larger-zero g = rw (leb·suc-zero g)
-
 swapped : (p l : ℕ) → eqb p l ≡ eqb l p
 swapped p l = cases (either (eqb l p)) (λ e. eq-eqb p l (sym (eqb-true l p e)) ∙ sym e) (λ e. ne-eqb p l (λ z. eqb-false l p e (sym z)) ∙ sym e)
 
-top-next : (v : View) (n : ℕ) (b : List Item) → top (item v (fate n) ∷ b) ≡ larger n (top b)
-top-next v zero b = sym (larger-zero (top b))
+top-next : (v : View) (n : ℕ) (b : List Item) → top (item v (fate n) ∷ b) ≡ topAfter n (top b)
+top-next v zero b = refl
 top-next v (suc n) b = refl
 
-walls-wall : {v : View} {p x : ℕ} {u : Bool} (n : ℕ) (b : List Item) → Sees v p x u → isWall v ≡ true → topWall (item v (fate n) ∷ b) ≡ larger n (topWall b)
-walls-wall zero b a-wall h = sym (larger-zero (topWall b))
+walls-wall : {v : View} {p x : ℕ} {u : Bool} (n : ℕ) (b : List Item) → Sees v p x u → isWall v ≡ true → topWall (item v (fate n) ∷ b) ≡ topAfter n (topWall b)
+walls-wall zero b a-wall h = refl
 walls-wall (suc n) b a-wall h = refl
 walls-wall n b a-load h = absurd (false≢true h)
 walls-wall n b a-store h = absurd (false≢true h)
@@ -92,18 +89,18 @@ here-wall n b a-load h l = absurd (false≢true h)
 here-wall n b a-store h l = absurd (false≢true h)
 
 here-at : {v : View} {p x : ℕ} {u : Bool} (n : ℕ) (b : List Item) → Sees v p x u → isWall v ≡ false → (l : ℕ)
-    → topAt l (item v (fate n) ∷ b) ≡ cond (eqb l p) (larger n (topAt l b)) (topAt l b)
+    → topAt l (item v (fate n) ∷ b) ≡ cond (eqb l p) (topAfter n (topAt l b)) (topAt l b)
 here-at n b a-wall h l = absurd (false≢true (sym h))
-here-at zero b (a-load {p} {v} {u}) h l = rw (larger-zero (topAt l b)) (either-way (eqb l p) (topAt l b))
+here-at zero b (a-load {p} {v} {u}) h l = either-way (eqb l p) (topAt l b)
 here-at (suc n) b (a-load {p} {v} {u}) h l = rw (swapped p l)
-here-at zero b (a-store {p} {v}) h l = rw (larger-zero (topAt l b)) (either-way (eqb l p) (topAt l b))
+here-at zero b (a-store {p} {v}) h l = either-way (eqb l p) (topAt l b)
 here-at (suc n) b (a-store {p} {v}) h l = rw (swapped p l)
 
 abbrev pub Here : List ℕ → List Item → Type 0
 Here here b = Holds 256 0 here (λ l. topAt l b)
 
 here-plain : {v : View} {p x : ℕ} {u : Bool} (n : ℕ) (b : List Item) → Sees v p x u → isWall v ≡ false
-    → (here : List ℕ) {i : ℕ} → i ≡ p → i < 256 → length here ≡ 256 → Here here b → {r : ℕ} → r ≡ larger n (getD here i 0)
+    → (here : List ℕ) {i : ℕ} → i ≡ p → i < 256 → length here ≡ 256 → Here here b → {r : ℕ} → r ≡ topAfter n (getD here i 0)
     → Here (set here i r) (item v (fate n) ∷ b)
 here-plain {v} {p} n b s h here {i} e k size m {r} g =
     holds-set 256 0 here (λ l. topAt l b) (λ l. topAt l (item v (fate n) ∷ b)) i r k size m
@@ -137,7 +134,7 @@ tallied-start = record {
 }
 
 module _ {fresh held : List Bool} {value here : List ℕ} {all walls : ℕ} {b : List Item} (n : ℕ) (t : Tallied fresh held value here all walls b) where
-  pub tallied-wall : {v : View} {p x : ℕ} {u : Bool} → Sees v p x u → isWall v ≡ true → {all′ walls′ : ℕ} → all′ ≡ larger n all → walls′ ≡ larger n walls
+  pub tallied-wall : {v : View} {p x : ℕ} {u : Bool} → Sees v p x u → isWall v ≡ true → {all′ walls′ : ℕ} → all′ ≡ topAfter n all → walls′ ≡ topAfter n walls
       → Tallied (replicate 256 true) (replicate 256 false) value here all′ walls′ (item v (fate n) ∷ b)
   tallied-wall {v} s h p q = record {
     fresh-size = refl;
@@ -152,7 +149,7 @@ module _ {fresh held : List Bool} {value here : List ℕ} {all walls : ℕ} {b :
   }
 
   pub tallied-plain : {v : View} {p x : ℕ} {u : Bool} → Sees v p x u → isWall v ≡ false → {i : ℕ} → i ≡ p → i < 256
-      → {all′ r : ℕ} → all′ ≡ larger n all → r ≡ larger n (getD here i 0) → (w : Witness)
+      → {all′ r : ℕ} → all′ ≡ topAfter n all → r ≡ topAfter n (getD here i 0) → (w : Witness)
       → witnessed w ≡ cond (takesOver (isLoad v) n (getD fresh i false)) (some x) (witnessed (witnessOf (getD held i false) (getD value i 0)))
       → Tallied (set fresh i false) (set held i (w .held)) (set value i (w .value)) (set here i r) all′ walls (item v (fate n) ∷ b)
   tallied-plain {v} s h e k p r w q = record {
@@ -192,10 +189,10 @@ right t a i k d c w s = record {
 
 module _ (t : List Event) (e : Event) (b a : List Item) (c : Cell) (o : Option ℕ) (s : Tops) where
   pub fault-at : {v : View} {p x : ℕ} {u : Bool} (n : ℕ) → Sees v p x u → Right b a p c o s
-      → sourceFault t b e n (item v (fate n)) a ≡ cond (eqb n 0) (goneFault v c o) (cond (unlike t e n) 10 (cond (crossedBy v n s) 12 0))
+      → sourceFault t b e (item v (fate n)) a ≡ cond (isGone n) (goneFault v c o) (cond (unlike t e (fate n)) 10 (cond (crossedBy v n s) 12 0))
   fault-at zero a-wall r = refl
   fault-at zero (a-load {p} {v} {u}) r = gone-load t b e a p v u ∙ rw (← r .fresh-right)
   fault-at zero (a-store {p} {v}) r = gone-store t b e a p v ∙ rw (← r .closing-right, ← r .witness-right)
-  fault-at (suc n) a-wall r = kept-wall t b e a false n ∙ rw (← r .all-right, eqb·suc-zero)
-  fault-at (suc n) (a-load {p} {v} {u}) r = kept-plain t b e a (load p v u) p refl false n ∙ rw (← r .walls-right, ← r .here-right, eqb·suc-zero)
-  fault-at (suc n) (a-store {p} {v}) r = kept-plain t b e a (store p v) p refl false n ∙ rw (← r .walls-right, ← r .here-right, eqb·suc-zero)
+  fault-at (suc n) a-wall r = kept-wall t b e a n ∙ rw (← r .all-right)
+  fault-at (suc n) (a-load {p} {v} {u}) r = kept-plain t b e a (load p v u) p refl n ∙ rw (← r .walls-right, ← r .here-right)
+  fault-at (suc n) (a-store {p} {v}) r = kept-plain t b e a (store p v) p refl n ∙ rw (← r .walls-right, ← r .here-right)

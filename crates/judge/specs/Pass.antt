@@ -1,29 +1,25 @@
 -- The judge's small decisions: what it asks of an event, of the cells at its location and of its entry; and what its marks and flags say.
 -- Assumes nothing.
 use mathlib.Core.Path.{_≡_}
-use mathlib.Core.Bool.{Bool, true, false, not, cond, _&&_, _||_}
+use mathlib.Core.Bool.{Bool, false, not, cond, _&&_, _||_}
 use mathlib.Core.Option.{Option, none, some}
 use mathlib.Core.List.{List}
 use Prim.Native.Nat.{ℕ, _+_, _-_, _/_, _<_}
-use lib.Dec.{eqb, ltb}
+use lib.Dec.{ltb}
 use lib.ListN.{length, getD, drop}
 use Rattle.event.specs.Kind.{has}
 use Rattle.event.specs.Room.{eventAt, onward}
 use Rattle.rules.specs.View.{View, wall, load, store, view, isWall}
-use Rattle.rules.specs.Fault.{Item, closing, group, is, unlike}
+use Rattle.rules.specs.Fault.{Item, closing, fate, group, is, isGone, unlike}
 use Rattle.judge.specs.declared.source.Cell.{Cell}
 use Rattle.judge.specs.declared.source.Tops.{Tops}
 use Rattle.judge.specs.declared.source.Witness.{Witness}
 use Rattle.event.specs.declared.Event.{Event}
 use Rattle.rules.specs.Verdict.{items}
 
--- a number, marked or not, is used again; 0 is no number
-abbrev pub usedTwice : ℕ → Bool → Bool
-usedTwice k marked = not (eqb k 0) && marked
-
--- the marks say which numbers up to 800 the entries name
+-- the marks say which numbers from 1 to 800 the entries name
 abbrev pub Marked : List Bool → List ℕ → Type 0
-Marked marks ns = (k : ℕ) → k < 801 → getD marks k false ≡ has k ns
+Marked marks ns = (k : ℕ) → 0 < k → k < 801 → getD marks k false ≡ has k ns
 
 -- 15 or 16 of a target event, or 0
 abbrev pub newFault : Bool → Bool → Bool → ℕ
@@ -31,7 +27,7 @@ newFault sourced isLoad fresh = cond sourced 0 (cond isLoad (cond fresh 16 0) 15
 
 -- whether a store before a plain event is closing, by whether one after the event is
 abbrev pub closingAfter : Bool → ℕ → Bool → Bool
-closingAfter isLoad n closing = isLoad && (not (eqb n 0) || closing)
+closingAfter isLoad n closing = isLoad && (not (isGone n) || closing)
 
 -- the events of a room from an index on, with their entries
 abbrev pub itemsFrom : List ℕ → List ℕ → ℕ → List Item
@@ -43,11 +39,15 @@ closingAt l ns i = closing (group (eventAt l i .place) (itemsFrom l ns (i + 1)))
 
 -- whether a plain event becomes the witness of its location
 abbrev pub takesOver : Bool → ℕ → Bool → Bool
-takesOver isLoad n fresh = not (eqb n 0) || (isLoad && fresh)
+takesOver isLoad n fresh = not (isGone n) || (isLoad && fresh)
 
 -- the larger of two numbers
 abbrev pub larger : ℕ → ℕ → ℕ
 larger n g = cond (ltb g n) n g
+
+-- the greatest target number so far after an entry
+abbrev pub topAfter : ℕ → ℕ → ℕ
+topAfter n top = cond (isGone n) top (larger n top)
 
 -- the flags say of each event whether a store there is closing
 abbrev pub Flagged : List Bool → List ℕ → List ℕ → Type 0
@@ -80,4 +80,4 @@ crossedBy v n t = cond (isWall v) (ltb n (t .all)) (ltb n (t .walls) || ltb n (t
 -- 10 to 14 of a source event, or 0
 abbrev pub eventFault : List Event → Event → ℕ → Cell → Option ℕ → Tops → ℕ
 eventFault t e n c o s =
-    cond (eqb n 0) (goneFault (view e) c o) (cond (unlike t e n) 10 (cond (crossedBy (view e) n s) 12 0))
+    cond (isGone n) (goneFault (view e) c o) (cond (unlike t e (fate n)) 10 (cond (crossedBy (view e) n s) 12 0))

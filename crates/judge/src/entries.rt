@@ -2,26 +2,24 @@
 ghost use mathlib.Core.Path.{_≡_};
 ghost use mathlib.Core.List.{[]};
 ghost use Prim.Native.Nat.{_≤_};
+ghost use Rattle.rules.specs.Fault.{isGone};
 ghost use Rattle.rules.specs.Verdict.{entryAnswer};
-ghost use Rattle.judge.specs.Pass.{usedTwice, Marked};
+ghost use Rattle.judge.specs.Pass.{Marked};
 use event::Answer;
 use event::Entry;
 use event::number_index;
+
+// Whether an entry says that its event is gone.
+pub(crate) fn is_gone(entry: Entry) -> bool
+    ensures { λ r. ⌜ r ≡ isGone entry ⌝ }
+{
+    entry == 0
+}
 
 // The answer, and which numbers the entries name where it is no refusal.
 pub struct EntriesRead {
     pub answer: Answer,
     pub marks: [bool; 801],
-}
-
-// Whether a number, marked or not, is used again; 0 is no number.
-fn is_used_twice(at: usize, marked: bool) -> bool
-    ensures { λ r. ⌜ r ≡ usedTwice at marked ⌝ }
-{
-    if at == 0 {
-        return false;
-    }
-    marked
 }
 
 pub(crate) fn entry_answer(entries: &[Entry], targets: usize) -> EntriesRead
@@ -32,21 +30,25 @@ pub(crate) fn entry_answer(entries: &[Entry], targets: usize) -> EntriesRead
     let mut marks: [bool; 801] = [false; 801];
     let mut i: usize = 0;
     while i < entries.len() {
-        let at = number_index(entries[i]);
+        let entry = entries[i];
+        i += 1;
+        if is_gone(entry) {
+            continue;
+        }
+        let at = number_index(entry);
         if targets < at {
             return EntriesRead {
-                answer: Answer::new(9, 3, i + 1),
+                answer: Answer::new(9, 3, i),
                 marks,
             };
         }
-        if is_used_twice(at, marks[at]) {
+        if marks[at] {
             return EntriesRead {
-                answer: Answer::new(9, 3, i + 1),
+                answer: Answer::new(9, 3, i),
                 marks,
             };
         }
         marks[at] = true;
-        i += 1;
     }
     EntriesRead {
         answer: Answer::new(0, 0, 0),

@@ -1,15 +1,16 @@
 // Answers 10 to 14: the source events with the fates that their entries name.
 ghost use mathlib.Core.Path.{_≡_};
-ghost use mathlib.Core.Bool.{cond};
+ghost use mathlib.Core.Bool.{false, cond};
 ghost use mathlib.Core.Option.{some};
 ghost use mathlib.Core.List.{[]};
 ghost use Prim.Native.Nat.{_/_, _≤_, _<_};
 ghost use lib.ListN.{length};
 ghost use Rattle.event.specs.Room.{Placed, wholeEvents};
 ghost use Rattle.rules.specs.View.{view};
-ghost use Rattle.rules.specs.Fault.{is, unlike};
+ghost use Rattle.rules.specs.Fault.{fate, is, isGone, unlike};
 ghost use Rattle.rules.specs.Verdict.{sourceAnswer};
-ghost use Rattle.judge.specs.Pass.{Flagged, cellOf, closingAfter, crossedBy, eventFault, goneFault, larger, takesOver, topsOf, witnessOf, witnessed};
+ghost use Rattle.judge.specs.Pass.{Flagged, cellOf, closingAfter, crossedBy, eventFault, goneFault, takesOver, topAfter, topsOf, witnessOf, witnessed};
+use crate::entries::is_gone;
 use crate::seen::both;
 use crate::seen::is_load;
 use crate::seen::is_same;
@@ -29,7 +30,7 @@ fn closing_after(load: bool, entry: Entry, closing: bool) -> bool
     ensures { λ r. ⌜ r ≡ closingAfter load entry closing ⌝ }
 {
     if load {
-        if entry == 0 {
+        if is_gone(entry) {
             return closing;
         }
         return true;
@@ -66,19 +67,23 @@ fn closing_flags(source: &[Word], entries: &[Entry]) -> [bool; 800]
 fn takes_over(load: bool, entry: Entry, fresh: bool) -> bool
     ensures { λ r. ⌜ r ≡ takesOver load entry fresh ⌝ }
 {
-    if entry != 0 {
-        return true;
+    if is_gone(entry) {
+        return load && fresh;
     }
-    load && fresh
+    true
 }
 
-fn larger_of(n: Entry, g: Entry) -> Entry
-    ensures { λ r. ⌜ r ≡ larger n g ⌝ }
+// The greatest target number so far after an entry.
+fn top_after(n: Entry, top: Entry) -> Entry
+    ensures { λ r. ⌜ r ≡ topAfter n top ⌝ }
 {
-    if g < n {
+    if is_gone(n) {
+        return top;
+    }
+    if top < n {
         return n;
     }
-    g
+    top
 }
 
 // What the arrays hold of an event's location: no access since the last synchronising event; a store there is closing.
@@ -158,8 +163,8 @@ fn gone_fault(e: Event, cell: Cell, witness: Witness) -> Number
 
 // 10: whether a kept event differs from its target event.
 fn differs(target: &[Word], e: Event, n: Entry) -> bool
-    requires { ⌜ 0 < n ⌝ }
-    ensures { λ r. ⌜ r ≡ unlike (wholeEvents (now (target .entry))) e n ⌝ }
+    requires { ⌜ isGone n ≡ false ⌝ }
+    ensures { λ r. ⌜ r ≡ unlike (wholeEvents (now (target .entry))) e (fate n) ⌝ }
 {
     !is_same(e, get(target, number_index(n) - 1))
 }
@@ -185,7 +190,7 @@ fn event_fault(
 ) -> Number
     ensures { λ r. ⌜ r ≡ eventFault (wholeEvents (now (target .entry))) e n cell (witnessed witness) tops ⌝ }
 {
-    if n == 0 {
+    if is_gone(n) {
         return gone_fault(e, cell, witness);
     }
     if differs(target, e, n) {
@@ -235,9 +240,9 @@ fn source_pass(source: &[Word], target: &[Word], entries: &[Entry], flags: &[boo
         if fault != 0 {
             return Answer::new(fault, 1, i);
         }
-        all = larger_of(n, all);
+        all = top_after(n, all);
         if is_wall(e) {
-            walls = larger_of(n, walls);
+            walls = top_after(n, walls);
             fresh = [true; 256];
             held = [false; 256];
             continue;
@@ -246,7 +251,7 @@ fn source_pass(source: &[Word], target: &[Word], entries: &[Entry], flags: &[boo
         fresh[at] = false;
         held[at] = after.held;
         value[at] = after.value;
-        here[at] = larger_of(n, here[at]);
+        here[at] = top_after(n, here[at]);
     }
     Answer::new(0, 0, 0)
 }

@@ -62,7 +62,7 @@ pair′ false false h = tt
 abbrev pub Faithful : List Event → List Event → List ℕ → Type 0
 Faithful t [] ns = Unit {0}
 Faithful t (e ∷ s) [] = Unit {0}
-Faithful t (e ∷ s) (n ∷ ns) = T (not (unlike t e n)) × Faithful t s ns
+Faithful t (e ∷ s) (n ∷ ns) = T (not (unlike t e (fate n))) × Faithful t s ns
 
 module _ (view : Event → View) where
   -- ---- the source
@@ -70,23 +70,23 @@ module _ (view : Event → View) where
   -- no fault 10 to 14 at a source event
   abbrev pub Clean₁ : List Event → List Item → Event → ℕ → List Item → Type 0
   Clean₁ t b e n a =
-      T (not (unlike t e n)) × Sound₁ b (item (view e) (fate n)) a × Each (λ y. Clash y (item (view e) (fate n))) b
+      T (not (unlike t e (fate n))) × Sound₁ b (item (view e) (fate n)) a × Each (λ y. Clash y (item (view e) (fate n))) b
 
   abbrev pub Clean : List Event → List Item → List Event → List ℕ → Type 0
   Clean t b [] ns = Unit {0}
   Clean t b (e ∷ s) [] = Unit {0}
   Clean t b (e ∷ s) (n ∷ ns) = Clean₁ t b e n (items view s ns) × Clean t (item (view e) (fate n) ∷ b) s ns
 
-  clean₁ : (t : List Event) (b : List Item) (e : Event) (n : ℕ) (a : List Item) → T (eqb (sourceFault t b e n (item (view e) (fate n)) a) 0) → Clean₁ t b e n a
+  clean₁ : (t : List Event) (b : List Item) (e : Event) (n : ℕ) (a : List Item) → T (eqb (sourceFault t b e (item (view e) (fate n)) a) 0) → Clean₁ t b e n a
   clean₁ t b e n a h =
       let x = item (view e) (fate n) in
-      let f = five (unlike t e n) (wallGone x) (crossed b x) (loadGone b x) (storeGone b x a) h in
+      let f = five (unlike t e (fate n)) (wallGone x) (crossed b x) (loadGone b x) (storeGone b x a) h in
       (f .0, lost? b x a .0 (f .1), crossed? b x .0 (f .2))
 
-  clean₁′ : (t : List Event) (b : List Item) (e : Event) (n : ℕ) (a : List Item) → Clean₁ t b e n a → T (eqb (sourceFault t b e n (item (view e) (fate n)) a) 0)
+  clean₁′ : (t : List Event) (b : List Item) (e : Event) (n : ℕ) (a : List Item) → Clean₁ t b e n a → T (eqb (sourceFault t b e (item (view e) (fate n)) a) 0)
   clean₁′ t b e n a f =
       let x = item (view e) (fate n) in
-      five′ (unlike t e n) (wallGone x) (crossed b x) (loadGone b x) (storeGone b x a) (f .0) (lost? b x a .1 (f .1)) (crossed? b x .1 (f .2))
+      five′ (unlike t e (fate n)) (wallGone x) (crossed b x) (loadGone b x) (storeGone b x a) (f .0) (lost? b x a .1 (f .1)) (crossed? b x .1 (f .2))
 
   pub source-clean : (t : List Event) (i : ℕ) (b : List Item) (s : List Event) (ns : List ℕ) → T (eqb (sourceAnswer view t i b s ns .number) 0) → Clean t b s ns
   unfolding sourceAnswer
@@ -94,7 +94,7 @@ module _ (view : Event → View) where
   source-clean t i b (e ∷ s) [] h = tt
   source-clean t i b (e ∷ s) (n ∷ ns) h =
       let x = item (view e) (fate n) in
-      let k = sourceFault t b e n x (items view s ns) in
+      let k = sourceFault t b e x (items view s ns) in
       let q = onward (eqb k 0) _ (sourceAnswer view t (suc i) (x ∷ b) s ns) refl h in
       (clean₁ t b e n (items view s ns) (q .0), source-clean t (suc i) (x ∷ b) s ns (q .1))
 
@@ -104,7 +104,7 @@ module _ (view : Event → View) where
   clean-source t i b (e ∷ s) [] h = refl
   clean-source t i b (e ∷ s) (n ∷ ns) h =
       let x = item (view e) (fate n) in
-      let k = sourceFault t b e n x (items view s ns) in
+      let k = sourceFault t b e x (items view s ns) in
       taken (sourceAnswer view t (suc i) (x ∷ b) s ns) _ (eqb k 0) (clean₁′ t b e n (items view s ns) (h .0))
       ∙ clean-source t (suc i) (x ∷ b) s ns (h .1)
 

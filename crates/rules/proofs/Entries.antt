@@ -6,13 +6,14 @@ use mathlib.Core.Bool.{Bool, true, false, not, cond, _&&_, _||_}
 use mathlib.Core.List.{List, [], _∷_}
 use Prim.Native.Nat.{ℕ, zero, suc, _+_, _≤_}
 use native.Mathlib.Omega.{arith}
-use lib.Dec.{T, eqb, ltb, eqb→eq, eqb-refl, T-not, eqb·suc-zero}
+use lib.Dec.{T, eqb, ltb, eqb→eq, eqb-refl, T-not}
 use lib.ListN.{length, getD}
 use borrow.Author.Tests.{ltb-false, eqb-true}
 use Rattle.event.specs.Kind.{has}
 use Rattle.event.specs.declared.Event.{Event}
 use Rattle.event.specs.Answer.{answer, done}
 use Rattle.event.specs.declared.Answer.{Answer}
+use Rattle.rules.specs.Fault.{isGone}
 use Rattle.rules.specs.Verdict.{countAnswer, entryAnswer}
 use Rattle.rules.proofs.Truth.{or-left}
 
@@ -25,9 +26,9 @@ past : (c : Bool) (i : ℕ) (r : Answer) → cond c (answer 9 3 i) r ≡ done �
 past true i r h = let z : _≡_ {A = ℕ} 9 0 = ap (λ (a : Answer). a .number) h in absurd (omega arith)
 past false i r h = (tt, h)
 
-inside : (k n : ℕ) (c : Bool) → T (not (not (eqb k 0) && (ltb n k || c))) → k ≢ 0 → (k ≤ n) × T (not c)
+inside : (k n : ℕ) (c : Bool) → T (not (not (isGone k) && (ltb n k || c))) → k ≢ 0 → (k ≤ n) × T (not c)
 inside zero n c h ne = absurd (ne refl)
-inside (suc k) n c h ne = go (ltb n (suc k)) refl (rw (eqb·suc-zero k) at h)
+inside (suc k) n c h ne = go (ltb n (suc k)) refl h
   where
     go : (d : Bool) → ltb n (suc k) ≡ d → T (not (d || c)) → (suc k ≤ n) × T (not c)
     go true e h = absurd h
@@ -37,7 +38,7 @@ fits-of : (n i : ℕ) (b ks : List ℕ) → entryAnswer n i b ks ≡ done → Fi
 unfolding entryAnswer
 fits-of n i b [] h = tt
 fits-of n i b (k ∷ ks) h =
-    let q = past (not (eqb k 0) && (ltb n k || has k b)) i (entryAnswer n (suc i) (k ∷ b) ks) h in
+    let q = past (not (isGone k) && (ltb n k || has k b)) i (entryAnswer n (suc i) (k ∷ b) ks) h in
     (inside k n (has k b) (q .0), fits-of n (suc i) (k ∷ b) ks (q .1))
 
 -- ---- the target has the numbers
@@ -88,11 +89,6 @@ entries n s ks h k = record {
 }
 
 -- ---- looking up by number
-
--- the element of a number, counted from 1
-abbrev pub nth : {A : Type 0} → A → List A → ℕ → A
-nth d l zero = d
-nth d l (suc i) = getD l i d
 
 -- a list is another from its element k on
 abbrev pub From : {A : Type 0} → A → List A → ℕ → List A → Type 0

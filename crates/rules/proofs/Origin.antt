@@ -11,8 +11,8 @@ use lib.ListN.{getD}
 use borrow.Author.Tests.{eqb-true}
 use Rattle.event.specs.Kind.{has}
 use Rattle.rules.specs.Run.{Tag, old, new, origin}
-use Rattle.rules.specs.Fault.{Fate, fate, stays}
-use Rattle.rules.proofs.Entries.{From, Once, from-here, from-next, nth}
+use Rattle.rules.specs.Fault.{Fate, fate, nth, stays}
+use Rattle.rules.proofs.Entries.{From, Once, from-here, from-next}
 use Rattle.rules.proofs.Truth.{or-left, or-right, taken}
 
 -- the fate of an event of a tag

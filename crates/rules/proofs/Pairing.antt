@@ -14,7 +14,7 @@ use Rattle.event.specs.Kind.{has}
 use Rattle.event.specs.declared.Event.{Event}
 use Rattle.event.specs.Room.{noEvent}
 use Rattle.rules.specs.View.{same, View}
-use Rattle.rules.specs.Fault.{Item, item, stays, unlike}
+use Rattle.rules.specs.Fault.{Item, fate, item, stays, unlike}
 use Rattle.rules.specs.Verdict.{items, placed}
 use Rattle.rules.proofs.Matching.{Alike, Distinct, Lands, hit, label, matching}
 use Rattle.rules.proofs.Entries.{Entries, Once, Within}
@@ -28,14 +28,14 @@ short e = absurd (omega arith)
 -- ---- fault 10, by number
 
 module _ (t : List Event) where
-  pub faithful-at : (s : List Event) (ns : List ℕ) → length ns ≡ length s → Faithful t s ns → (j : ℕ) → T (not (unlike t (getD s j noEvent) (getD ns j 0)))
+  pub faithful-at : (s : List Event) (ns : List ℕ) → length ns ≡ length s → Faithful t s ns → (j : ℕ) → T (not (unlike t (getD s j noEvent) (fate (getD ns j 0))))
   faithful-at [] [] l f j = tt
   faithful-at [] (n ∷ ns) l f j = short l
   faithful-at (e ∷ s) [] l f j = short (sym l)
   faithful-at (e ∷ s) (n ∷ ns) l f zero = f .0
   faithful-at (e ∷ s) (n ∷ ns) l f (suc j) = faithful-at s ns (omega arith) (f .1) j
 
-  pub at-faithful : (s : List Event) (ns : List ℕ) → ((j : ℕ) → T (not (unlike t (getD s j noEvent) (getD ns j 0)))) → Faithful t s ns
+  pub at-faithful : (s : List Event) (ns : List ℕ) → ((j : ℕ) → T (not (unlike t (getD s j noEvent) (fate (getD ns j 0))))) → Faithful t s ns
   at-faithful [] ns f = tt
   at-faithful (e ∷ s) [] f = tt
   at-faithful (e ∷ s) (n ∷ ns) f = (f 0, at-faithful s ns (λ j. f (suc j)))

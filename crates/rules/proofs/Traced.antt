@@ -14,10 +14,10 @@ use Rattle.event.specs.declared.Event.{Event}
 use Rattle.event.specs.Room.{noEvent}
 use Rattle.rules.specs.Run.{old, new, Traced, traced, tagOf, eventOf, Inserted, number, origin, Ends, viewed}
 use Rattle.rules.specs.View.{same, View}
-use Rattle.rules.specs.Fault.{Fate, Item, fate, item, stays, viewOf, unlike}
+use Rattle.rules.specs.Fault.{Item, fate, fateOf, item, nth, stays, viewOf, unlike}
 use Rattle.rules.specs.Verdict.{items, placed}
 use Rattle.rules.proofs.Matching.{Alike, like-of}
-use Rattle.rules.proofs.Entries.{From, from-here, from-next, from-start, nth, Entries, Once, within-at}
+use Rattle.rules.proofs.Entries.{From, from-here, from-next, from-start, Entries, Once, within-at}
 use Rattle.rules.proofs.Image.{Has, Over, over-cons, over-nil}
 use Rattle.rules.proofs.Item.{Like, Likes, New, like-cons, like-nil, marks, Above, Gone}
 use Rattle.rules.proofs.Target.{Print, exact, kept, print-like}
@@ -25,9 +25,6 @@ use Rattle.rules.proofs.Origin.{fates, origin-fate, fate-at, origin-new
 use Rattle.rules.proofs.Clean.{placeds}
 use Rattle.rules.proofs.Same.{same-refl}
 use Rattle.rules.proofs.Truth.{not-not, yes-not}
-
-abbrev fateOf : Item → Fate
-fateOf (item v f) = f
 
 fate-like : {e f : Item} → Like e f → fateOf e ≡ fateOf f
 fate-like Like.same = refl
@@ -131,12 +128,12 @@ module _ (view : Event → View) (s t : List Event) (ns : List ℕ) where
   has-target k (e ∷ r) (over-cons q o) f l =
       (has-print q (fresh (not (has (suc k) ns)) k e (from-here noEvent t k e r f) (l .0)), has-target (suc k) r o (from-next noEvent t k e r f) (l .1))
 
-  module _ (once : Once ns) (faithful : (j : ℕ) → T (not (unlike t (getD s j noEvent) (getD ns j 0)))) where
+  module _ (once : Once ns) (faithful : (j : ℕ) → T (not (unlike t (getD s j noEvent) (fate (getD ns j 0))))) where
     ended-old : (k i : ℕ) (e f : Event) → nth 0 ns i ≡ suc k → nth noEvent s i ≡ f → getD t k noEvent ≡ e
         → (old i ≡ origin (suc k) 1 ns) × T (same f e)
     ended-old k zero e f q g h = absurd (omega arith)
     ended-old k (suc i) e f q g h =
-        let c : T (not (unlike t (getD s i noEvent) (suc k))) = rw q at (faithful i) in (
+        let c : T (not (unlike t (getD s i noEvent) (fate (suc k)))) = rw q at (faithful i) in (
           sym (origin-old (suc k) 1 ns (λ z. omega arith) once i (suc i) (omega arith) q),
           rw (g, h) at (not-not (same (getD s i noEvent) (getD t k noEvent)) c),
         )
@@ -190,10 +187,10 @@ module _ (view : Event → View) (s t : List Event) (ns : List ℕ) where
       found₁ x e i (h .0 ∙ (rw d c)) (h .1) (g .0)
   found k (e ∷ r) (x ∷ u) h g (suc j) m i a b c = found (suc k) r u (h .2) (g .1) j m i (omega arith) (omega arith) c
 
-  pub faithful-run : Entries (length t) s ns → (u : List Traced) → Ends ns 1 u t → Each Known u → (j : ℕ) → T (not (unlike t (getD s j noEvent) (getD ns j 0)))
+  pub faithful-run : Entries (length t) s ns → (u : List Traced) → Ends ns 1 u t → Each Known u → (j : ℕ) → T (not (unlike t (getD s j noEvent) (fate (getD ns j 0))))
   faithful-run w u h g j = go (getD ns j 0) refl
     where
-      go : (n : ℕ) → getD ns j 0 ≡ n → T (not (unlike t (getD s j noEvent) n))
+      go : (n : ℕ) → getD ns j 0 ≡ n → T (not (unlike t (getD s j noEvent) (fate n)))
       go zero q = tt
       go (suc n) q =
           let ne : getD ns j 0 ≢ 0 = λ z. omega arith in

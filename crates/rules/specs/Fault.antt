@@ -1,6 +1,6 @@
 -- Document 01, "Numbers that come back": the faults 10 to 16, with 13 and 14 in their checkable form. What came before an event, and
 -- what comes after it, is listed nearest first. Assumes nothing.
-use mathlib.Core.Bool.{Bool, true, false, not, _&&_, _||_}
+use mathlib.Core.Bool.{Bool, true, false, not, cond, _&&_, _||_}
 use mathlib.Core.Option.{Option, none, some}
 use mathlib.Core.List.{List, [], _∷_}
 use Prim.Native.Nat.{ℕ, zero, suc}
@@ -20,9 +20,12 @@ pub data Fate : Type 0 where
 pub data Item : Type 0 where
   item : View → Fate → Item
 
--- What is seen of it, the accesses to a location up to the first synchronising event, and the near one of these.
+-- What is seen of it, what becomes of it, the accesses to a location up to the first synchronising event, and the near one of these.
 abbrev pub viewOf : Item → View
 viewOf (item v f) = v
+
+abbrev pub fateOf : Item → Fate
+fateOf (item v f) = f
 
 abbrev pub group : ℕ → List Item → List Item
 group l s = groupOf viewOf l s
@@ -30,10 +33,19 @@ group l s = groupOf viewOf l s
 abbrev pub near : ℕ → List Item → Option View
 near l s = nearOf viewOf l s
 
--- The fate that an entry names: 0 is gone, another number is kept there.
+-- An entry says that its event is gone: it is 0. Another number says that it is kept there.
+abbrev pub isGone : ℕ → Bool
+isGone zero = true
+isGone (suc n) = false
+
+-- The fate that an entry names.
 abbrev pub fate : ℕ → Fate
-fate zero = gone
-fate (suc n) = stays false (suc n)
+fate n = cond (isGone n) gone (stays false n)
+
+-- The element of a number, counted from 1.
+abbrev pub nth : {A : Type 0} → A → List A → ℕ → A
+nth d l zero = d
+nth d l (suc i) = getD l i d
 
 -- There is nothing; there is the value v.
 abbrev pub isNone : {A : Type 0} → Option A → Bool
@@ -45,9 +57,9 @@ is v none = false
 is v (some w) = eqb w v
 
 -- 10: a kept event differs from its target event, marks apart.
-abbrev pub unlike : List Event → Event → ℕ → Bool
-unlike t e zero = false
-unlike t e (suc n) = not (same e (getD t n noEvent))
+abbrev pub unlike : List Event → Event → Fate → Bool
+unlike t e gone = false
+unlike t e (stays w n) = not (same e (nth noEvent t n))
 
 -- 11: a synchronising event is gone.
 abbrev pub wallGone : Item → Bool

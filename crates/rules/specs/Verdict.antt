@@ -10,7 +10,7 @@ use Rattle.event.specs.declared.Event.{Event}
 use Rattle.event.specs.declared.Answer.{Answer}
 use Rattle.event.specs.Answer.{answer, done, first}
 use Rattle.rules.specs.View.{View}
-use Rattle.rules.specs.Fault.{Item, item, stays, fate, unlike, wallGone, crossed, loadGone, storeGone, foreign, lone}
+use Rattle.rules.specs.Fault.{Item, item, stays, fate, fateOf, isGone, unlike, wallGone, crossed, loadGone, storeGone, foreign, lone}
 
 -- 7: starting values differ, from the location l on; the place is the lowest such location.
 unfoldable pub startAnswer : ℕ → List ℕ → List ℕ → Answer
@@ -26,12 +26,12 @@ countAnswer s ns = cond (eqb (length ns) (length s)) done (answer 8 3 (length ns
 unfoldable pub entryAnswer : ℕ → ℕ → List ℕ → List ℕ → Answer
 entryAnswer n i b [] = done
 entryAnswer n i b (k ∷ ks) =
-    cond (not (eqb k 0) && (ltb n k || has k b)) (answer 9 3 i) (entryAnswer n (suc i) (k ∷ b) ks)
+    cond (not (isGone k) && (ltb n k || has k b)) (answer 9 3 i) (entryAnswer n (suc i) (k ∷ b) ks)
 
 -- The first of 10 to 14 that a source event shows, or 0.
-abbrev pub sourceFault : List Event → List Item → Event → ℕ → Item → List Item → ℕ
-sourceFault t b e n x a =
-    cond (unlike t e n) 10
+abbrev pub sourceFault : List Event → List Item → Event → Item → List Item → ℕ
+sourceFault t b e x a =
+    cond (unlike t e (fateOf x)) 10
     (cond (wallGone x) 11
     (cond (crossed b x) 12
     (cond (loadGone b x) 13
@@ -58,7 +58,7 @@ module _ (view : Event → View) where
   sourceAnswer t i b (e ∷ s) [] = done
   sourceAnswer t i b (e ∷ s) (n ∷ ns) =
       let x = item (view e) (fate n) in
-      let k = sourceFault t b e n x (items s ns) in
+      let k = sourceFault t b e x (items s ns) in
       cond (eqb k 0) (sourceAnswer t (suc i) (x ∷ b) s ns) (answer k 1 i)
 
   -- 15 and 16 over the target events upward, from the number k on, behind b.

@@ -1,5 +1,5 @@
 -- From each entry on the answer is that from the next entry on, until an entry is refused or none is left; the marks say which numbers the
--- entries so far name. Assumes nothing.
+-- entries passed name, so that a number is used again exactly if it is marked. Assumes nothing.
 use Prim.Native.Nat.{ℕ, _+_, _-_, _≤_, _<_}
 use mathlib.Core.Bool.{Bool, true, false, not, _&&_, _||_, or-false}
 use mathlib.Core.List.{List, [], _∷_}
@@ -7,81 +7,35 @@ use mathlib.Core.Path.{_≡_, refl, sym, _∙_, ap}
 use native.Mathlib.Numerals.{add-one}
 use native.Mathlib.Omega.{arith}
 use lib.Dec.{eqb, ltb}
-use lib.ListN.{length, drop, length-set}
+use lib.ListN.{length, getD, drop, length-set}
 use lib.Seq.{drop-length}
-use borrow.Author.Tests.{lt-ltb, le-ltb, ne-eqb}
+use borrow.Author.Tests.{lt-ltb, le-ltb}
 use Rattle.event.specs.Answer.{answer, done}
 use Rattle.event.specs.declared.Answer.{Answer}
 use Rattle.event.specs.Kind.{has}
+use Rattle.rules.specs.Fault.{isGone}
 use Rattle.rules.specs.Verdict.{entryAnswer}
-use Rattle.judge.specs.Pass.{Marked, usedTwice}
+use Rattle.judge.specs.Pass.{Marked}
 use Rattle.judge.proofs.Events.{drop-next}
 use Rattle.judge.proofs.Onward.{entry-goes, entry-stops}
-use Rattle.judge.proofs.Arrays.{marked-start, marked-next}
+use Rattle.judge.proofs.Arrays.{kept-number, marked-gone, marked-next, marked-start}
 use Rattle.judge.proofs.entries.entry_answer.Statement.{statement}
 use Rattle.judge.proofs.entries.entry_answer.Tie as tie
 
+-- the entries before the index are passed
+record Passed (entries : List ℕ) (targets : ℕ) (marks : List Bool) (i : ℕ) : Type 0 where
+  bound : i ≤ length entries
+  size : length marks ≡ 801
+  behind : List ℕ
+  marked : Marked marks behind
+  named : (k : ℕ) → has k entries ≡ (has k behind || has k (drop i entries))
+  answers : entryAnswer targets 1 [] entries ≡ entryAnswer targets (i + 1) behind (drop i entries)
+
 abbrev Inv-loop : tie.InvT-loop
-Inv-loop entries targets marks₀ i₀ marks i =
-    (i ≤ length entries) × ((length marks ≡ 801) × ((b : List ℕ) × (Marked marks b
-    × (((k : ℕ) → has k entries ≡ (has k b || has k (drop i entries)))
-    × (entryAnswer targets 1 [] entries ≡ entryAnswer targets (i + 1) b (drop i entries))))))
+Inv-loop entries targets marks₀ i₀ marks i = Passed entries targets marks i
 
 abbrev μ-loop : tie.MeasureT-loop
 μ-loop entries targets marks₀ i₀ marks i = length entries - i
-
--- the test of an entry
-beyond : (n k : ℕ) (h : Bool) → n < k → (not (eqb k 0) && (ltb n k || h)) ≡ true
-beyond n k h p = let z : k ≡ 0 → ⊥ = λ e. omega arith in rw (ne-eqb k 0 z, lt-ltb n k p)
-
-within : (n k : ℕ) {h m r : Bool} → k ≤ n → m ≡ h → r ≡ usedTwice k m → (not (eqb k 0) && (ltb n k || h)) ≡ r
-within n k p e u = rw (le-ltb n k p, ← e) (sym u)
-
-none-left : (n i : ℕ) (b l : List ℕ) (j : ℕ) → j ≡ length l → entryAnswer n i b (drop j l) ≡ done
-unfolding entryAnswer
-none-left n i b l j e = rw (e, drop-length l)
-
--- the loop's entry, those before it and those after it
-abbrev turn : tie.After-number-index Inv-loop μ-loop → tie.At-loop Inv-loop μ-loop
-turn c = c .before .before .before
-
-abbrev entries : tie.After-number-index Inv-loop μ-loop → List ℕ
-entries c = turn c .before .before .args .entries .now
-
-abbrev targets : tie.After-number-index Inv-loop μ-loop → ℕ
-targets c = turn c .before .before .args .targets
-
-abbrev behind : tie.After-number-index Inv-loop μ-loop → List ℕ
-behind c = turn c .loop .inv .1 .1 .0
-
-abbrev rest : tie.After-number-index Inv-loop μ-loop → List ℕ
-rest c = drop (turn c .loop .i + 1) (entries c)
-
-parts : (c : tie.After-number-index Inv-loop μ-loop) → drop (turn c .loop .i) (entries c) ≡ c .number-index .result ∷ rest c
-parts c = drop-next (entries c) (turn c .loop .i) (c .number-index .result) (omega arith) (c .number-index .ensures)
-
-from-here : (c : tie.After-number-index Inv-loop μ-loop)
-    → entryAnswer (targets c) 1 [] (entries c) ≡ entryAnswer (targets c) (turn c .loop .i + 1) (behind c) (c .number-index .result ∷ rest c)
-from-here c = turn c .loop .inv .1 .1 .1 .1 .1 ∙ rw (parts c)
-
--- an entry that is refused
-refused : (c : tie.After-number-index Inv-loop μ-loop) {a : Answer} → a ≡ answer 9 3 (turn c .loop .i + 1)
-    → (not (eqb (c .number-index .result) 0) && (ltb (targets c) (c .number-index .result) || has (c .number-index .result) (behind c))) ≡ true
-    → (a ≡ entryAnswer (targets c) 1 [] (entries c)) × (a .number ≡ 0 → Marked (turn c .loop .marks) (entries c))
-refused c e t = (
-  e ∙ sym (from-here c ∙ entry-stops _ _ _ _ _ t),
-  λ z. let n : _≡_ {A = ℕ} 9 0 = ap (λ (a : Answer). a .number) (sym e) ∙ z in absurd (omega arith),
-)
-
--- an entry that is not
-test-is : (c : tie.After-is-used-twice Inv-loop μ-loop)
-    → (not (eqb (c .before .before .number-index .result) 0)
-    && (ltb (targets (c .before .before)) (c .before .before .number-index .result) || has (c .before .before .number-index .result) (behind (c .before .before))))
-    ≡ c .is-used-twice .result
-test-is c =
-    let t = c .before .before in
-    within (targets t) (t .number-index .result) (c .before .if1 .left)
-    (turn t .loop .inv .1 .1 .1 .0 (t .number-index .result) (omega arith)) (c .is-used-twice .ensures)
 
 join : (x y z : Bool) → (x || (y || z)) ≡ ((y || x) || z)
 join true true z = refl
@@ -89,63 +43,110 @@ join true false z = refl
 join false true z = refl
 join false false z = refl
 
-named : (c : tie.After-number-index Inv-loop μ-loop) (k : ℕ)
-    → has k (entries c) ≡ (has k (c .number-index .result ∷ behind c) || has k (rest c))
-named c k =
-    turn c .loop .inv .1 .1 .1 .1 .0 k
-    ∙ (rw (parts c) (join (has k (behind c)) (eqb k (c .number-index .result)) (has k (rest c))))
+none-left : (n i : ℕ) (b l : List ℕ) (j : ℕ) → j ≡ length l → entryAnswer n i b (drop j l) ≡ done
+unfolding entryAnswer
+none-left n i b l j e = rw (e, drop-length l)
+
+-- an entry, those before it and those after it
+module _ (c : tie.After-is-gone Inv-loop μ-loop) where
+  abbrev turn : tie.At-loop Inv-loop μ-loop
+  turn = c .before .before .before
+
+  abbrev entries : List ℕ
+  entries = turn .before .before .args .entries .now
+
+  abbrev targets : ℕ
+  targets = turn .before .before .args .targets
+
+  abbrev index : ℕ
+  index = turn .loop .i
+
+  abbrev behind : List ℕ
+  behind = turn .loop .inv .behind
+
+  abbrev entry : ℕ
+  entry = getD entries index 0
+
+  abbrev rest : List ℕ
+  rest = drop (index + 1) entries
+
+  abbrev refuses : Bool
+  refuses = not (isGone entry) && (ltb targets entry || has entry behind)
+
+  parts : drop index entries ≡ entry ∷ rest
+  parts = drop-next entries index entry (omega arith) refl
+
+  from-here : entryAnswer targets 1 [] entries ≡ entryAnswer targets (index + 1) behind (entry ∷ rest)
+  from-here = turn .loop .inv .answers ∙ rw parts
+
+  gone-is : {b : Bool} → c .is-gone .result ≡ b → isGone entry ≡ b
+  gone-is h = sym (c .is-gone .ensures) ∙ h
+
+  passed : refuses ≡ false → (marks : List Bool) → length marks ≡ 801 → Marked marks (entry ∷ behind) → Passed entries targets marks (index + 1)
+  passed t marks size m = record {
+    bound = omega arith;
+    size = size;
+    behind = entry ∷ behind;
+    marked = m;
+    named = λ k. turn .loop .inv .named k ∙ (rw parts (join (has k behind) (eqb k entry) (has k rest)));
+    answers = from-here ∙ (entry-goes _ _ _ _ _ t ∙ rw (← add-one (index + 1)));
+  }
+
+  refused : refuses ≡ true → {a : Answer} → a ≡ answer 9 3 (index + 1)
+      → (a ≡ entryAnswer targets 1 [] entries) × (a .number ≡ 0 → Marked (turn .loop .marks) entries)
+  refused t e = (
+    e ∙ sym (from-here ∙ entry-stops _ _ _ _ _ t),
+    λ z. let n : _≡_ {A = ℕ} 9 0 = ap (λ (a : Answer). a .number) (sym e) ∙ z in absurd (omega arith),
+  )
+
+-- a kept number beyond the target, and one within it
+beyond : (c : tie.Then2 Inv-loop μ-loop) → refuses (c .before .before .before) ≡ true
+beyond c =
+    let k = c .before in
+    let h : targets (k .before .before) < entry (k .before .before) = omega (arith, k .number-index .ensures, c .if2 .taken) in
+    rw (gone-is (k .before .before) (k .before .if1 .left), lt-ltb _ _ h)
+
+within : (c : tie.Else2 Inv-loop μ-loop) → entry (c .before .before .before) ≤ targets (c .before .before .before)
+within c = omega (arith, c .before .number-index .ensures, c .if2 .left)
+
+again : (c : tie.Else2 Inv-loop μ-loop) → refuses (c .before .before .before) ≡ getD (turn (c .before .before .before) .loop .marks) (entry (c .before .before .before)) false
+again c =
+    let k = c .before .before .before in
+    let g = gone-is k (c .before .before .if1 .left) in
+    rw (g, le-ltb _ _ (within c)) (sym (turn k .loop .inv .marked (entry k) (kept-number (entry k) g) (omega (arith, within c))))
 
 loop-holds : tie.Need-loop-holds Inv-loop μ-loop
-loop-holds c = (omega arith, (refl, ([], (marked-start, ((λ k. refl), refl)))))
-
-number-index-requires : tie.Need-number-index-requires Inv-loop μ-loop
-number-index-requires c κs = tt
-
-new-requires : tie.Need-new-requires Inv-loop μ-loop
-new-requires c κs = tt
-
-returns : tie.Need-returns Inv-loop μ-loop
-returns c = refused (c .before .before) (c .new .ensures) (beyond _ _ _ (c .before .if1 .taken))
-
-is-used-twice-requires : tie.Need-is-used-twice-requires Inv-loop μ-loop
-is-used-twice-requires c κs = tt
-
-new-requires-2 : tie.Need-new-requires-2 Inv-loop μ-loop
-new-requires-2 c κs = tt
-
-returns-2 : tie.Need-returns-2 Inv-loop μ-loop
-returns-2 c = refused (c .before .before .before .before) (c .new2 .ensures) (test-is (c .before .before) ∙ c .before .if2 .taken)
+loop-holds c = record { bound = omega arith; size = refl; behind = []; marked = marked-start; named = λ k. refl; answers = refl }
 
 loop-again : tie.Need-loop-again Inv-loop μ-loop
 loop-again c =
-    let t = c .before .before .before in
-    let k : t .number-index .result < 801 = omega arith in
-    let size = turn t .loop .inv .1 .0 in (
-      omega arith,
-      (
-        simp length-set size,
-        (
-          t .number-index .result ∷ behind t,
-          (
-            marked-next (turn t .loop .marks) (behind t) _ k size (turn t .loop .inv .1 .1 .1 .0),
-            (
-              named t,
-              from-here t ∙ (entry-goes _ _ _ _ _ (test-is (c .before) ∙ c .if2 .left) ∙ rw (← add-one (turn t .loop .i + 1))),
-            ),
-          ),
-        ),
-      ),
-    )
+    let k = c .before in
+    let g = gone-is k (c .if1 .taken) in
+    passed k (rw g) (turn k .loop .marks) (turn k .loop .inv .size)
+    (marked-gone (turn k .loop .marks) (behind k) (entry k) g (turn k .loop .inv .marked))
 
-new-requires-3 : tie.Need-new-requires-3 Inv-loop μ-loop
-new-requires-3 c κs = tt
+returns : tie.Need-returns Inv-loop μ-loop
+returns c = refused (c .before .before .before .before) (beyond (c .before)) (c .new .ensures)
+
+returns-2 : tie.Need-returns-2 Inv-loop μ-loop
+returns-2 c =
+    let d = c .before .before in
+    refused (d .before .before .before) (again d ∙ (rw (← d .before .number-index .ensures) (c .before .if3 .taken))) (c .new2 .ensures)
+
+loop-again-2 : tie.Need-loop-again-2 Inv-loop μ-loop
+loop-again-2 c =
+    let d = c .before in
+    let k = d .before .before .before in
+    let e : d .before .number-index .result ≡ entry k = d .before .number-index .ensures in
+    let m = marked-next (turn k .loop .marks) (behind k) (entry k) (omega (arith, within d)) (turn k .loop .inv .size) (turn k .loop .inv .marked) in
+    passed k (again d ∙ (rw (← e) (c .if3 .left))) _ (simp length-set (turn k .loop .inv .size)) (rw e m)
 
 returns-3 : tie.Need-returns-3 Inv-loop μ-loop
 returns-3 c =
     let l = c .before .before .before .before .args .entries .now in
     let e : c .before .before .loop .i ≡ length l = omega arith in
-    let inv = c .before .before .loop .inv .1 .1 in
-    (c .new3 .ensures ∙ sym (inv .1 .1 .1 ∙ none-left _ _ _ l _ e), λ z k h. inv .1 .0 k h ∙ sym (inv .1 .1 .0 k ∙ rw (e, drop-length l, or-false)))
+    let inv = c .before .before .loop .inv in
+    (c .new3 .ensures ∙ sym (inv .answers ∙ none-left _ _ _ l _ e), λ z k p h. inv .marked k p h ∙ sym (inv .named k ∙ rw (e, drop-length l, or-false)))
 
 pub entry-answer-spec : {M : Type 1} → statement M
 entry-answer-spec =
@@ -156,18 +157,18 @@ entry-answer-spec =
     loop-holds
     (λ c. omega arith)
     (λ c. omega arith)
-    number-index-requires
     (λ c. omega arith)
-    new-requires
+    (λ c κs. tt)
+    (λ c. omega arith)
+    loop-again
+    (λ c κs. tt)
+    (λ c κs. tt)
     returns
     (λ c. omega arith)
-    is-used-twice-requires
-    (λ c. omega arith)
-    new-requires-2
+    (λ c κs. tt)
     returns-2
     (λ c. omega arith)
     (λ c. omega arith)
-    (λ c. omega arith)
-    loop-again
-    new-requires-3
+    loop-again-2
+    (λ c κs. tt)
     returns-3)

@@ -1,39 +1,39 @@
 -- The target event of a kept number stands in the room one before that number. Assumes nothing.
 use mathlib.Core.Path.{_≡_, sym, _∙_, ap}
-use mathlib.Core.Bool.{not}
+use mathlib.Core.Bool.{false, not, false≢true}
 use mathlib.Core.List.{List}
-use Prim.Native.Nat.{ℕ, zero, suc, _-_, _<_, _/_}
+use Prim.Native.Nat.{ℕ, zero, suc, _-_, _/_}
 use native.Mathlib.Omega.{arith}
+use borrow.Author.Needs.{needs}
 use lib.ListN.{length}
 use Rattle.event.specs.Room.{eventAt, onward}
 use Rattle.event.specs.declared.Event.{Event}
 use Rattle.rules.specs.View.{same}
-use Rattle.rules.specs.Fault.{unlike}
+use Rattle.rules.specs.Fault.{fate, isGone, unlike}
+use Rattle.judge.proofs.Arrays.{kept-number}
 use Rattle.judge.proofs.Events.{room-at}
 use Rattle.judge.proofs.source.differs.Statement.{statement}
 use Rattle.judge.proofs.source.differs.Tie as tie
 
-unlike-at : (l : List ℕ) (e : Event) (n : ℕ) → 0 < n → unlike (onward l 0 (length l / 6)) e n ≡ not (same e (eventAt l (n - 1)))
-unlike-at l e zero h = absurd (omega arith)
-unlike-at l e (suc n) h =
+unlike-at : (l : List ℕ) (e : Event) (n : ℕ) → isGone n ≡ false → unlike (onward l 0 (length l / 6)) e (fate n) ≡ not (same e (eventAt l (n - 1)))
+unlike-at l e zero g = absurd (false≢true (sym g))
+unlike-at l e (suc n) g =
     let i : n ≡ suc n - 1 = omega arith in
     ap (λ (f : Event). not (same e f)) (room-at l n ∙ ap (eventAt l) i)
 
-told : (l : List ℕ) (e : Event) {n k : ℕ} {f : Event} → 0 < n → k ≡ n → f ≡ eventAt l (k - 1) → not (same e f) ≡ unlike (onward l 0 (length l / 6)) e n
+told : (l : List ℕ) (e : Event) {n k : ℕ} {f : Event} → isGone n ≡ false → k ≡ n → f ≡ eventAt l (k - 1)
+    → not (same e f) ≡ unlike (onward l 0 (length l / 6)) e (fate n)
 told l e {n} h i g = rw (g, i) (sym (unlike-at l e n h))
 
-number-index-requires : tie.Need-number-index-requires
-number-index-requires c κs = tt
-
-get-requires : tie.Need-get-requires
-get-requires c κs = tt
-
-is-same-requires : tie.Need-is-same-requires
-is-same-requires c κs = tt
+sub-get : tie.Need-sub-get
+sub-get c = let h = kept-number (c .before .before .args .n) (c .before .before .pre) in omega arith
 
 returns : tie.Need-returns
-returns c = rw (c .is-same .ensures) (told _ (c .before .before .before .before .args .e) (c .before .before .before .before .pre)
-    (c .before .before .number-index .ensures) (c .before .get .ensures))
+returns c =
+    let a = c .before .before .before .before in
+    rw (c .is-same .ensures) (told _ (a .args .e) (a .pre) (c .before .before .number-index .ensures) (c .before .get .ensures))
 
 pub differs-spec : {M : Type 1} → statement M
-differs-spec = tie.close (tie.spec number-index-requires (λ c. omega arith) get-requires is-same-requires returns)
+differs-spec =
+    tie.close
+    (tie.spec (search needs) sub-get (search needs) (search needs) returns)

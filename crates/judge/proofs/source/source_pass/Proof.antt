@@ -102,7 +102,7 @@ abbrev at : tie.After-event-fault Inv-loop μ-loop → tie.After-index-of Inv-lo
 at c = c .before .before .before .before .before
 
 told : (c : tie.After-event-fault Inv-loop μ-loop)
-    → sourceFault (target (at c)) (behind (at c)) (event (at c)) (entry (at c)) (item (view (event (at c))) (fate (entry (at c)))) (ahead (at c))
+    → sourceFault (target (at c)) (behind (at c)) (event (at c)) (item (view (event (at c))) (fate (entry (at c)))) (ahead (at c))
     ≡ c .event-fault .result
 told c =
     fault-at (target (at c)) (event (at c)) (behind (at c)) (ahead (at c)) _ _ _ (entry (at c)) (sees-at (event (at c)) (at c .index-of .ensures))
@@ -111,7 +111,7 @@ told c =
     ∙ sym (c .event-fault .ensures)
 
 stops : (t : List Event) (i : ℕ) (b : List Item) (e : Event) (s : List Event) (k : ℕ) (ns : List ℕ) (n : ℕ) → (n ≡ 0 → ⊥)
-    → sourceFault t b e k (item (view e) (fate k)) (items view s ns) ≡ n → sourceAnswer view t i b (e ∷ s) (k ∷ ns) ≡ answer n 1 i
+    → sourceFault t b e (item (view e) (fate k)) (items view s ns) ≡ n → sourceAnswer view t i b (e ∷ s) (k ∷ ns) ≡ answer n 1 i
 stops t i b e s k ns zero z h = absurd (z refl)
 stops t i b e s k ns (suc n) z h = source-stops view t i b e s k ns n h
 
@@ -196,14 +196,14 @@ returns c =
     let f = c .before .before in
     c .new4 .ensures ∙ sym (whole (at f) ∙ stops _ _ _ _ _ _ _ _ (c .before .if1 .taken) (told f))
 
-larger-of-requires : tie.Need-larger-of-requires Inv-loop μ-loop
-larger-of-requires c κs = tt
+top-after-requires : tie.Need-top-after-requires Inv-loop μ-loop
+top-after-requires c κs = tt
 
 is-wall-requires : tie.Need-is-wall-requires Inv-loop μ-loop
 is-wall-requires c κs = tt
 
-larger-of-requires-2 : tie.Need-larger-of-requires-2 Inv-loop μ-loop
-larger-of-requires-2 c κs = tt
+top-after-requires-2 : tie.Need-top-after-requires-2 Inv-loop μ-loop
+top-after-requires-2 c κs = tt
 
 loop-again : tie.Need-loop-again Inv-loop μ-loop
 loop-again c =
@@ -214,7 +214,7 @@ loop-again c =
         passed w,
         (
           tallied-wall (entry a) (turn a .loop .inv .1 .1 .0) (sees (event a)) (wall-is w (c .before .if2 .taken))
-              (w .before .larger-of .ensures) (c .larger-of2 .ensures),
+              (w .before .top-after .ensures) (c .top-after2 .ensures),
           goes-on w,
         ),
       ),
@@ -241,14 +241,14 @@ mul-value c = omega (arith, place-in (at (fault (c .before .before .before .befo
 array-write-value : tie.Need-array-write-value Inv-loop μ-loop
 array-write-value c = place-in (at (fault (c .before .before .before .before)))
 
-mul-larger-of : tie.Need-mul-larger-of Inv-loop μ-loop
-mul-larger-of c = omega (arith, place-in (at (fault (c .before .before .before .before))))
+mul-top-after : tie.Need-mul-top-after Inv-loop μ-loop
+mul-top-after c = omega (arith, place-in (at (fault (c .before .before .before .before))))
 
-array-read-larger-of : tie.Need-array-read-larger-of Inv-loop μ-loop
-array-read-larger-of c = place-in (at (fault (c .before .before .before .before)))
+array-read-top-after : tie.Need-array-read-top-after Inv-loop μ-loop
+array-read-top-after c = place-in (at (fault (c .before .before .before .before)))
 
-larger-of-requires-3 : tie.Need-larger-of-requires-3 Inv-loop μ-loop
-larger-of-requires-3 c κs = tt
+top-after-requires-3 : tie.Need-top-after-requires-3 Inv-loop μ-loop
+top-after-requires-3 c κs = tt
 
 mul-here : tie.Need-mul-here Inv-loop μ-loop
 mul-here c = omega (arith, place-in (at (fault (c .before .before .before .before .before))))
@@ -266,7 +266,7 @@ loop-again-2 c =
         passed w,
         (
           tallied-plain (entry a) (turn a .loop .inv .1 .1 .0) (sees (event a)) (wall-is w (c .before .before .before .before .if2 .left))
-              (a .index-of .ensures) (place-in a) (w .before .larger-of .ensures) (c .larger-of3 .ensures) (c .before .witness-after .result)
+              (a .index-of .ensures) (place-in a) (w .before .top-after .ensures) (c .top-after3 .ensures) (c .before .witness-after .result)
               (over-told (view (event a)) (entry a) (event a .first) (getD (turn a .loop .fresh) p false) (getD (turn a .loop .held) p false) (getD
               (turn a .loop .value) p 0)
               (c .before .witness-after .result) (c .before .witness-after .ensures) (c .before .before .takes-over .ensures)
@@ -310,9 +310,9 @@ source-pass-spec =
     add-i
     new-requires-4
     returns
-    larger-of-requires
+    top-after-requires
     is-wall-requires
-    larger-of-requires-2
+    top-after-requires-2
     (λ c. omega arith)
     loop-again
     is-load-requires
@@ -322,9 +322,9 @@ source-pass-spec =
     array-write-held
     mul-value
     array-write-value
-    mul-larger-of
-    array-read-larger-of
-    larger-of-requires-3
+    mul-top-after
+    array-read-top-after
+    top-after-requires-3
     mul-here
     array-write-here
     (λ c. omega arith)

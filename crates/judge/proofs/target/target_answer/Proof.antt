@@ -80,7 +80,7 @@ module _ (c : tie.After-new-fault Inv-loop μ-loop) (ns : List ℕ) (m : Marked 
 
   told : targetFault behind (placed view ns (number (get c)) (event c)) ≡ c .new-fault .result
   told =
-      fault-told behind ns (number (get c)) (event c) (m (number (get c)) (omega arith)) (c .before .is-load .ensures) (at c .index-of .ensures)
+      fault-told behind ns (number (get c)) (event c) (m (number (get c)) (omega arith) (omega arith)) (c .before .is-load .ensures) (at c .index-of .ensures)
       (turn (get c) .loop .inv .1 .1 ns m .1 .0 (at c .index-of .result) (place-in (at c)))
       (c .new-fault .ensures)
 
