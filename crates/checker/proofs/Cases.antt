@@ -12,8 +12,9 @@ use Rattle.record.specs.Record.{numberIf, orderIf, eventRest, initRest, recordO
 use Rattle.trace.specs.Fault.{uses, eventFault}
 use Rattle.trace.specs.Reading.{linesFault, initsFault, eventsIn, startIn, surveyInits, surveyParts, surveyOf, eventsOf, readOf}
 use Rattle.matching.specs.Entry.{keepRest, goneRest, entryOf}
-use Rattle.matching.specs.Reading.{entriesIn, surveyLines, entriesOf}
-use Rattle.matching.specs.Reading.{linesFault as entryLinesFault, surveyParts as matchingParts, surveyOf as matchingSurvey, readOf as matchingRead}
+use Rattle.frame.specs.Reading.{headFault, linesFault as framedFault, textFault}
+use Rattle.matching.specs.Reading.{entriesOf, surveyOf as matchingSurvey, readOf as matchingRead}
+use Rattle.text.specs.Line.{saidIn}
 use Rattle.rules.specs.Verdict.{startAnswer, countAnswer, entryAnswer, sourceAnswer, targetAnswer, verdict}
 use Rattle.checker.specs.Check.{readingAnswer, verdictOf, checkOf}
 use Rattle.checker.specs.Line.{counted, nthLine, lineOf, faultSide, offendingLine}
@@ -22,7 +23,7 @@ use Rattle.checker.specs.Cases.{table, all-hold}
 pub P1-to-P12 : all-hold table ≡ true
 unfolding checkOf readingAnswer verdictOf verdict startAnswer countAnswer entryAnswer sourceAnswer targetAnswer readOf surveyOf
     surveyParts surveyInits initsFault linesFault eventsIn startIn eventsOf eventFault uses recordOf eventRest initRest
-    numberIf orderIf numberIn matchingRead matchingSurvey matchingParts surveyLines entryLinesFault entriesIn entriesOf
+    numberIf orderIf numberIn matchingRead matchingSurvey textFault headFault framedFault saidIn entriesOf
     entryOf keepRest goneRest numberOf digitsOn valueOn allDigits cut same stepped after latest lawful takes row
 P1-to-P12 = refl
 

@@ -69,7 +69,7 @@ pub record Entered (t : List ℕ) (r : MatchingRead) (room : List ℕ) : Type 0 
 
 module _ (t room : List ℕ) (z : entriesRead t room .answer .number ≡ 0) where
   entries-counted : entriesRead t room .entries ≡ length (entriesOf t)
-  entries-counted = rw (entries-passed t room z) (entryCounts t .passed (rw (entries-passed t room z) at z))
+  entries-counted = rw (entries-passed t room z) (entryCounts t (rw (entries-passed t room z) at z))
 
   entered-front : Entered t (entriesRead t room) (entryFront (entriesOf t) room)
   entered-front = record {

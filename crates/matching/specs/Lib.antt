@@ -1,3 +1,5 @@
--- What the contracts of this crate say, by page: an entry's line, and the reading of a matching text. Assumes nothing.
+-- What a reader has to believe: an entry's line, and the reading of a matching text.
 pub mod Entry
 pub mod Reading
+-- Inner: the steps of the reading. Assumes nothing.
+pub mod Survey

@@ -1,20 +1,25 @@
-// Matching texts, read into a room: an entry to a word.
+// Matching texts, read into a room: an entry to a word. A text is judged in one pass and stored in a second, so that a refusal stores nothing.
 pub mod entry;
 
 ghost use mathlib.Core.Path.{_≡_};
-ghost use Prim.Native.Nat.{_≤_, _<_};
+ghost use Prim.Native.Nat.{_+_, _≤_, _<_};
 ghost use lib.ListN.{length, set};
 ghost use Rattle.text.specs.Line.{splitFrom};
 ghost use Rattle.event.specs.Answer.{answer};
-ghost use Rattle.matching.specs.Reading.{refused, surveyLines, surveyOf, inRoom, entriesOf, front, readOf, roomAfter, placed, nextIndex};
+ghost use Rattle.frame.specs.Store.{placed};
+ghost use Rattle.matching.specs.Reading.{refused, surveyOf, roomFor, entriesOn, entriesOf, front, readOf, roomAfter};
+ghost use Rattle.matching.specs.Survey.{surveyLines};
 use entry::EntryRead;
 use entry::entry_of;
 use event::Answer;
 use event::Entry;
 use event::Number;
+use frame::head_fault;
+use text::line::LineStep;
 use text::line::TEXT_LIMIT;
 use text::line::line_end;
-use text::word::same_bytes;
+use text::line::line_two;
+use text::line::next_line;
 
 // The most entries.
 pub const ENTRY_LIMIT: usize = 800;
@@ -25,16 +30,13 @@ pub struct MatchingRead {
     pub entries: usize,
 }
 
-fn refusal(number: Number, place: usize) -> MatchingRead
-    ensures { λ r. ⌜ r ≡ refused (answer number 3 place) ⌝ }
+fn refusal(answer: Answer) -> MatchingRead
+    ensures { λ r. ⌜ r ≡ refused answer ⌝ }
 {
-    MatchingRead {
-        answer: Answer::new(number, 3, place),
-        entries: 0,
-    }
+    MatchingRead { answer, entries: 0 }
 }
 
-// The lines after line 1.
+// The lines after line 1: each is tried for 2 and 3.
 fn survey_lines(text: &[u8], from: usize) -> MatchingRead
     requires { ⌜ from ≤ length (now text) ⌝ }
     requires { ⌜ 2 ≤ from ⌝ }
@@ -42,22 +44,21 @@ fn survey_lines(text: &[u8], from: usize) -> MatchingRead
 {
     let mut at = from;
     let mut n: usize = 0;
-    while at < text.len() {
-        let end = line_end(text, at);
-        if text.len() <= end {
-            return refusal(2, n + 2);
-        }
-        match entry_of(&text[at..end]) {
-            EntryRead::Refused => {
-                return refusal(2, n + 2);
-            }
-            EntryRead::Entry(_) => {}
-        }
+    loop {
+        let LineStep::Line { to } = next_line(text, at) else {
+            break;
+        };
+        let EntryRead::Entry(_) = entry_of(&text[at..to]) else {
+            return refusal(Answer::new(2, 3, n + 2));
+        };
         if ENTRY_LIMIT <= n {
-            return refusal(3, n + 2);
+            return refusal(Answer::new(3, 3, n + 2));
         }
         n += 1;
-        at = end + 1;
+        at = to + 1;
+    }
+    if at < text.len() {
+        return refusal(Answer::new(2, 3, n + 2));
     }
     MatchingRead {
         answer: Answer::new(0, 0, 0),
@@ -69,27 +70,21 @@ fn survey_lines(text: &[u8], from: usize) -> MatchingRead
 fn survey(text: &[u8]) -> MatchingRead
     ensures { λ r. ⌜ r ≡ surveyOf (now (text .entry)) ⌝ }
 {
-    if TEXT_LIMIT < text.len() {
-        return refusal(1, 0);
+    let found = head_fault(text, 3, TEXT_LIMIT, b"match\t1");
+    if found.number != 0 {
+        return refusal(found);
     }
-    let end = line_end(text, 0);
-    if text.len() <= end {
-        return refusal(2, 1);
-    }
-    if !same_bytes(&text[0..end], b"match\t1") {
-        return refusal(2, 1);
-    }
-    survey_lines(text, end + 1)
+    survey_lines(text, line_two(text))
 }
 
 // Answers 1 to 3 and 17, for a room of so many words.
 pub fn survey_in(text: &[u8], words: usize) -> MatchingRead
-    ensures { λ r. ⌜ r ≡ inRoom words (surveyOf (now (text .entry))) ⌝ }
+    ensures { λ r. ⌜ r ≡ roomFor words (surveyOf (now (text .entry))) ⌝ }
 {
     let surveyed = survey(text);
     let entries = surveyed.entries;
     if words < entries {
-        return refusal(17, entries);
+        return refusal(Answer::new(17, 3, entries));
     }
     surveyed
 }
@@ -106,7 +101,7 @@ fn put(room: &mut [Entry], i: usize, e: Entry)
 // The room with a line's entry at an index; what comes back is the next index.
 fn put_entry(room: &mut [Entry], i: usize, line: EntryRead) -> usize
     requires { ⌜ i < 18446744073709551615 ⌝ }
-    ensures { λ r. ⌜ (r ≡ nextIndex i line) × (now (room .exit) ≡ placed (now (room .entry)) i line) ⌝ }
+    ensures { λ r. ⌜ (r ≡ i + length (entriesOn line)) × (now (room .exit) ≡ placed set (now (room .entry)) i (entriesOn line)) ⌝ }
 {
     match line {
         EntryRead::Entry(e) => {
@@ -122,7 +117,7 @@ pub fn store(text: &[u8], room: &mut [Entry])
     requires { ⌜ length (entriesOf (now text)) ≤ length (now room) ⌝ }
     ensures { λ _. ⌜ now (room .exit) ≡ front (entriesOf (now (text .entry))) (now (room .entry)) ⌝ }
 {
-    let mut at = line_end(text, 0) + 1;
+    let mut at = line_two(text);
     let mut i: usize = 0;
     while at < text.len() {
         let end = line_end(text, at);

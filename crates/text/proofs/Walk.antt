@@ -2,13 +2,13 @@
 use Prim.Native.Nat.{ℕ, suc, _+_, _-_, _≤_, _<_}
 use mathlib.Core.Path.{_≡_, refl, sym, _∙_, ap}
 use mathlib.Core.Bool.{true, false}
-use mathlib.Core.List.{List, [], _∷_}
+use mathlib.Core.List.{List, [], _∷_, _++_}
 use native.Mathlib.Omega.{arith}
 use lib.Dec.{ltb}
 use lib.ListN.{length, getD, take, drop, length-drop, drop-of-length-le}
 use lib.Seq.{drop-cons, take-all}
 use borrow.Author.Tests.{ltb-true, ltb-false}
-use Rattle.laws.proofs.Cases.{cases, either}
+use Rattle.laws.proofs.Cases.{cases, either, side}
 use Rattle.text.specs.Cut.{until, cut, isEmpty}
 use Rattle.text.specs.Line.{lineLen, lineAt, split, splitFrom, body, saidIn}
 use Rattle.text.specs.declared.line.LineStep.the-variants.{Line, TextEnd}
@@ -66,16 +66,16 @@ module _ (t : List ℕ) (at : ℕ) where
   abbrev stop : ℕ
   stop = at + lineLen (drop at t)
 
-  pub next : (to : ℕ) → at ≤ length t → lineAt t at ≡ Line to → Next t at to
+  pub next : (to : ℕ) → lineAt t at ≡ Line to → Next t at to
   unfolding lineAt
-  next to h e =
+  next to e =
       cases (either (ltb stop (length t)))
       (λ q. let s : stop ≡ to = cc (rw q at e) in
       let w = ltb-true stop (length t) q in
       record {
         rises = omega arith;
         within = omega (arith, w);
-        parts = parts-line t at to (sym s) h;
+        parts = parts-line t at to (sym s) (omega (arith, w));
         some = parts-some t (to + 1) (omega (arith, w));
       })
       (λ q. absurd (let z : _≡_ {A = ℕ} 0 1 = cc (rw q at e) in omega arith))
@@ -90,6 +90,7 @@ module _ (t : List ℕ) (at : ℕ) where
       let d : length (drop at t) ≤ stop - at = omega (arith, length-drop at t) in
       parts-line t at stop refl h ∙ rw (from-out 10 t (stop + 1) o, take-all (stop - at) (drop at t) d))
 
+  -- nothing of it stands there, or something
   pub rest-some : at < length t → isEmpty (drop at t) ≡ false
   rest-some h = not-empty (drop at t) (omega (arith, length-drop at t))
 
@@ -99,3 +100,15 @@ module _ (t : List ℕ) (at : ℕ) where
 -- the lines after line 1 start where line 2 does
 pub body-from : (t : List ℕ) → body (split t) ≡ splitFrom t (lineLen t + 1)
 body-from t = ap body (sym (from-start 10 t) ∙ parts-line t 0 (lineLen t) (omega arith) (omega arith))
+
+-- what the lines from a place on say, by what the line there says, with its LF or without
+pub said-line : {A : Type 0} (says : List ℕ → List A) (t : List ℕ) (at e : ℕ) (p : e ≡ at + lineLen (drop at t)) → at ≤ length t
+    → saidIn says (splitFrom t at) ≡ says (line t at e p) ++ saidIn says (splitFrom t (e + 1))
+unfolding saidIn
+said-line says t at e p h = rw (parts-line t at e p h)
+
+-- nothing stands there, which says nothing
+pub said-end : {A : Type 0} (says : List ℕ → List A) (t : List ℕ) (at : ℕ) → says [] ≡ [] → length t ≤ at → saidIn says (splitFrom t at) ≡ []
+unfolding saidIn
+said-end says t at b h =
+    cases (side (length t) at) (λ k. rw (from-out 10 t at k)) (λ k. let e : at ≡ length t = omega arith in rw (parts-end t at e, b))

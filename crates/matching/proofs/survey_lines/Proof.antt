@@ -1,133 +1,128 @@
--- The reading from each line on is that from the next line on, until a line is refused or none is left. Assumes nothing.
+-- The reading from each line on is that from the next line on, until a line is refused or no LF is left; nothing may stand after the last
+-- one. Assumes nothing.
 use Prim.Native.Nat.{ℕ, _+_, _-_, _≤_}
-use mathlib.Core.List.{List, _∷_}
-use mathlib.Core.Path.{_≡_, refl, sym, _∙_}
+use mathlib.Core.List.{List, [], _∷_}
+use mathlib.Core.Path.{_≡_, refl, sym, _∙_, ap}
 use native.Mathlib.Omega.{arith}
 use borrow.Author.Needs.{needs}
-use lib.ListN.{length}
+use lib.ListN.{length, take, drop, drop-of-length-le}
+use Rattle.event.specs.declared.Answer.{Answer}
 use Rattle.text.specs.Line.{splitFrom}
-use Rattle.text.proofs.Walk.{Some, line, parts-line, parts-open, parts-end, parts-some, line-in}
+use Rattle.text.proofs.Walk.{Next, next, last, rest-some, rest-none}
 use Rattle.matching.specs.Entry.{entryOf}
-use Rattle.matching.specs.Reading.{surveyLines}
+use Rattle.matching.specs.Reading.{refused}
+use Rattle.matching.specs.Survey.{surveyLines}
 use Rattle.matching.specs.declared.entry.EntryRead.{EntryRead}
 use Rattle.matching.specs.declared.MatchingRead.{MatchingRead}
-use Rattle.matching.proofs.Lines.{lines-open, lines-refused, lines-full, lines-go, lines-end}
+use Rattle.matching.proofs.Lines.{read-open, read-end, read-refused, read-full, read-go}
 use Rattle.matching.proofs.survey_lines.Statement.{statement}
 use Rattle.matching.proofs.survey_lines.Tie as tie
 
+record Inv (text : List ℕ) (from at n : ℕ) : Type 0 where
+  within : at ≤ length text
+  counted : n + 2 ≤ at
+  same : surveyLines 0 (splitFrom text from) ≡ surveyLines n (splitFrom text at)
+
 abbrev Inv-loop : tie.InvT-loop
-Inv-loop text from at₀ n₀ at n =
-    (at ≤ length text) × ((n + 2 ≤ at) × (surveyLines 0 (splitFrom text from) ≡ surveyLines n (splitFrom text at)))
+Inv-loop text from at₀ n₀ at n = Inv text from at n
 
 abbrev μ-loop : tie.MeasureT-loop
 μ-loop text from at₀ n₀ at n = length text - at
 
--- the text, and the line that starts at the loop's place
-abbrev begin : tie.After-line-end Inv-loop μ-loop → tie.Start Inv-loop μ-loop
-begin c = c .before .before .before .before
+refuses : {r w : MatchingRead} {a b : Answer} → r ≡ refused a → a ≡ b → w ≡ refused b → r ≡ w
+refuses p q e = p ∙ (ap refused q ∙ sym e)
 
-abbrev text : tie.After-line-end Inv-loop μ-loop → List ℕ
-text c = begin c .args .text .now
+-- a turn's place
+module _ (c : tie.After-next-line Inv-loop μ-loop) where
+  abbrev begin : tie.Start Inv-loop μ-loop
+  begin = c .before .before .before
 
-abbrev at : tie.After-line-end Inv-loop μ-loop → ℕ
-at c = c .before .before .loop .at
+  abbrev text : List ℕ
+  text = begin .args .text .now
 
-ends : (c : tie.After-line-end Inv-loop μ-loop) → (at c ≤ c .line-end .result) × (c .line-end .result ≤ length (text c))
-ends c = line-in (text c) (at c) (c .line-end .result) (c .line-end .ensures) (omega arith)
+  abbrev at : ℕ
+  at = c .before .loop .at
 
--- the reading from the loop's place on, and so the whole
-abbrev whole : tie.After-line-end Inv-loop μ-loop → MatchingRead
-whole c = surveyLines 0 (splitFrom (text c) (begin c .args .from))
+  abbrev n : ℕ
+  n = c .before .loop .n
 
-from-here : (c : tie.After-line-end Inv-loop μ-loop) (r : MatchingRead) → surveyLines (c .before .before .loop .n) (splitFrom (text c) (at c)) ≡ r → whole c ≡ r
-from-here c r e = c .before .before .loop .inv .1 .1 ∙ e
+  abbrev whole : MatchingRead
+  whole = surveyLines 0 (splitFrom text (begin .args .from))
 
--- the line has a LF, and lines follow it
-abbrev end : tie.After-entry-of Inv-loop μ-loop → tie.After-line-end Inv-loop μ-loop
-end c = c .before .before .before
+  inv : Inv text (begin .args .from) at n
+  inv = c .before .loop .inv
 
-abbrev this : tie.After-entry-of Inv-loop μ-loop → List ℕ
-this c = line (text (end c)) (at (end c)) (end c .line-end .result) (end c .line-end .ensures)
+-- its line has a LF
+module _ (c : tie.After-to Inv-loop μ-loop) where
+  abbrev l : tie.After-next-line Inv-loop μ-loop
+  l = c .before .before
 
-abbrev others : tie.After-entry-of Inv-loop μ-loop → List (List ℕ)
-others c = splitFrom (text (end c)) (end c .line-end .result + 1)
+  abbrev to : ℕ
+  to = c .to .given .0 .0
 
-parts : (c : tie.After-entry-of Inv-loop μ-loop) → splitFrom (text (end c)) (at (end c)) ≡ this c ∷ others c
-parts c = parts-line (text (end c)) (at (end c)) (end c .line-end .result) (end c .line-end .ensures) (omega arith)
+  line : Next (text l) (at l) to
+  line = next _ _ _ (sym (l .next-line .ensures) ∙ c .to .given .1)
 
-some : (c : tie.After-entry-of Inv-loop μ-loop) → Some (others c)
-some c = parts-some (text (end c)) (end c .line-end .result + 1) (omega arith)
+-- and is read
+module _ (c : tie.After-entry-of Inv-loop μ-loop) where
+  abbrev t : tie.After-to Inv-loop μ-loop
+  t = c .before .before .before
 
-is : (c : tie.After-entry-of Inv-loop μ-loop) {r : EntryRead} → c .entry-of .result ≡ r → entryOf (this c) ≡ r
-is c e = sym (c .entry-of .ensures) ∙ e
+  abbrev this : List ℕ
+  this = take (to t - at (l t)) (drop (at (l t)) (text (l t)))
 
-by-line : (c : tie.After-entry-of Inv-loop μ-loop) (r : MatchingRead) → surveyLines (end c .before .before .loop .n) (this c ∷ others c) ≡ r → whole (end c) ≡ r
-by-line c r e = from-here (end c) r (rw (parts c) e)
+  abbrev others : List (List ℕ)
+  others = splitFrom (text (l t)) (to t + 1)
+
+  is : {r : EntryRead} → c .entry-of .result ≡ r → entryOf this ≡ r
+  is e = sym (c .entry-of .ensures) ∙ e
+
+  by-line : {r : MatchingRead} → surveyLines (n (l t)) (this ∷ others) ≡ r → whole (l t) ≡ r
+  by-line e = inv (l t) .same ∙ rw (line t .parts) e
 
 loop-holds : tie.Need-loop-holds Inv-loop μ-loop
-loop-holds c = (omega arith, (omega arith, refl))
-
-line-end-requires : tie.Need-line-end-requires Inv-loop μ-loop
-line-end-requires c κs = tt
-
-refusal-requires : tie.Need-refusal-requires Inv-loop μ-loop
-refusal-requires c κs = tt
+loop-holds c = record { within = omega arith; counted = omega arith; same = refl }
 
 returns : tie.Need-returns Inv-loop μ-loop
 returns c =
-    let e = c .before .before in
-    let o = parts-open (text e) (at e) (e .line-end .result) (e .line-end .ensures) (omega arith) (omega arith) in
-    c .refusal .ensures ∙ sym (from-here e _ (rw (o .0) (lines-open _ _ (o .1))))
-
-sub-entry-of : tie.Need-sub-entry-of Inv-loop μ-loop
-sub-entry-of c = omega (arith, ends (c .before))
-
-part-entry-of-start : tie.Need-part-entry-of-start Inv-loop μ-loop
-part-entry-of-start c = omega (arith, ends (c .before))
-
-part-entry-of-end : tie.Need-part-entry-of-end Inv-loop μ-loop
-part-entry-of-end c = omega (arith, ends (c .before))
-
-entry-of-requires : tie.Need-entry-of-requires Inv-loop μ-loop
-entry-of-requires c κs = tt
-
-refusal-requires-2 : tie.Need-refusal-requires-2 Inv-loop μ-loop
-refusal-requires-2 c κs = tt
+    let e = c .before .before .before .before in
+    refuses (c .refusal .ensures) (c .before .new .ensures)
+    (by-line e (read-refused _ _ _ (line (t e) .some) (is e (c .before .before .enum-told3 .given .1))))
 
 returns-2 : tie.Need-returns-2 Inv-loop μ-loop
 returns-2 c =
-    let p = c .before .before .before in
-    c .refusal2 .ensures ∙ sym (by-line p _ (lines-refused _ _ _ (some p) (is p (c .before .enum-told .given .1))))
-
-refusal-requires-3 : tie.Need-refusal-requires-3 Inv-loop μ-loop
-refusal-requires-3 c κs = tt
-
-returns-3 : tie.Need-returns-3 Inv-loop μ-loop
-returns-3 c =
-    let p = c .before .before .before .before in
-    c .refusal3 .ensures ∙ sym (by-line p _ (lines-full _ _ _ _ (some p) (is p (c .before .before .enum-told2 .given .1)) (c .before .if2 .taken)))
-
-add-n : tie.Need-add-n Inv-loop μ-loop
-add-n c = let e = end (c .before .before .before) in omega (arith, ends e, begin e .good)
-
-add-at : tie.Need-add-at Inv-loop μ-loop
-add-at c = let e = end (c .before .before .before) in omega (arith, ends e, begin e .good)
-
-loop-less : tie.Need-loop-less Inv-loop μ-loop
-loop-less c = let e = end (c .before .before .before) in omega (arith, ends e, begin e .good)
+    let e = c .before .before .before .before .before in
+    refuses (c .refusal2 .ensures) (c .before .new2 .ensures)
+    (by-line e (read-full _ _ _ (line (t e) .some) _ (is e (c .before .before .before .enum-told2 .given .1)) (c .before .before .if1 .taken)))
 
 loop-again : tie.Need-loop-again Inv-loop μ-loop
 loop-again c =
-    let p = c .before .before .before in
-    (omega arith, (omega (arith, ends (end p)), by-line p _ (lines-go _ _ _ _ (some p) (is p (c .before .enum-told2 .given .1)) (c .if2 .left))))
+    let e = c .before .before .before in
+    let q = line (t e) in
+    record {
+      within = omega (arith, q);
+      counted = omega (arith, q, inv (l (t e)));
+      same = by-line e (read-go _ _ _ (q .some) _ (is e (c .before .enum-told2 .given .1)) (c .if1 .left));
+    }
 
-new-requires : tie.Need-new-requires Inv-loop μ-loop
-new-requires c κs = tt
+-- no LF is left
+module _ (c : tie.After-enum-told Inv-loop μ-loop) where
+  abbrev o : tie.After-next-line Inv-loop μ-loop
+  o = c .before .before
+
+  rest : {r : MatchingRead} → surveyLines (n o) (drop (at o) (text o) ∷ []) ≡ r → whole o ≡ r
+  rest e = inv o .same ∙ rw (last (text o) (at o) (inv o .within) (sym (o .next-line .ensures) ∙ c .enum-told .given .1)) e
+
+returns-3 : tie.Need-returns-3 Inv-loop μ-loop
+returns-3 c =
+    let e = c .before .before .before in
+    refuses (c .refusal3 .ensures) (c .before .new3 .ensures) (rest e (read-open _ _ (rest-some _ _ (c .before .before .if2 .taken))))
 
 returns-4 : tie.Need-returns-4 Inv-loop μ-loop
 returns-4 c =
-    let e : c .before .before .loop .at ≡ length (c .before .before .before .before .args .text .now) = omega arith in
-    rw (c .new .ensures) (sym (c .before .before .loop .inv .1 .1 ∙ rw (parts-end _ _ e) (lines-end _)))
+    let e = c .before .before in
+    let z = drop-of-length-le (text (o e)) (c .before .if2 .left) in
+    rw (c .new4 .ensures) (sym (rest e (read-end _ _ (rest-none _ _ (c .before .if2 .left)) z)))
 
 pub survey-lines-spec : {M : Type 1} → statement M
 survey-lines-spec =
@@ -136,25 +131,30 @@ survey-lines-spec =
     Inv-loop
     μ-loop
     loop-holds
-    line-end-requires
-    (λ c. omega arith)
-    refusal-requires
+    (search needs)
+    (search needs)
+    (search needs)
+    (λ c. omega (arith, line (c .before)))
+    (λ c. omega (arith, line (c .before)))
+    (λ c. omega (arith, line (c .before)))
+    (search needs)
+    (search needs)
+    (search needs)
+    (λ c. omega (arith, inv (l (t (c .before .before)))))
+    (search needs)
+    (search needs)
     returns
-    sub-entry-of
-    part-entry-of-start
-    part-entry-of-end
-    entry-of-requires
+    (λ c. omega (arith, inv (l (t (c .before .before .before)))))
     (search needs)
-    (λ c. omega arith)
-    refusal-requires-2
+    (search needs)
     returns-2
-    (search needs)
-    (λ c. omega arith)
-    refusal-requires-3
-    returns-3
-    add-n
-    add-at
-    loop-less
+    (λ c. omega (arith, inv (l (t (c .before .before .before)))))
+    (λ c. omega (arith, line (t (c .before .before .before))))
+    (λ c. omega (arith, line (t (c .before .before .before))))
     loop-again
-    new-requires
+    (λ c. omega (arith, inv (o (c .before))))
+    (search needs)
+    (search needs)
+    returns-3
+    (search needs)
     returns-4)

@@ -1,0 +1,5 @@
+-- The laws of a reading, over the kind of the text. Assumes nothing.
+pub mod Heads
+pub mod Lines
+pub mod Settled
+pub mod Stores
