@@ -18,11 +18,18 @@ pub struct Stepped {
     pub right: bool,
 }
 
-// The sum of two words, as C11 atomic addition wraps.
-fn wrapped_sum(a: Word, b: Word) -> Word
+// The sum of two counters of 64 bits, as C11 atomic addition wraps.
+fn sum_64(a: u64, b: u64) -> u64
+    ensures { λ r. ⌜ r ≡ wrapSum 64 a b ⌝ }
+{
+    std::num::wrapping_add_u64(a, b)
+}
+
+// The sum of two of 32 bits is what is left of that.
+fn sum_32(a: Word, b: Word) -> Word
     ensures { λ r. ⌜ r ≡ wrapSum 32 a b ⌝ }
 {
-    std::num::wrapping_add_u32(a, b)
+    (sum_64(a as u64, b as u64) % 4294967296) as Word
 }
 
 // What an event leaves in its cell, which held `was`.
@@ -34,7 +41,7 @@ fn left_by(e: Event, was: Word) -> Word
         Sets::Nothing => was,
         Sets::First => e.first,
         Sets::Second => e.second,
-        Sets::Sum => wrapped_sum(e.first, e.second),
+        Sets::Sum => sum_32(e.first, e.second),
     }
 }
 

@@ -16,4 +16,4 @@ left-by-spec =
     (λ c. rw (← c .before .before .row-of .ensures, c .enum-told .given .1))
     (λ c. rw (← c .before .before .row-of .ensures, c .enum-told2 .given .1))
     (λ c. rw (← c .before .before .row-of .ensures, c .enum-told3 .given .1))
-    (λ c. rw (← c .before .before .before .row-of .ensures, c .before .enum-told4 .given .1, c .wrapped-sum .ensures)))
+    (λ c. rw (← c .before .before .before .row-of .ensures, c .before .enum-told4 .given .1, c .sum-32 .ensures)))
