@@ -1,15 +1,15 @@
 -- The layout theorem of lines: a line is read as a record exactly when it is the print of that record, and the record is in range. It is
--- proved over the flags of the kind's row. Assumes nothing.
+-- proved over the shape of the kind's line. Assumes nothing.
 use Prim.Native.Nat.{ℕ, _≤_, _<_}
 use mathlib.Core.Path.{_≡_, refl, sym, _∙_}
 use mathlib.Core.Bool.{Bool, true, false, cond}
 use mathlib.Core.List.{List, [], _∷_}
 use native.Mathlib.Omega.{arith}
-use lib.Dec.{eqb, leb}
+use lib.Dec.{eqb}
 use lib.ListN.{length}
 use borrow.Author.Tests.{eqb-false, ne-eqb}
 use Rattle.laws.proofs.Lists.{Each, Free}
-use Rattle.event.specs.Kind.{row, lawful, lastPlace}
+use Rattle.event.specs.Kind.{lawful, lastPlace}
 use Rattle.event.specs.declared.Event.{Event}
 use Rattle.event.proofs.Lawful.{code-of}
 use Rattle.text.specs.Field.{fields, onField, onEnd}
@@ -21,14 +21,15 @@ use Rattle.text.proofs.Numbers.{low}
 use Rattle.text.proofs.Parts.{cut-glue, glue-cut}
 use Rattle.text.proofs.Round.{round, read-back, decimal-free}
 use Rattle.text.proofs.Words.{same-eq, same-self}
-use Rattle.record.specs.Layout.{kindWords, orderWords, initWord, wordAt, kindOf, orderOf, hasPlace, hasOrder, hasMark}
-use Rattle.record.specs.Layout.{fieldIf, eventFields, eventLine, initLine}
+use Rattle.record.specs.Layout.{kindWords, orderWords, initWord, wordAt, kindOf, orderOf, shapeOf, parts, fieldIf, there}
+use Rattle.record.specs.Layout.{eventFields, eventLine, initLine}
 use Rattle.record.specs.Record.{lastValue, numberIf, orderIf, lawfulLine, eventRest, initRest, recordOf}
+use Rattle.record.specs.declared.shape.Shape.{Shape}
 use Rattle.record.specs.declared.Record.{Record}
 use Rattle.record.specs.declared.Record.the-variants.{Init, Line, Refused}
 use Rattle.record.proofs.Tables.{word-of, kind-number, order-number, kind-not-init, kind-free, order-free}
 use Rattle.record.proofs.Tables.{init-free as word-free}
-use Rattle.record.proofs.Stands.{Stand, stand-order, stand-words, kind-below, kind-some, the-stand, the-place, no-first, no-second}
+use Rattle.record.proofs.Stands.{Shaped, shaped, stand-order, stand-words}
 
 -- a record's line is read as the record
 number-field : (b : Bool) (max n : ℕ) (fs : List (List ℕ)) (k : ℕ → List (List ℕ) → Record) → n ≤ max → (b ≡ false → n ≡ 0)
@@ -47,76 +48,60 @@ lawful-is : (e : Event) (o c : ℕ) → o ≡ e .order → c ≡ e .code → law
     → lawfulLine (record { kind = e .kind; place = e .place; order = o; first = e .first; second = e .second; code = c }) ≡ Line e
 lawful-is e o c p q h = rw (p, q, h)
 
--- the parts of a line after its word: whether it is there, its field, and how long that is at most
-abbrev pub parts : Event → List (Bool × (List ℕ × ℕ))
-parts e =
-    (hasPlace (row (e .kind) .place), (decimal (e .place), 3))
-    ∷ (hasOrder (row (e .kind) .orders), (wordAt orderWords (e .order), 3))
-    ∷ (leb 1 (row (e .kind) .values), (decimal (e .first), 10))
-    ∷ (leb 2 (row (e .kind) .values), (decimal (e .second), 10))
-    ∷ (hasMark (row (e .kind) .orders), (wordAt orderWords (e .order), 6))
-    ∷ []
-
-abbrev pub there : List (Bool × (List ℕ × ℕ)) → List (List ℕ)
-there [] = []
-there (a ∷ l) = fieldIf (a .0) (a .1 .0) (there l)
-
-pub event-fields : (e : Event) → eventFields e ≡ wordAt kindWords (e .kind) ∷ there (parts e)
-unfolding eventFields
-event-fields e = refl
-
 -- neither TAB nor LF is in a field
 each-if : (P : List ℕ → Type 0) (b : Bool) (f : List ℕ) (fs : List (List ℕ)) → P f → Each P fs → Each P (fieldIf b f fs)
 each-if P true f fs h k = (h, k)
 each-if P false f fs h k = k
 
-each-there : (P : List ℕ → Type 0) (l : List (Bool × (List ℕ × ℕ))) → Each (λ a. P (a .1 .0)) l → Each P (there l)
+each-there : (P : List ℕ → Type 0) (l : List (Bool × List ℕ)) → Each (λ p. P (p .1)) l → Each P (there l)
 each-there P [] h = tt
-each-there P (a ∷ l) h = each-if P (a .0) (a .1 .0) (there l) (h .0) (each-there P l (h .1))
+each-there P (p ∷ l) h = each-if P (p .0) (p .1) (there l) (h .0) (each-there P l (h .1))
 
 number-free : (s : ℕ) → s < 11 → (n : ℕ) → Free s (decimal n)
 number-free s l n = decimal-free s (low s (omega arith)) n
 
-pub event-free : (s : ℕ) → s < 11 → (e : Event) → Each (Free s) (wordAt kindWords (e .kind) ∷ there (parts e))
+pub event-free : (s : ℕ) → s < 11 → (e : Event) → Each (Free s) (eventFields e)
+unfolding eventFields
 event-free s l e =
     let o : Free s (wordAt orderWords (e .order)) = order-free s l (e .order) in (
       kind-free s l (e .kind),
-      each-there (Free s) (parts e)
+      each-there (Free s) (parts (shapeOf (e .kind)) e)
           (number-free s l (e .place), (o, (number-free s l (e .first), (number-free s l (e .second), (o, tt))))),
     )
 
 pub init-free : (s : ℕ) → s < 11 → (p v : ℕ) → Each (Free s) (initWord ∷ decimal p ∷ decimal v ∷ [])
-init-free s l p v = (
-  word-free s l,
-  (number-free s l p, (number-free s l v, tt)),
-)
+init-free s l p v = (word-free s l, (number-free s l p, (number-free s l v, tt)))
 
-rest-read : (e : Event) → lawful e ≡ true → e .first ≤ 4294967295 → e .second ≤ 4294967295 → eventRest (e .kind) (there (parts e)) ≡ Line e
+-- an event of the layout, with values in range
+abbrev pub Fit : Event → Type 0
+Fit e = (lawful e ≡ true) × ((e .first ≤ lastValue) × (e .second ≤ lastValue))
+
+rest-read : (e : Event) → Fit e → eventRest (e .kind) (there (parts (shapeOf (e .kind)) e)) ≡ Line e
 unfolding eventRest
-rest-read e h a b =
-    let o = stand-order (the-stand e h) in
-    number-field _ lastPlace (e .place) _ _ (the-place e h .0) (the-place e h .1)
+rest-read e f =
+    let s = shaped e (f .0) in
+    let o = stand-order (s .stands) in
+    number-field _ lastPlace (e .place) _ _ (s .place) (s .no-place)
     ∙ order-field _ 0 (e .order) _ _ (o .1)
-    ∙ number-field _ lastValue (e .first) _ _ a (no-first e h)
-    ∙ number-field _ lastValue (e .second) _ _ b (no-second e h)
+    ∙ number-field _ lastValue (e .first) _ _ (f .1 .0) (s .no-first)
+    ∙ number-field _ lastValue (e .second) _ _ (f .1 .1) (s .no-second)
     ∙ order-field _ _ (e .order) _ _ (o .1)
-    ∙ lawful-is e _ 0 (o .0) (sym (code-of e h)) h
+    ∙ lawful-is e _ 0 (o .0) (sym (code-of e (f .0))) (f .0)
 
-pub event-read : (e : Event) → lawful e ≡ true → e .first ≤ 4294967295 → e .second ≤ 4294967295 → recordOf (eventLine e) ≡ Line e
-unfolding recordOf eventLine
-event-read e h a b =
-    rw (event-fields e, cut-glue 9 _ _ (event-free 9 (omega arith) e), kind-not-init (e .kind), kind-number (e .kind) (kind-below e h))
-    (rest-read e h a b)
+pub event-read : (e : Event) → Fit e → recordOf (eventLine e) ≡ Line e
+unfolding recordOf eventLine eventFields
+event-read e f =
+    rw (cut-glue 9 _ _ (event-free 9 (omega arith) e), kind-not-init (e .kind), kind-number (e .kind) (shaped e (f .0) .listed)) (rest-read e f)
 
-pub init-read : (p v : ℕ) → p ≤ 255 → v ≤ 4294967295 → (v ≡ 0 → ⊥) → recordOf (initLine p v) ≡ Init p v
+pub init-read : (p v : ℕ) → p ≤ lastPlace → v ≤ lastValue → (v ≡ 0 → ⊥) → recordOf (initLine p v) ≡ Init p v
 unfolding recordOf initLine initRest numberIf
 init-read p v a b z =
     rw (cut-glue 9 _ _ (init-free 9 (omega arith) p v), same-self initWord, round lastPlace p a, round lastValue v b, ne-eqb v 0 z)
 
 -- what a record that was read says of the fields: they are its print, and it is in range
 abbrev pub Says : List (List ℕ) → Record → Type 0
-Says fs (Init p v) = (fs ≡ initWord ∷ decimal p ∷ decimal v ∷ []) × ((p ≤ 255) × ((v ≤ 4294967295) × (v ≡ 0 → ⊥)))
-Says fs (Line e) = (fs ≡ eventFields e) × ((lawful e ≡ true) × ((e .first ≤ 4294967295) × (e .second ≤ 4294967295)))
+Says fs (Init p v) = (fs ≡ initWord ∷ decimal p ∷ decimal v ∷ []) × ((p ≤ lastPlace) × ((v ≤ lastValue) × (v ≡ 0 → ⊥)))
+Says fs (Line e) = (fs ≡ eventFields e) × Fit e
 Says fs Refused = Unit {0}
 
 -- a reading field by field has what all its continuations have
@@ -152,19 +137,20 @@ event-says : (w : List ℕ) (fs : List (List ℕ)) → Says (w ∷ fs) (eventRes
 unfolding eventRest eventFields
 event-says w fs =
     let k : ℕ = kindOf w in
+    let s : Shape = shapeOf k in
     let P : Record → Type 0 = Says (w ∷ fs) in
-    on-number P tt (hasPlace (row k .place)) lastPlace fs _ (λ place fs₁ _ q₁.
-    on-order P tt (hasOrder (row k .orders)) 0 fs₁ _ (λ f fs₂ q₂.
-    on-number P tt (leb 1 (row k .values)) lastValue fs₂ _ (λ a fs₃ p q₃.
-    on-number P tt (leb 2 (row k .values)) lastValue fs₃ _ (λ b fs₄ q q₄.
-    on-order P tt (hasMark (row k .orders)) _ fs₄ _ (λ g fs₅ q₅.
+    on-number P tt (s .place) lastPlace fs _ (λ place fs₁ _ q₁.
+    on-order P tt (s .order) 0 fs₁ _ (λ f fs₂ q₂.
+    on-number P tt (s .first) lastValue fs₂ _ (λ a fs₃ p q₃.
+    on-number P tt (s .second) lastValue fs₃ _ (λ b fs₄ q q₄.
+    on-order P tt (s .mark) _ fs₄ _ (λ g fs₅ q₅.
     on-end P tt fs₅ _ (λ q₆.
-    let o : ℕ = cond (hasMark (row k .orders)) (orderOf g) (cond (hasOrder (row k .orders)) (orderOf f) 0) in
+    let o : ℕ = cond (s .mark) (orderOf g) (cond (s .order) (orderOf f) 0) in
     let e : Event = record { kind = k; place = place; order = o; first = a; second = b; code = 0 } in
     on-if P tt (lawful e) (Line e) Refused (λ h.
-    let t : Stand (hasOrder (row k .orders)) (hasMark (row k .orders)) o = the-stand e h in
-    let i : wordAt kindWords k ≡ w = word-of kindWords w (kind-some e h) in
-    let d = stand-words t f g refl (fieldIf (leb 1 (row k .values)) (decimal a) fs₃) [] in
+    let t : Shaped s e = shaped e h in
+    let i : wordAt kindWords k ≡ w = word-of kindWords w (t .some) in
+    let d = stand-words (t .stands) f g refl (fieldIf (s .first) (decimal a) fs₃) [] in
     (rw (q₁, q₂, q₃, d .0, q₄, q₅, q₆, d .1, i), (h, (p, q))))
     (λ _. tt)))))))
 
@@ -189,19 +175,15 @@ unfolding recordOf
 says l = fields-say (fields l)
 
 -- a line that is read as an event is the event's, and the event is in range
-pub line-says : (l : List ℕ) (e : Event) → recordOf l ≡ Line e
-    → (l ≡ eventLine e) × ((lawful e ≡ true) × ((e .first ≤ 4294967295) × (e .second ≤ 4294967295)))
+pub line-says : (l : List ℕ) (e : Event) → recordOf l ≡ Line e → (l ≡ eventLine e) × Fit e
 unfolding eventLine
 line-says l e h =
     let s : Says (fields l) (Line e) = rw h at (says l) in
     (sym (glue-cut 9 l) ∙ rw (s .0), s .1)
 
-pub line-back : (l : List ℕ) (e : Event) → recordOf l ≡ Line e → l ≡ eventLine e
-line-back l e h = line-says l e h .0
-
 -- a line that is read as a starting value is its line, and the value is in range
 pub init-back : (l : List ℕ) (p v : ℕ) → recordOf l ≡ Init p v
-    → (l ≡ initLine p v) × ((p ≤ 255) × ((v ≤ 4294967295) × (v ≡ 0 → ⊥)))
+    → (l ≡ initLine p v) × ((p ≤ lastPlace) × ((v ≤ lastValue) × (v ≡ 0 → ⊥)))
 unfolding initLine
 init-back l p v h =
     let s : Says (fields l) (Init p v) = rw h at (says l) in

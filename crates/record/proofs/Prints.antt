@@ -1,4 +1,4 @@
--- A line that is the print of a record has no LF, and it has at most 33 bytes, of a starting value 19. Assumes nothing.
+-- A line that is the print of a record has no LF, and it is short: the longest is an `rmw` or an `add` with every field full. Assumes nothing.
 use Prim.Native.Nat.{ℕ, zero, suc, _+_, _/_, _^_, _≤_, _<_}
 use mathlib.Core.Path.{_≡_, refl}
 use mathlib.Core.Bool.{Bool, true, false, cond}
@@ -9,15 +9,17 @@ use lib.Dec.{leb}
 use lib.ListN.{length, length-append}
 use borrow.Author.Tests.{leb-true}
 use Rattle.laws.proofs.Lists.{Each, Free, each-append}
-use Rattle.event.specs.Kind.{row, lawful}
+use Rattle.event.specs.Kind.{row, rlx, lastPlace}
+use Rattle.event.specs.Kind.{fields as event}
 use Rattle.event.specs.declared.Event.{Event}
 use Rattle.text.specs.Cut.{glue}
 use Rattle.text.specs.Number.{decimal}
 use Rattle.text.proofs.Decimals.{length-some, length-more, length-below}
-use Rattle.record.specs.Layout.{kindWords, initWord, wordAt, fieldIf, eventLine, initLine}
+use Rattle.record.specs.Layout.{kindWords, initWord, wordAt, shapeOf, parts, fieldIf, there, eventFields, eventLine, initLine}
+use Rattle.record.specs.Record.{lastValue}
 use Rattle.record.proofs.Tables.{each-to}
-use Rattle.record.proofs.Stands.{stand-length, kind-below, the-stand, the-place}
-use Rattle.record.proofs.Layouts.{parts, there, event-fields, event-free, init-free}
+use Rattle.record.proofs.Stands.{orderMost, markMost, stand-length, shaped}
+use Rattle.record.proofs.Layouts.{Fit, event-free, init-free}
 
 glue-free : (s u : ℕ) → (s ≡ u → ⊥) → (ps : List (List ℕ)) → Each (Free u) ps → Free u (glue s ps)
 unfolding glue
@@ -27,7 +29,7 @@ glue-free s u n (p ∷ q ∷ ps) h = each-append _ p (s ∷ glue s (q ∷ ps)) (
 
 pub event-no-lf : (e : Event) → Free 10 (eventLine e)
 unfolding eventLine
-event-no-lf e = rw (event-fields e) (glue-free 9 10 (λ z. omega arith) _ (event-free 10 (omega arith) e))
+event-no-lf e = glue-free 9 10 (λ z. omega arith) _ (event-free 10 (omega arith) e)
 
 pub init-no-lf : (p v : ℕ) → Free 10 (initLine p v)
 unfolding initLine
@@ -43,50 +45,81 @@ unfolding glue
 glue-size s p [] = omega arith
 glue-size s p (q ∷ ps) = omega (arith, length-append p (s ∷ glue s (q ∷ ps)), glue-size s q ps)
 
--- how many there are at most
-abbrev cost : List (Bool × (List ℕ × ℕ)) → ℕ
-cost [] = 0
-cost (a ∷ l) = cond (a .0) (suc (a .1 .1)) 0 + cost l
+-- the digits of a place and of a value, at most
+abbrev placeMost : ℕ
+placeMost = 3
+
+abbrev valueMost : ℕ
+valueMost = 10
+
+place-length : (n : ℕ) → n ≤ lastPlace → length (decimal n) ≤ placeMost
+place-length n h = length-below 2 n (omega arith)
+
+value-length : (n : ℕ) → n ≤ lastValue → length (decimal n) ≤ valueMost
+value-length n h = length-below 9 n (omega arith)
+
+-- the bytes of each field after the word, at most
+abbrev mosts : List ℕ
+mosts = placeMost ∷ orderMost ∷ valueMost ∷ valueMost ∷ markMost ∷ []
+
+abbrev Within : List (Bool × List ℕ) → List ℕ → Type 0
+Within [] ns = Unit {0}
+Within (p ∷ ps) [] = ⊥
+Within (p ∷ ps) (n ∷ ns) = (p .0 ≡ true → length (p .1) ≤ n) × Within ps ns
+
+-- so many bytes have the fields that are there, each with one after it, at most
+abbrev cost : List (Bool × List ℕ) → List ℕ → ℕ
+cost [] ns = 0
+cost (p ∷ ps) [] = 0
+cost (p ∷ ps) (n ∷ ns) = cond (p .0) (suc n) 0 + cost ps ns
 
 size-if : (b : Bool) (f : List ℕ) (fs : List (List ℕ)) (n m : ℕ) → (b ≡ true → length f ≤ n) → size fs ≤ m
     → size (fieldIf b f fs) ≤ cond b (suc n) 0 + m
 size-if true f fs n m h k = let i = h refl in omega arith
 size-if false f fs n m h k = omega arith
 
-size-there : (l : List (Bool × (List ℕ × ℕ))) → Each (λ a. a .0 ≡ true → length (a .1 .0) ≤ a .1 .1) l → size (there l) ≤ cost l
-size-there [] h = omega arith
-size-there (a ∷ l) h = size-if (a .0) (a .1 .0) (there l) (a .1 .1) (cost l) (h .0) (size-there l (h .1))
+size-there : (ps : List (Bool × List ℕ)) (ns : List ℕ) → Within ps ns → size (there ps) ≤ cost ps ns
+size-there [] ns h = omega arith
+size-there (p ∷ ps) [] h = absurd h
+size-there (p ∷ ps) (n ∷ ns) h = size-if (p .0) (p .1) (there ps) n (cost ps ns) (h .0) (size-there ps ns (h .1))
 
-three : (n : ℕ) → n ≤ 255 → length (decimal n) ≤ 3
-three n h = length-below 2 n (omega arith)
+-- the length of the longest line of an event, and of a starting value
+abbrev pub longestEvent : ℕ
+longestEvent = 33
 
-ten : (n : ℕ) → n ≤ 4294967295 → length (decimal n) ≤ 10
-ten n h = length-below 9 n (omega arith)
+abbrev pub longestInit : ℕ
+longestInit = 19
 
--- the longest is that of an `rmw` or an `add`
-abbrev of-kind : ℕ → Event
-of-kind k = record { kind = k; place = 0; order = 0; first = 0; second = 0; code = 0 }
-
+-- the bytes of a kind's line with its LF, at most
 abbrev most : ℕ → ℕ
-most k = suc (length (wordAt kindWords k)) + cost (parts (of-kind k))
+most k = suc (length (wordAt kindWords k)) + cost (parts (shapeOf k) (event k 0 0 0 0)) mosts
 
-kind-cost : (k : ℕ) → k ≤ length kindWords → most k ≤ 34
+kind-cost : (k : ℕ) → k ≤ length kindWords → most k ≤ suc longestEvent
 unfolding row
-kind-cost k h = leb-true _ _ (each-to (λ n. leb (most n) 34) (length kindWords) refl k h)
+kind-cost k h = leb-true _ _ (each-to (λ n. leb (most n) (suc longestEvent)) (length kindWords) refl k h)
 
-pub event-length : (e : Event) → lawful e ≡ true → e .first ≤ 4294967295 → e .second ≤ 4294967295 → length (eventLine e) ≤ 33
-unfolding eventLine
-event-length e h a b =
-    let o = stand-length (the-stand e h) in
-    let w : List ℕ = wordAt kindWords (e .kind) in
-    let s : size (there (parts e)) ≤ cost (parts e) =
-    size-there (parts e)
-    ((λ _. three (e .place) (the-place e h .0)), (o .0, ((λ _. ten (e .first) a), ((λ _. ten (e .second) b), ((λ _. o .1), tt))))) in
-    rw (event-fields e) (omega (arith, s, glue-size 9 w (there (parts e)), kind-cost (e .kind) (kind-below e h)))
+pub event-length : (e : Event) → Fit e → length (eventLine e) ≤ longestEvent
+unfolding eventLine eventFields
+event-length e f =
+    let s = shaped e (f .0) in
+    let o = stand-length (s .stands) in
+    let ps : List (Bool × List ℕ) = parts (shapeOf (e .kind)) e in
+    let n : size (there ps) ≤ cost ps mosts =
+    size-there ps mosts (
+      (λ _. place-length (e .place) (s .place)),
+      (
+        o .0,
+        (
+          (λ _. value-length (e .first) (f .1 .0)),
+          ((λ _. value-length (e .second) (f .1 .1)), ((λ _. o .1), tt)),
+        ),
+      ),
+    ) in
+    omega (arith, n, glue-size 9 (wordAt kindWords (e .kind)) (there ps), kind-cost (e .kind) (s .listed))
 
-pub init-length : (p v : ℕ) → p ≤ 255 → v ≤ 4294967295 → length (initLine p v) ≤ 19
+pub init-length : (p v : ℕ) → p ≤ lastPlace → v ≤ lastValue → length (initLine p v) ≤ longestInit
 unfolding initLine
-init-length p v a b = omega (arith, glue-size 9 initWord (decimal p ∷ decimal v ∷ []), three p a, ten v b)
+init-length p v a b = omega (arith, glue-size 9 initWord (decimal p ∷ decimal v ∷ []), place-length p a, value-length v b)
 
 -- both are reached
 least : (k n : ℕ) → 10 ^ k ≤ n → k < length (decimal n)
@@ -96,16 +129,18 @@ least (suc k) n h =
     let z : 0 < 10 ^ k = one-le-pow k 10 (omega arith) in
     omega (arith, length-more n (omega arith), least k (n / 10) (omega arith))
 
-digits : (length (decimal 255) ≡ 3) × (length (decimal 4294967295) ≡ 10)
-digits = omega (arith, three 255 (omega arith), least 2 255 (omega arith), ten 4294967295 (omega arith), least 9 4294967295 (omega arith))
+digits : (length (decimal lastPlace) ≡ placeMost) × (length (decimal lastValue) ≡ valueMost)
+digits =
+    omega
+    (arith, place-length lastPlace (omega arith), least 2 lastPlace (omega arith), value-length lastValue (omega arith), least 9 lastValue (omega arith))
 
 abbrev longest : Event
-longest = record { kind = 5; place = 255; order = 1; first = 4294967295; second = 4294967295; code = 0 }
+longest = event 5 lastPlace rlx lastValue lastValue
 
-pub event-longest : length (eventLine longest) ≡ 33
-unfolding eventLine row
-event-longest = rw (event-fields longest) (omega (arith, glue-size 9 (wordAt kindWords 5) (there (parts longest)), digits))
+pub event-longest : length (eventLine longest) ≡ longestEvent
+unfolding eventLine eventFields row
+event-longest = omega (arith, glue-size 9 (wordAt kindWords 5) (there (parts (shapeOf 5) longest)), digits)
 
-pub init-longest : length (initLine 255 4294967295) ≡ 19
+pub init-longest : length (initLine lastPlace lastValue) ≡ longestInit
 unfolding initLine
-init-longest = omega (arith, glue-size 9 initWord (decimal 255 ∷ decimal 4294967295 ∷ []), digits)
+init-longest = omega (arith, glue-size 9 initWord (decimal lastPlace ∷ decimal lastValue ∷ []), digits)

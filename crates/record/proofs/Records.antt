@@ -3,7 +3,7 @@ use Prim.Native.Nat.{ℕ, _≤_}
 use mathlib.Core.Path.{_≡_, refl}
 use mathlib.Core.Bool.{true}
 use mathlib.Core.List.{List, []}
-use Rattle.event.specs.Kind.{row, lawful, takes}
+use Rattle.event.specs.Kind.{row, lastPlace, lawful, takes}
 use Rattle.event.specs.declared.Event.{Event}
 use Rattle.text.specs.Cut.{cut}
 use Rattle.text.specs.Word.{same}
@@ -20,5 +20,5 @@ blank = refl
 pub line-lawful : (l : List ℕ) (e : Event) → recordOf l ≡ Line e → lawful e ≡ true
 line-lawful l e h = line-says l e h .1 .0
 
-pub init-place : (l : List ℕ) (p v : ℕ) → recordOf l ≡ Init p v → p ≤ 255
+pub init-place : (l : List ℕ) (p v : ℕ) → recordOf l ≡ Init p v → p ≤ lastPlace
 init-place l p v h = init-back l p v h .1 .0

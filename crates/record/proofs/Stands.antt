@@ -1,4 +1,4 @@
--- What a lawful event's fields are, over the flags of its kind's row: where its order stands, and which of its fields are 0. Assumes nothing.
+-- What a lawful event's fields are, by the shape of its kind's line: where its order stands, and which of them are 0. Assumes nothing.
 use Prim.Native.Nat.{ℕ, suc, _≤_, _<_}
 use mathlib.Core.Path.{_≡_, refl, sym, _∙_}
 use mathlib.Core.Bool.{Bool, true, false, cond, _&&_, _||_, not, false≢true}
@@ -16,7 +16,8 @@ use Rattle.event.specs.declared.kind.Orders.the-variants.{Bare, Marks, Reads, W
 use Rattle.event.specs.declared.kind.Place.{Place}
 use Rattle.event.specs.declared.kind.Place.the-variants.{Location, Mutex, Nowhere}
 use Rattle.event.proofs.Lawful.{order-of, place-of, values-of}
-use Rattle.record.specs.Layout.{kindWords, orderWords, wordAt, orderOf, hasPlace, hasOrder, hasMark, fieldIf}
+use Rattle.record.specs.Layout.{kindWords, orderWords, wordAt, orderOf, hasPlace, hasOrder, hasMark, shapeOf, fieldIf}
+use Rattle.record.specs.declared.shape.Shape.{Shape}
 use Rattle.record.proofs.Tables.{word-of, every}
 
 -- the number of a word that has at most n letters
@@ -86,18 +87,18 @@ stand-words (ahead n) f g e fs gs = (rw (e, word-of orderWords f (λ z. n .some 
 stand-words (behind n) f g e fs gs = (refl, rw (e, word-of orderWords g (λ z. n .some (e ∙ z))))
 stand-words nowhere f g e fs gs = (refl, refl)
 
--- a number that is no kind's has the row of none
+-- a number that is no kind's has the row of none, which takes no order
 outside : (k : ℕ) → length kindWords < k → row k ≡ noKind
 unfolding row
 outside k h = List·getD-eq-default rows noKind h
 
-no-kind : (k o : ℕ) → row k ≡ noKind → takes (row k .orders) o ≡ true → ⊥
-unfolding takes
-no-kind k o e h = false≢true (rw e at h)
-
 zero-kind : row 0 ≡ noKind
 unfolding row
 zero-kind = refl
+
+no-kind : (k o : ℕ) → row k ≡ noKind → takes (row k .orders) o ≡ true → ⊥
+unfolding takes
+no-kind k o e h = false≢true (rw e at h)
 
 place-fits : (p : Place) (n : ℕ) → fitsPlace p n ≡ true → (n ≤ lastPlace) × (hasPlace p ≡ false → n ≡ 0)
 place-fits Location n h = (leb-true n lastPlace h, λ e. absurd (false≢true (sym e)))
@@ -108,25 +109,29 @@ or-second : (a b : Bool) → (a || b) ≡ true → a ≡ false → b ≡ true
 or-second false b h e = h
 or-second true b h e = absurd (false≢true (sym e))
 
-module _ (e : Event) (h : lawful e ≡ true) where
-  pub kind-below : e .kind ≤ length kindWords
-  kind-below =
-      cases (side (e .kind) (suc (length kindWords))) (λ p. omega arith)
-      (λ p. absurd (no-kind (e .kind) (e .order) (outside (e .kind) p) (order-of e h)))
+-- an event whose fields are those of a shape: the kind has a word, the order stands in its place, and what is not there is 0
+pub record Shaped (s : Shape) (e : Event) : Type 0 where
+  pub some : e .kind ≡ 0 → ⊥
+  pub listed : e .kind ≤ length kindWords
+  pub stands : Stand (s .order) (s .mark) (e .order)
+  pub place : e .place ≤ lastPlace
+  pub no-place : s .place ≡ false → e .place ≡ 0
+  pub no-first : s .first ≡ false → e .first ≡ 0
+  pub no-second : s .second ≡ false → e .second ≡ 0
 
-  pub kind-some : e .kind ≡ 0 → ⊥
-  kind-some z = no-kind (e .kind) (e .order) (rw z zero-kind) (order-of e h)
-
-  pub the-stand : Stand (hasOrder (row (e .kind) .orders)) (hasMark (row (e .kind) .orders)) (e .order)
-  the-stand = stand (row (e .kind) .orders) (e .order) (order-of e h)
-
-  pub the-place : (e .place ≤ lastPlace) × (hasPlace (row (e .kind) .place) ≡ false → e .place ≡ 0)
-  the-place = place-fits (row (e .kind) .place) (e .place) (place-of e h)
-
-  pub no-first : leb 1 (row (e .kind) .values) ≡ false → e .first ≡ 0
-  no-first l = eqb-true _ _ (or-second (leb 1 (row (e .kind) .values)) _ (and-left _ _ (values-of e h)) l)
-
-  pub no-second : leb 2 (row (e .kind) .values) ≡ false → e .second ≡ 0
-  no-second l =
-      eqb-true _ _
-      (or-second (leb 2 (row (e .kind) .values)) _ (and-right (leb 1 (row (e .kind) .values) || eqb (e .first) 0) _ (values-of e h)) l)
+pub shaped : (e : Event) → lawful e ≡ true → Shaped (shapeOf (e .kind)) e
+shaped e h =
+    let n : ℕ = row (e .kind) .values in
+    let o = order-of e h in
+    let p = place-fits (row (e .kind) .place) (e .place) (place-of e h) in
+    let v = values-of e h in
+    record {
+      some = λ z. no-kind (e .kind) (e .order) (rw z zero-kind) o;
+      listed =
+          cases (side (e .kind) (suc (length kindWords))) (λ q. omega arith) (λ q. absurd (no-kind (e .kind) (e .order) (outside (e .kind) q) o));
+      stands = stand (row (e .kind) .orders) (e .order) o;
+      place = p .0;
+      no-place = p .1;
+      no-first = λ l. eqb-true _ _ (or-second (leb 1 n) _ (and-left _ _ v) l);
+      no-second = λ l. eqb-true _ _ (or-second (leb 2 n) _ (and-right (leb 1 n || eqb (e .first) 0) _ v) l);
+    }

@@ -1,7 +1,7 @@
 -- What a field that a line has or has not, taken at a place, says of the line's record, whatever is read of it next. Where none could be
 -- taken the record is refused. Assumes nothing.
-use Prim.Native.Nat.{ℕ, _≤_}
-use mathlib.Core.Path.{_≡_, refl}
+use Prim.Native.Nat.{ℕ}
+use mathlib.Core.Path.{_≡_, refl, sym, _∙_}
 use mathlib.Core.Bool.{Bool, true, false}
 use mathlib.Core.List.{List}
 use native.Mathlib.Omega.{arith}
@@ -12,9 +12,10 @@ use Rattle.text.specs.declared.field.FieldStep.the-variants.{Field, LineEnd}
 use Rattle.text.specs.declared.take.Taken.{Taken}
 use Rattle.text.specs.declared.take.Taken.the-variants.{Number, Bad as NoNumber}
 use Rattle.text.proofs.Fields.{field-step, line-end}
-use Rattle.text.proofs.Takes.{took, bad, taken-le}
+use Rattle.text.proofs.Takes.{took, bad}
 use Rattle.record.specs.Part.{onTaken, onOrder, numberPart, orderPart}
 use Rattle.record.specs.Record.{numberIf, orderIf}
+use Rattle.record.specs.declared.part.Part.{Part}
 use Rattle.record.specs.declared.part.Part.the-variants.{Given, Bad}
 use Rattle.record.specs.declared.Record.{Record}
 use Rattle.record.specs.declared.Record.the-variants.{Refused}
@@ -26,28 +27,22 @@ module _ (l : List ℕ) (at : ℕ) where
     taken NoNumber q h = absurd (let z : _≡_ {A = ℕ} 0 1 = cc in omega arith)
 
     -- a number that was given, or 0, is read, and the reading goes on from the next place
-    pub number-given : (w : Bool) → numberPart w l at max ≡ Given n e → (k : ℕ → List (List ℕ) → Record)
+    pub number-given : (w : Bool) {r : Part} → r ≡ numberPart w l at max → r ≡ Given n e → (k : ℕ → List (List ℕ) → Record)
         → numberIf w max (fieldsFrom l at) k ≡ k n (fieldsFrom l e)
     unfolding numberPart numberIf
-    number-given false h k = cc
-    number-given true h k = took l at max n e (taken (takeNumber l at max) refl h) Refused k
-
-    -- it is at most the limit
-    pub number-within : (w : Bool) → numberPart w l at max ≡ Given n e → n ≤ max
-    unfolding numberPart
-    number-within false h = let z : n ≡ 0 = cc in omega arith
-    number-within true h = taken-le l at max n e (taken (takeNumber l at max) refl h)
+    number-given false g h k = cc
+    number-given true g h k = took l at max n e (taken (takeNumber l at max) refl (sym g ∙ h)) Refused k
 
   not-taken : (max : ℕ) (t : Taken) → takeNumber l at max ≡ t → onTaken t ≡ Bad → takeNumber l at max ≡ NoNumber
   not-taken max (Number m i) q h = absurd (let z : _≡_ {A = ℕ} 0 1 = cc in omega arith)
   not-taken max NoNumber q h = q
 
   -- no number could be taken
-  pub number-refused : (max : ℕ) (w : Bool) → numberPart w l at max ≡ Bad → (k : ℕ → List (List ℕ) → Record)
+  pub number-refused : (max : ℕ) (w : Bool) {r : Part} → r ≡ numberPart w l at max → r ≡ Bad → (k : ℕ → List (List ℕ) → Record)
       → numberIf w max (fieldsFrom l at) k ≡ Refused
   unfolding numberPart numberIf
-  number-refused max false h k = absurd (let z : _≡_ {A = ℕ} 0 1 = cc in omega arith)
-  number-refused max true h k = bad l at max Refused k (not-taken max (takeNumber l at max) refl h)
+  number-refused max false g h k = absurd (let z : _≡_ {A = ℕ} 0 1 = cc in omega arith)
+  number-refused max true g h k = bad l at max Refused k (not-taken max (takeNumber l at max) refl (sym g ∙ h))
 
   ordered : (o n e : ℕ) (s : FieldStep) → fieldAt l at ≡ s → onOrder l s ≡ Given n e → (k : ℕ → List (List ℕ) → Record)
       → orderIf true o (fieldsFrom l at) k ≡ k n (fieldsFrom l e)
@@ -56,11 +51,11 @@ module _ (l : List ℕ) (at : ℕ) where
   ordered o n e LineEnd q h k = absurd (let z : _≡_ {A = ℕ} 0 1 = cc in omega arith)
 
   -- an order or a mark that was given, or the one in hand, is read, and the reading goes on from the next place
-  pub order-given : (o n e : ℕ) (w : Bool) → orderPart w l at o ≡ Given n e → (k : ℕ → List (List ℕ) → Record)
+  pub order-given : (o n e : ℕ) (w : Bool) {r : Part} → r ≡ orderPart w l at o → r ≡ Given n e → (k : ℕ → List (List ℕ) → Record)
       → orderIf w o (fieldsFrom l at) k ≡ k n (fieldsFrom l e)
   unfolding orderPart orderIf
-  order-given o n e false h k = cc
-  order-given o n e true h k = ordered o n e (fieldAt l at) refl h k
+  order-given o n e false g h k = cc
+  order-given o n e true g h k = ordered o n e (fieldAt l at) refl (sym g ∙ h) k
 
   not-ordered : (o : ℕ) (s : FieldStep) → fieldAt l at ≡ s → onOrder l s ≡ Bad → (k : ℕ → List (List ℕ) → Record)
       → orderIf true o (fieldsFrom l at) k ≡ Refused
@@ -69,8 +64,8 @@ module _ (l : List ℕ) (at : ℕ) where
   not-ordered o LineEnd q h k = rw (line-end l at q)
 
   -- the line has no field there
-  pub order-refused : (o : ℕ) (w : Bool) → orderPart w l at o ≡ Bad → (k : ℕ → List (List ℕ) → Record)
+  pub order-refused : (o : ℕ) (w : Bool) {r : Part} → r ≡ orderPart w l at o → r ≡ Bad → (k : ℕ → List (List ℕ) → Record)
       → orderIf w o (fieldsFrom l at) k ≡ Refused
   unfolding orderPart orderIf
-  order-refused o false h k = absurd (let z : _≡_ {A = ℕ} 0 1 = cc in omega arith)
-  order-refused o true h k = not-ordered o (fieldAt l at) refl h k
+  order-refused o false g h k = absurd (let z : _≡_ {A = ℕ} 0 1 = cc in omega arith)
+  order-refused o true g h k = not-ordered o (fieldAt l at) refl (sym g ∙ h) k

@@ -10,6 +10,7 @@ use Rattle.event.specs.declared.kind.Orders.{Orders}
 use Rattle.event.specs.declared.kind.Orders.the-variants.{Bare, Marks, Reads, Writes, Updates, Fences, NoKind}
 use Rattle.event.specs.declared.kind.Place.{Place}
 use Rattle.event.specs.declared.kind.Place.the-variants.{Location, Mutex, Nowhere}
+use Rattle.record.specs.declared.shape.Shape.{Shape}
 use Rattle.text.specs.Field.{join}
 use Rattle.text.specs.Number.{decimal}
 use Rattle.text.specs.Word.{bytes, same}
@@ -88,21 +89,39 @@ hasMark Updates = false
 hasMark Fences = false
 hasMark NoKind = false
 
+-- Which fields the line of a kind has after its word.
+abbrev pub shapeOf : ℕ → Shape
+shapeOf k = record {
+  place = hasPlace (row k .place);
+  order = hasOrder (row k .orders);
+  first = leb 1 (row k .values);
+  second = leb 2 (row k .values);
+  mark = hasMark (row k .orders);
+}
+
+-- The fields of an event's line after its word, each with whether it is there: its place, its order, its values, its mark.
+abbrev pub parts : Shape → Event → List (Bool × List ℕ)
+parts s e =
+    (s .place, decimal (e .place))
+    ∷ (s .order, wordAt orderWords (e .order))
+    ∷ (s .first, decimal (e .first))
+    ∷ (s .second, decimal (e .second))
+    ∷ (s .mark, wordAt orderWords (e .order))
+    ∷ []
+
 -- A field that is there or not.
 abbrev pub fieldIf : Bool → List ℕ → List (List ℕ) → List (List ℕ)
 fieldIf true f fs = f ∷ fs
 fieldIf false f fs = fs
 
--- The fields of an event's line: its word, its place, its order, its values, its mark.
+-- The fields that are there.
+abbrev pub there : List (Bool × List ℕ) → List (List ℕ)
+there [] = []
+there (p ∷ ps) = fieldIf (p .0) (p .1) (there ps)
+
+-- The fields of an event's line.
 unfoldable pub eventFields : Event → List (List ℕ)
-eventFields e =
-    wordAt kindWords (e .kind)
-    ∷ fieldIf (hasPlace (row (e .kind) .place)) (decimal (e .place))
-    (fieldIf (hasOrder (row (e .kind) .orders)) (wordAt orderWords (e .order))
-    (fieldIf (leb 1 (row (e .kind) .values)) (decimal (e .first))
-    (fieldIf (leb 2 (row (e .kind) .values)) (decimal (e .second))
-    (fieldIf (hasMark (row (e .kind) .orders)) (wordAt orderWords (e .order))
-    []))))
+eventFields e = wordAt kindWords (e .kind) ∷ there (parts (shapeOf (e .kind)) e)
 
 unfoldable pub eventLine : Event → List ℕ
 eventLine e = join (eventFields e)

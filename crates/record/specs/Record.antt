@@ -2,14 +2,14 @@
 use Prim.Native.Nat.{ℕ}
 use mathlib.Core.Bool.{Bool, true, false, cond}
 use mathlib.Core.List.{List}
-use lib.Dec.{eqb, leb}
-use Rattle.event.specs.Kind.{row, lastPlace, lawful}
+use lib.Dec.{eqb}
+use Rattle.event.specs.Kind.{lastPlace, lawful}
 use Rattle.event.specs.Kind.{fields as event}
 use Rattle.event.specs.declared.Event.{Event}
 use Rattle.text.specs.Field.{fields, onField, onEnd}
 use Rattle.text.specs.Number.{numberOf, onNumber}
 use Rattle.text.specs.Word.{same}
-use Rattle.record.specs.Layout.{initWord, kindOf, orderOf, hasPlace, hasOrder, hasMark}
+use Rattle.record.specs.Layout.{initWord, kindOf, orderOf, shapeOf}
 use Rattle.record.specs.declared.Record.{Record}
 use Rattle.record.specs.declared.Record.the-variants.{Init, Line, Refused}
 
@@ -34,11 +34,11 @@ lawfulLine e = cond (lawful e) (Line e) Refused
 -- An event's line, after its word: place, order, values, mark, and nothing more.
 unfoldable pub eventRest : ℕ → List (List ℕ) → Record
 eventRest kind fs =
-    numberIf (hasPlace (row kind .place)) lastPlace fs (λ place fs₁.
-    orderIf (hasOrder (row kind .orders)) 0 fs₁ (λ order fs₂.
-    numberIf (leb 1 (row kind .values)) lastValue fs₂ (λ first fs₃.
-    numberIf (leb 2 (row kind .values)) lastValue fs₃ (λ second fs₄.
-    orderIf (hasMark (row kind .orders)) order fs₄ (λ mark fs₅.
+    numberIf (shapeOf kind .place) lastPlace fs (λ place fs₁.
+    orderIf (shapeOf kind .order) 0 fs₁ (λ order fs₂.
+    numberIf (shapeOf kind .first) lastValue fs₂ (λ first fs₃.
+    numberIf (shapeOf kind .second) lastValue fs₃ (λ second fs₄.
+    orderIf (shapeOf kind .mark) order fs₄ (λ mark fs₅.
     onEnd Refused fs₅ (lawfulLine (event kind place mark first second)))))))
 
 -- An `init` line, after its word: location, value, and nothing more; the value is never 0.

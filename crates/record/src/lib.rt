@@ -1,5 +1,6 @@
 // What a line of a trace is: a starting value, an event, or not of the layout. Its fields come through the small reader.
 pub mod part;
+pub mod shape;
 pub mod word;
 
 ghost use mathlib.Core.Path.{_≡_};
@@ -8,18 +9,15 @@ ghost use Rattle.record.specs.Record.{eventRest, initRest, recordOf};
 use event::Event;
 use event::Word;
 use event::kind::LAST_PLACE;
-use event::kind::row_of;
 use event::kind::suits;
 use part::Part;
 use part::number_if;
 use part::order_if;
+use shape::shape_of;
 use text::field::FieldStep;
 use text::reader::field_of;
 use text::take::ends_at;
 use text::word::same_bytes;
-use word::has_mark;
-use word::has_order;
-use word::has_place;
 use word::kind_of;
 
 // The greatest value.
@@ -59,40 +57,36 @@ fn init_rest(line: &[u8], at: usize) -> Record
 fn event_rest(kind: Word, line: &[u8], at: usize) -> Record
     ensures { λ r. ⌜ r ≡ eventRest kind (fieldsFrom (now (line .entry)) at) ⌝ }
 {
-    let row = row_of(kind);
-    let orders = row.orders;
-    let located = row.place;
-    let values = row.values;
+    let shape = shape_of(kind);
     let Part::Given {
         value: place,
         next: after_place,
-    } = number_if(has_place(located), line, at, LAST_PLACE)
+    } = number_if(shape.place, line, at, LAST_PLACE)
     else {
         return Record::Refused;
     };
     let Part::Given {
         value: order,
         next: after_order,
-    } = order_if(has_order(orders), line, after_place, 0)
+    } = order_if(shape.order, line, after_place, 0)
     else {
         return Record::Refused;
     };
     let Part::Given {
         value: first,
         next: after_first,
-    } = number_if(1 <= values, line, after_order, LAST_VALUE)
+    } = number_if(shape.first, line, after_order, LAST_VALUE)
     else {
         return Record::Refused;
     };
     let Part::Given {
         value: second,
         next: after_second,
-    } = number_if(2 <= values, line, after_first, LAST_VALUE)
+    } = number_if(shape.second, line, after_first, LAST_VALUE)
     else {
         return Record::Refused;
     };
-    let Part::Given { value: mark, next } = order_if(has_mark(orders), line, after_second, order)
-    else {
+    let Part::Given { value: mark, next } = order_if(shape.mark, line, after_second, order) else {
         return Record::Refused;
     };
     if !ends_at(line, next) {

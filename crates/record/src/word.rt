@@ -4,10 +4,8 @@ ghost use Prim.Native.Nat.{_<_};
 ghost use mathlib.Core.List.{map};
 ghost use lib.ListN.{length, drop};
 ghost use Rattle.record.specs.Table.{wordIn};
-ghost use Rattle.record.specs.Layout.{numberIn, kindOf, orderOf, hasPlace, hasOrder, hasMark};
+ghost use Rattle.record.specs.Layout.{numberIn, kindOf, orderOf};
 use event::Word;
-use event::kind::Orders;
-use event::kind::Place;
 use text::word::same_bytes;
 
 // The bytes of a row of a table of words: the word's length, the word, and blanks. A word's number is its row; row 0 has none.
@@ -75,45 +73,4 @@ pub(crate) fn order_of(word: &[u8]) -> Word
     ensures { λ r. ⌜ r ≡ orderOf (now (word .entry)) ⌝ }
 {
     number_in(&ORDER_WORDS, word)
-}
-
-// Whether a line of such a place has it as a field.
-pub fn has_place(place: Place) -> bool
-    ensures { λ r. ⌜ r ≡ hasPlace place ⌝ }
-{
-    match place {
-        Place::Location => true,
-        Place::Mutex => true,
-        Place::Nowhere => false,
-    }
-}
-
-// Whether a line with such orders has an order before its values.
-pub fn has_order(orders: Orders) -> bool
-    ensures { λ r. ⌜ r ≡ hasOrder orders ⌝ }
-{
-    match orders {
-        Orders::Bare => false,
-        Orders::Marks => false,
-        Orders::Reads => true,
-        Orders::Writes => true,
-        Orders::Updates => true,
-        Orders::Fences => true,
-        Orders::NoKind => false,
-    }
-}
-
-// Whether it has a mark after them.
-pub fn has_mark(orders: Orders) -> bool
-    ensures { λ r. ⌜ r ≡ hasMark orders ⌝ }
-{
-    match orders {
-        Orders::Bare => false,
-        Orders::Marks => true,
-        Orders::Reads => false,
-        Orders::Writes => false,
-        Orders::Updates => false,
-        Orders::Fences => false,
-        Orders::NoKind => false,
-    }
 }

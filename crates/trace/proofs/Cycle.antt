@@ -20,10 +20,12 @@ use Rattle.event.specs.declared.Event.{Event}
 use Rattle.event.specs.declared.memory.Memory.{Memory}
 use Rattle.event.proofs.Rooms.{flat-length, onward-flat}
 use Rattle.trace.specs.Fault.{clashes, eventFault}
-use Rattle.trace.specs.Reading.{surveyOf, eventsOf, roomAfter}
+use Rattle.trace.specs.Reading.{eventLimit, surveyOf, eventsOf, roomAfter}
 use Rattle.trace.specs.Writing.{countOf, roomEvents, layoutFault, traceText, roomFault, bytesOf, inOut, writeOf, outAfter}
 use Rattle.trace.proofs.OneText.{first-done, text-whole, written-read}
-use Rattle.trace.proofs.Range.{Fit, Valued, Fits}
+use Rattle.record.specs.Record.{lastValue}
+use Rattle.record.proofs.Layouts.{Fit}
+use Rattle.trace.proofs.Range.{places, Valued, Fits, onward-length, room-fits}
 use Rattle.trace.proofs.ReadBack.{read-written}
 use Rattle.trace.proofs.Readings.{counts, read-done}
 
@@ -37,58 +39,31 @@ fault-none side side′ k k′ m before (e ∷ es) h =
     let r = not-second (λ (x : Answer). x .number) (stepped m e .right) _ (answer 6 side k) (λ z. omega arith) (c .1) in
     rw (c .0, r .0) (fault-none side side′ (k + 1) (k′ + 1) (stepped m e .memory) (e ∷ before) es (r .1))
 
--- 18 is not found exactly where each event is lawful
-layout-lawful : (k : ℕ) (es : List Event) → layoutFault k es .number ≡ 0 → Each (λ e. lawful e ≡ true) es
-unfolding layoutFault
-layout-lawful k [] h = tt
-layout-lawful k (e ∷ es) h =
-    let l = not-second (λ (x : Answer). x .number) (lawful e) (layoutFault (k + 1) es) (answer 18 0 k) (λ z. omega arith) h in
-    (l .0, layout-lawful (k + 1) es (l .1))
-
+-- 18 is not found where each event is lawful
 layout-done : (k : ℕ) (es : List Event) → Each Fit es → layoutFault k es ≡ done
 unfolding layoutFault
 layout-done k [] h = refl
 layout-done k (e ∷ es) h = rw (h .0 .0) (layout-done (k + 1) es (h .1))
 
--- the events of a room whose words are in range
-word-in : (l : List ℕ) (i : ℕ) → Valued l → getD l i 0 ≤ 4294967295
-word-in [] i h = omega arith
-word-in (a ∷ l) zero h = h .0
-word-in (a ∷ l) (suc i) h = word-in l i (h .1)
-
-event-in : (l : List ℕ) (i : ℕ) → Valued l → lawful (eventAt l i) ≡ true → Fit (eventAt l i)
-unfolding eventAt
-event-in l i h k =
-    cases (either (inRoom l i)) (λ e. (k, rw e (word-in l (i * 6 + 3) h, word-in l (i * 6 + 4) h))) (λ e. (k, rw e (omega arith, omega arith)))
-
-onward-in : (l : List ℕ) (i n : ℕ) → Valued l → Each (λ e. lawful e ≡ true) (onward l i n) → Each Fit (onward l i n)
-unfolding onward
-onward-in l i zero h k = tt
-onward-in l i (suc n) h k = (event-in l i h (k .0), onward-in l (i + 1) n h (k .1))
-
-onward-length : (l : List ℕ) (i n : ℕ) → length (onward l i n) ≡ n
-unfolding onward
-onward-length l i zero = refl
-onward-length l i (suc n) = ap suc (onward-length l (i + 1) n)
+-- each word of a room whose words are in range
+held-at : (l : List ℕ) (i : ℕ) → Valued l → getD l i 0 ≤ lastValue
+held-at [] i h = omega arith
+held-at (a ∷ l) zero h = h .0
+held-at (a ∷ l) (suc i) h = held-at l i (h .1)
 
 -- Document 01, "Lent room": "The writer is handed a starting memory, whose cells hold lawful values, and a part of a room". What it then writes
 -- is read back, whatever the side, as that memory and the events of that part.
-module _ (m : Memory) (room out : List ℕ) (size : length (m .cells) ≡ 256) (values : Valued (m .cells)) (held : Valued room)
+module _ (m : Memory) (room out : List ℕ) (size : length (m .cells) ≡ places) (values : Valued (m .cells)) (held : Valued room)
     (h : writeOf m room out .number ≡ 0) where
-  no-fault : (countOf room ≤ 800) × ((layoutFault 1 (roomEvents room) .number ≡ 0) × (eventFault 0 1 m [] (roomEvents room) .number ≡ 0))
+  no-fault : (countOf room ≤ eventLimit) × ((layoutFault 1 (roomEvents room) .number ≡ 0) × (eventFault 0 1 m [] (roomEvents room) .number ≡ 0))
   unfolding writeOf roomFault
   no-fault =
       let f = first-done (roomFault m room) (inOut (bytesOf m room) out) h in
-      let c = not-first (λ (x : Answer). x .number) (ltb 800 (countOf room)) (answer 3 0 801) _ (λ z. omega arith) (f .0) in
-      (ltb-false 800 (countOf room) (c .0), first-done (layoutFault 1 (roomEvents room)) (eventFault 0 1 m [] (roomEvents room)) (c .1))
+      let c = not-first (λ (x : Answer). x .number) (ltb eventLimit (countOf room)) (answer 3 0 (eventLimit + 1)) _ (λ z. omega arith) (f .0) in
+      (ltb-false eventLimit (countOf room) (c .0), first-done (layoutFault 1 (roomEvents room)) (eventFault 0 1 m [] (roomEvents room)) (c .1))
 
   written-fits : Fits m (roomEvents room)
-  written-fits = record {
-    size = size;
-    values = values;
-    few = omega (arith, no-fault .0, onward-length room 0 (countOf room));
-    events = onward-in room 0 (countOf room) held (layout-lawful 1 (roomEvents room) (no-fault .1 .0));
-  }
+  written-fits = room-fits room (λ k. held-at room k held) m (countOf room) size values (no-fault .0) (no-fault .1 .0)
 
   pub room-written : (side : ℕ) → (surveyOf side (traceText m (roomEvents room)) ≡ record { answer = done; events = countOf room; memory = m })
       × (eventsOf (traceText m (roomEvents room)) ≡ roomEvents room)
@@ -118,8 +93,8 @@ module _ (side : ℕ) (t room out : List ℕ) (h : surveyOf side t .answer .numb
   unfolding roomFault
   no-refusal =
       let w = text-whole side t h in
-      let n : (length (flat (eventsOf t)) + 5) / 6 ≤ 800 = omega (arith, flat-length (eventsOf t), w .fits .few) in
-      rw (le-ltb 800 ((length (flat (eventsOf t)) + 5) / 6) n, room-words (eventsOf t), layout-done 1 (eventsOf t) (w .fits .events))
+      let n : (length (flat (eventsOf t)) + 5) / 6 ≤ eventLimit = omega (arith, flat-length (eventsOf t), w .fits .few) in
+      rw (le-ltb eventLimit ((length (flat (eventsOf t)) + 5) / 6) n, room-words (eventsOf t), layout-done 1 (eventsOf t) (w .fits .events))
       (fault-none side 0 1 1 start [] (eventsOf t) (w .sound))
 
   written : writeOf start (flat (eventsOf t)) out ≡ answer 0 0 (length t)

@@ -15,6 +15,5 @@ pub mod Unique
 pub mod Puts
 pub mod Judged
 pub mod Texts
-pub mod Sizes
 pub mod Cells
 pub mod Written

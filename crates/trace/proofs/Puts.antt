@@ -43,16 +43,18 @@ all (p ∷ ps) = p ++ all ps
 
 -- while a whole is put from `at`: the parts that are left, put from `here`, bring what the whole brings
 pub record Left (room : List ℕ) (at : ℕ) (whole now : List ℕ) (here : ℕ) (parts : List (List ℕ)) : Type 0 where
+  pub small : Small at whole
   pub counts : here + length (all parts) ≡ at + length whole
   pub stores : sets now here (all parts) ≡ sets room at whole
 
-pub left-all : (room : List ℕ) (at : ℕ) {whole : List ℕ} {ps : List (List ℕ)} → whole ≡ all ps → Left room at whole room at ps
-left-all room at e = rw e (record { counts = refl; stores = refl })
+pub left-all : (room : List ℕ) (at : ℕ) {whole : List ℕ} {ps : List (List ℕ)} → Small at whole → whole ≡ all ps → Left room at whole room at ps
+left-all room at h e = record { small = h; counts = rw e; stores = rw e }
 
 module _ {room whole now : List ℕ} {at here : ℕ} where
   pub left-next : {now₁ v : List ℕ} {ps : List (List ℕ)} {here₁ : ℕ} → Left room at whole now here (v ∷ ps) → Put now here v now₁ here₁
       → Left room at whole now₁ here₁ ps
   left-next {v = v} {ps} l p = record {
+    small = l .small;
     counts = omega (arith, length-append v (all ps), p .counted, l .counts);
     stores = rw (p .stored, p .counted) (sym (sets-append now here v (all ps)) ∙ l .stores);
   }
@@ -60,16 +62,16 @@ module _ {room whole now : List ℕ} {at here : ℕ} where
   pub left-none : Left room at whole now here [] → Put room at whole now here
   left-none l = record { counted = omega (arith, l .counts); stored = l .stores }
 
-  -- the place after the next part is small where that after the whole is
-  pub left-small : {v : List ℕ} {ps : List (List ℕ)} → Left room at whole now here (v ∷ ps) → Small at whole → Small here v
-  left-small {v} {ps} l h = omega (arith, length-append v (all ps), l .counts)
+  -- the place after the next part is small, as that after the whole is
+  pub left-small : {v : List ℕ} {ps : List (List ℕ)} → Left room at whole now here (v ∷ ps) → Small here v
+  left-small {v} {ps} l = omega (arith, length-append v (all ps), l .counts, l .small)
 
   -- what is left, cut in two; nothing left
   pub left-cut : {rest v w : List ℕ} → rest ≡ v ++ w → Left room at whole now here (rest ∷ []) → Left room at whole now here (v ∷ w ∷ [])
   left-cut {v = v} {w} e l =
       let d : all ((v ++ w) ∷ []) ≡ all (v ∷ w ∷ []) = append-assoc v w [] in
       let m = rw e at l in
-      record { counts = rw (← d) (m .counts); stores = rw (← d) (m .stores) }
+      record { small = l .small; counts = rw (← d) (m .counts); stores = rw (← d) (m .stores) }
 
   pub left-end : {rest : List ℕ} → rest ≡ [] → Left room at whole now here (rest ∷ []) → Put room at whole now here
   left-end e l = let m = rw e at l in record { counted = omega (arith, m .counts); stored = m .stores }

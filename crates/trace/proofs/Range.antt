@@ -1,44 +1,49 @@
--- What a trace must be for its text to be read: 256 cells and at most 800 events, all in range. Then its text is short, as no line of it is
--- long: 8 bytes of line 1, 20 of each starting value, 34 of each event. Assumes nothing.
-use Prim.Native.Nat.{ℕ, _+_, _*_, _≤_}
-use mathlib.Core.Path.{_≡_}
-use mathlib.Core.Bool.{true}
+-- What a trace must be for its text to be read: a cell for each location and few events, all in range. Then its text is short, as no line of
+-- it is long. The events of a room that is not refused are so, as its words are in range. Assumes nothing.
+use Prim.Native.Nat.{ℕ, zero, suc, _+_, _*_, _≤_}
+use mathlib.Core.Path.{_≡_, refl, ap}
 use mathlib.Core.List.{List, [], _∷_, _++_, map}
 use native.Mathlib.Omega.{arith}
 use lib.Dec.{eqb}
-use lib.ListN.{length, length-append}
+use lib.ListN.{length, getD, length-append}
 use Rattle.laws.proofs.Cases.{cases, either}
 use Rattle.laws.proofs.Lists.{Each}
-use Rattle.event.specs.Kind.{lawful}
+use Rattle.event.specs.Kind.{lastPlace}
+use Rattle.event.specs.Room.{inRoom, eventAt, onward}
 use Rattle.event.specs.declared.Event.{Event}
 use Rattle.event.specs.declared.memory.Memory.{Memory}
-use Rattle.record.specs.Layout.{eventLine, initLine}
-use Rattle.trace.specs.Writing.{textOf, initLines, traceText}
-use Rattle.record.proofs.Prints.{event-length, init-length}
+use Rattle.record.specs.Layout.{header, eventLine, initLine}
+use Rattle.record.specs.Record.{lastValue}
+use Rattle.record.proofs.Layouts.{Fit}
+use Rattle.record.proofs.Prints.{longestEvent, longestInit, event-length, init-length}
+use Rattle.trace.specs.Reading.{eventLimit}
+use Rattle.trace.specs.Writing.{layoutFault, textOf, initLines, traceText}
+use Rattle.trace.proofs.Judged.{layout-first}
 
--- an event of the layout, with values in range
-abbrev pub Fit : Event → Type 0
-Fit e = (lawful e ≡ true) × ((e .first ≤ 4294967295) × (e .second ≤ 4294967295))
+-- how many locations there are, each with its cell
+abbrev pub places : ℕ
+places = suc lastPlace
 
 -- cells in range
 abbrev pub Valued : List ℕ → Type 0
-Valued vs = Each (λ v. v ≤ 4294967295) vs
+Valued vs = Each (λ v. v ≤ lastValue) vs
 
 -- a starting memory and events of the layout
 pub record Fits (m : Memory) (es : List Event) : Type 0 where
-  pub size : length (m .cells) ≡ 256
+  pub size : length (m .cells) ≡ places
   pub values : Valued (m .cells)
-  pub few : length es ≤ 800
+  pub few : length es ≤ eventLimit
   pub events : Each Fit es
 
-events-length : (es : List Event) → Each Fit es → length (textOf (map eventLine es)) ≤ length es * 34
+-- each line has an LF after it
+events-length : (es : List Event) → Each Fit es → length (textOf (map eventLine es)) ≤ length es * suc longestEvent
 unfolding textOf
 events-length [] h = omega arith
 events-length (e ∷ es) h =
-    omega (arith, length-append (eventLine e) (10 ∷ textOf (map eventLine es)), event-length e (h .0 .0) (h .0 .1 .0) (h .0 .1 .1), events-length es (h .1))
+    omega (arith, length-append (eventLine e) (10 ∷ textOf (map eventLine es)), event-length e (h .0), events-length es (h .1))
 
-inits-length : (l : ℕ) (vs : List ℕ) (ts : List (List ℕ)) → l + length vs ≤ 256 → Valued vs
-    → length (textOf (initLines l vs ++ ts)) ≤ length vs * 20 + length (textOf ts)
+inits-length : (l : ℕ) (vs : List ℕ) (ts : List (List ℕ)) → l + length vs ≤ places → Valued vs
+    → length (textOf (initLines l vs ++ ts)) ≤ length vs * suc longestInit + length (textOf ts)
 unfolding textOf initLines
 inits-length l [] ts b h = omega arith
 inits-length l (v ∷ vs) ts b h =
@@ -46,10 +51,39 @@ inits-length l (v ∷ vs) ts b h =
     cases (either (eqb v 0)) (λ e. rw e (omega arith))
     (λ e. rw e (omega (arith, length-append (initLine l v) (10 ∷ textOf (initLines (l + 1) vs ++ ts)), init-length l v (omega arith) (h .0))))
 
--- such a trace has a text under 32,400 bytes
-pub text-length : (m : Memory) (es : List Event) → Fits m es → length (traceText m es) ≤ 32328
+-- the longest text: line 1, a starting value for each location, and the most events
+abbrev pub longestText : ℕ
+longestText = suc (length header) + places * suc longestInit + eventLimit * suc longestEvent
+
+pub text-length : (m : Memory) (es : List Event) → Fits m es → length (traceText m es) ≤ longestText
 unfolding traceText textOf
 text-length m es f =
     let a = inits-length 0 (m .cells) (map eventLine es) (omega arith) (f .values) in
     let b = events-length es (f .events) in
     omega arith
+
+-- the events of a room
+pub onward-length : (room : List ℕ) (i n : ℕ) → length (onward room i n) ≡ n
+unfolding onward
+onward-length room i zero = refl
+onward-length room i (suc n) = ap suc (onward-length room (i + 1) n)
+
+module _ (room : List ℕ) (held : (k : ℕ) → getD room k 0 ≤ lastValue) where
+  values-in : (i : ℕ) → (eventAt room i .first ≤ lastValue) × (eventAt room i .second ≤ lastValue)
+  unfolding eventAt
+  values-in i = cases (either (inRoom room i)) (λ y. rw y (held (i * 6 + 3), held (i * 6 + 4))) (λ y. rw y (omega arith, omega arith))
+
+  events-fit : (k i n : ℕ) → layoutFault k (onward room i n) .number ≡ 0 → Each Fit (onward room i n)
+  unfolding onward
+  events-fit k i zero h = tt
+  events-fit k i (suc n) h =
+      let f = layout-first k (eventAt room i) (onward room (i + 1) n) h in ((f .0, values-in i), events-fit (k + 1) (i + 1) n (f .1))
+
+  pub room-fits : (m : Memory) (n : ℕ) → length (m .cells) ≡ places → Valued (m .cells) → n ≤ eventLimit → layoutFault 1 (onward room 0 n) .number ≡ 0
+      → Fits m (onward room 0 n)
+  room-fits m n size values few lawful = record {
+    size = size;
+    values = values;
+    few = omega (arith, onward-length room 0 n);
+    events = events-fit 1 0 n lawful;
+  }

@@ -4,18 +4,18 @@ use mathlib.Core.Bool.{Bool, true, false}
 use mathlib.Core.Path.{_≡_, refl, sym, _∙_}
 use mathlib.Core.List.{List, [], _∷_, _++_, map, append-assoc, append-nil}
 use native.Mathlib.Numerals.{add-one}
-use lib.Dec.{eqb, leb}
+use lib.Dec.{eqb}
 use lib.ListN.{length, getD, drop, drop-of-length-le}
 use lib.Seq.{drop-cons}
 use Rattle.laws.proofs.Cases.{cases, either}
-use Rattle.event.specs.Kind.{row}
 use Rattle.event.specs.Room.{eventAt, onward}
 use Rattle.event.specs.declared.Event.{Event}
 use Rattle.event.specs.declared.memory.Memory.{Memory}
 use Rattle.text.specs.Cut.{glue}
 use Rattle.text.specs.Field.{join}
 use Rattle.text.specs.Number.{decimal}
-use Rattle.record.specs.Layout.{kindWords, orderWords, wordAt, header, initWord, hasPlace, hasOrder, hasMark, fieldIf, eventFields, eventLine, initLine}
+use Rattle.record.specs.Layout.{kindWords, wordAt, header, initWord, shapeOf, parts, fieldIf, there, eventFields, eventLine, initLine}
+use Rattle.record.specs.declared.shape.Shape.{Shape}
 use Rattle.trace.specs.Put.{tabIf, initPart}
 use Rattle.trace.specs.Writing.{textOf, initLines, traceText}
 use Rattle.trace.proofs.Puts.{all}
@@ -35,37 +35,38 @@ tails-if : (b : Bool) (f : List ℕ) (fs : List (List ℕ)) → tails (fieldIf b
 tails-if true f fs = refl
 tails-if false f fs = refl
 
--- the parts of an event's line
-abbrev pub placeIn : Event → List ℕ
-placeIn e = tabIf (hasPlace (row (e .kind) .place)) (decimal (e .place))
+-- fields that are there or not, each with the TAB before it
+abbrev pub tabs : List (Bool × List ℕ) → List (List ℕ)
+tabs [] = []
+tabs (p ∷ ps) = tabIf (p .0) (p .1) ∷ tabs ps
 
-abbrev pub orderIn : Event → List ℕ
-orderIn e = tabIf (hasOrder (row (e .kind) .orders)) (wordAt orderWords (e .order))
+-- a line that is put part by part: its word, its fields, and the LF
+abbrev pub lineParts : List ℕ → List (Bool × List ℕ) → List (List ℕ)
+lineParts w ps = w ∷ tabs ps ++ (10 ∷ []) ∷ []
 
-abbrev pub firstIn : Event → List ℕ
-firstIn e = tabIf (leb 1 (row (e .kind) .values)) (decimal (e .first))
+tails-there : (ps : List (Bool × List ℕ)) → tails (there ps) ++ 10 ∷ [] ≡ all (tabs ps ++ (10 ∷ []) ∷ [])
+tails-there [] = refl
+tails-there (p ∷ ps) =
+    rw (tails-if (p .0) (p .1) (there ps), append-assoc (tabIf (p .0) (p .1)) (tails (there ps)) (10 ∷ []), tails-there ps)
 
-abbrev pub secondIn : Event → List ℕ
-secondIn e = tabIf (leb 2 (row (e .kind) .values)) (decimal (e .second))
+line-parts : (w : List ℕ) (ps : List (Bool × List ℕ)) → join (w ∷ there ps) ++ 10 ∷ [] ≡ all (lineParts w ps)
+line-parts w ps = rw (join-tails w (there ps), append-assoc w (tails (there ps)) (10 ∷ []), tails-there ps)
 
-abbrev pub markIn : Event → List ℕ
-markIn e = tabIf (hasMark (row (e .kind) .orders)) (wordAt orderWords (e .order))
+-- that of an event, by the shape of its kind's line
+abbrev pub eventParts : Shape → Event → List (List ℕ)
+eventParts s e = lineParts (wordAt kindWords (e .kind)) (parts s e)
 
-abbrev pub partsOf : Event → List (List ℕ)
-partsOf e = wordAt kindWords (e .kind) ∷ placeIn e ∷ orderIn e ∷ firstIn e ∷ secondIn e ∷ markIn e ∷ (10 ∷ []) ∷ []
-
-pub event-parts : (e : Event) → eventLine e ++ 10 ∷ [] ≡ all (partsOf e)
+pub event-parts : (e : Event) {s : Shape} → s ≡ shapeOf (e .kind) → eventLine e ++ 10 ∷ [] ≡ all (eventParts s e)
 unfolding eventLine eventFields
-event-parts e = simp (join-tails, tails-if, append-nil, append-assoc)
+event-parts e h = rw h (line-parts (wordAt kindWords (e .kind)) (parts (shapeOf (e .kind)) e))
 
--- those of an `init` line
+-- that of a starting value
 abbrev pub initParts : ℕ → ℕ → List (List ℕ)
-initParts place value = initWord ∷ tabIf true (decimal place) ∷ tabIf true (decimal value) ∷ (10 ∷ []) ∷ []
+initParts place value = lineParts initWord ((true, decimal place) ∷ (true, decimal value) ∷ [])
 
 pub init-parts : (place value : ℕ) → initLine place value ++ 10 ∷ [] ≡ all (initParts place value)
 unfolding initLine
-init-parts place value =
-    rw (join-tails initWord (decimal place ∷ decimal value ∷ []), append-nil (decimal value), append-assoc (decimal place) (9 ∷ decimal value) (10 ∷ []))
+init-parts place value = line-parts initWord ((true, decimal place) ∷ (true, decimal value) ∷ [])
 
 pub text-cons : (l : List ℕ) (ls : List (List ℕ)) → textOf (l ∷ ls) ≡ (l ++ 10 ∷ []) ++ textOf ls
 unfolding textOf

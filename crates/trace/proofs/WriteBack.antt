@@ -22,8 +22,8 @@ use Rattle.trace.specs.Writing.{initLines}
 use Rattle.record.specs.declared.Record.{Record}
 use Rattle.record.specs.declared.Record.the-variants.{Init, Line, Refused}
 use Rattle.trace.proofs.Inits.{quiet}
-use Rattle.record.proofs.Layouts.{line-says, init-back}
-use Rattle.trace.proofs.Range.{Fit, Valued}
+use Rattle.record.proofs.Layouts.{Fit, line-says, init-back}
+use Rattle.trace.proofs.Range.{Valued}
 use Rattle.trace.proofs.ReadBack.{tail, start-init}
 use Rattle.record.proofs.Records.{blank}
 

@@ -2,8 +2,9 @@
 // beyond the end of the room are counted and not stored, so that it counts where there is no room at all.
 ghost use mathlib.Core.Path.{_≡_};
 ghost use mathlib.Core.List.{[], _∷_, _++_, map};
-ghost use Prim.Native.Nat.{_≤_};
+ghost use Prim.Native.Nat.{suc, _≤_};
 ghost use lib.ListN.{length, getD, set};
+ghost use Rattle.event.specs.Kind.{lastPlace};
 ghost use Rattle.event.specs.Room.{onward};
 ghost use Rattle.text.specs.Number.{decimal};
 ghost use Rattle.record.specs.Layout.{orderWords, wordAt, eventLine};
@@ -22,16 +23,13 @@ use event::WORDS;
 use event::Word;
 use event::index_of;
 use event::kind::is_lawful;
-use event::kind::row_of;
 use event::memory::Memory;
 use event::memory::Stepped;
 use event::room::get;
+use record::shape::shape_of;
 use record::word::KIND_WORDS;
 use record::word::ORDER_WORDS;
 use record::word::ROW;
-use record::word::has_mark;
-use record::word::has_order;
-use record::word::has_place;
 use record::word::word_in;
 use text::write::put_number;
 
@@ -152,23 +150,6 @@ fn put_order_if(wanted: bool, out: &mut [u8], at: usize, order: Word) -> usize
     put_word(out, next, &ORDER_WORDS, order)
 }
 
-// The most digits of a number.
-const DIGITS: usize = 20;
-
-// A TAB and a number, if the line is to have it.
-fn put_number_if(wanted: bool, out: &mut [u8], at: usize, n: u64) -> usize
-    requires { ⌜ Small at (tabIf wanted (decimal n)) ⌝ }
-    ensures { λ r. ⌜ Put (now (out .entry)) at (tabIf wanted (decimal n)) (now (out .exit)) r ⌝ }
-{
-    if !wanted {
-        return at;
-    }
-    let mut digits: [u8; DIGITS] = [0; DIGITS];
-    let size = put_number(&mut digits, 0, n);
-    let next = put(out, at, b"\t");
-    put(out, next, &digits[..size])
-}
-
 // A word as a number to be written.
 fn wide(w: Word) -> u64
     ensures { λ r. ⌜ r ≡ w ⌝ }
@@ -176,26 +157,40 @@ fn wide(w: Word) -> u64
     w as u64
 }
 
+// The most digits of a number.
+const DIGITS: usize = 20;
+
+// A TAB and a number, if the line is to have it.
+fn put_number_if(wanted: bool, out: &mut [u8], at: usize, n: Word) -> usize
+    requires { ⌜ Small at (tabIf wanted (decimal n)) ⌝ }
+    ensures { λ r. ⌜ Put (now (out .entry)) at (tabIf wanted (decimal n)) (now (out .exit)) r ⌝ }
+{
+    if !wanted {
+        return at;
+    }
+    let mut digits: [u8; DIGITS] = [0; DIGITS];
+    let size = put_number(&mut digits, 0, wide(n));
+    let next = put(out, at, b"\t");
+    put(out, next, &digits[..size])
+}
+
 // An event's line, with its LF.
 fn put_event(out: &mut [u8], at: usize, e: Event) -> usize
     requires { ⌜ Small at (eventLine e ++ 10 ∷ []) ⌝ }
     ensures { λ r. ⌜ Put (now (out .entry)) at (eventLine e ++ 10 ∷ []) (now (out .exit)) r ⌝ }
 {
-    let row = row_of(e.kind);
-    let orders = row.orders;
-    let located = row.place;
-    let values = row.values;
+    let shape = shape_of(e.kind);
     let after_kind = put_word(out, at, &KIND_WORDS, e.kind);
-    let after_place = put_number_if(has_place(located), out, after_kind, wide(e.place));
-    let after_order = put_order_if(has_order(orders), out, after_place, e.order);
-    let after_first = put_number_if(1 <= values, out, after_order, wide(e.first));
-    let after_second = put_number_if(2 <= values, out, after_first, wide(e.second));
-    let after_mark = put_order_if(has_mark(orders), out, after_second, e.order);
+    let after_place = put_number_if(shape.place, out, after_kind, e.place);
+    let after_order = put_order_if(shape.order, out, after_place, e.order);
+    let after_first = put_number_if(shape.first, out, after_order, e.first);
+    let after_second = put_number_if(shape.second, out, after_first, e.second);
+    let after_mark = put_order_if(shape.mark, out, after_second, e.order);
     put(out, after_mark, b"\n")
 }
 
 // The `init` line of a location, with its LF; none for the value 0.
-fn put_init(out: &mut [u8], at: usize, place: u64, value: u64) -> usize
+fn put_init(out: &mut [u8], at: usize, place: Word, value: Word) -> usize
     requires { ⌜ Small at (initPart place value) ⌝ }
     ensures { λ r. ⌜ Put (now (out .entry)) at (initPart place value) (now (out .exit)) r ⌝ }
 {
@@ -210,13 +205,14 @@ fn put_init(out: &mut [u8], at: usize, place: u64, value: u64) -> usize
 
 // The `init` lines of cells.
 fn put_inits(out: &mut [u8], at: usize, cells: &[Word]) -> usize
+    requires { ⌜ length (now cells) ≡ suc lastPlace ⌝ }
     requires { ⌜ Small at (textOf (initLines 0 (now cells))) ⌝ }
     ensures { λ r. ⌜ Put (now (out .entry)) at (textOf (initLines 0 (now (cells .entry)))) (now (out .exit)) r ⌝ }
 {
     let mut next = at;
     let mut i: usize = 0;
     while i < cells.len() {
-        next = put_init(out, next, i as u64, wide(cells[i]));
+        next = put_init(out, next, i as Word, cells[i]);
         i += 1;
     }
     next

@@ -42,7 +42,7 @@ place c = c .before .place .given .0 .0
 
 past-place : (c : tie.After-known-told) → whole c ≡ on-value (line c) (place c) (c .before .place .given .0 .1 .0)
 unfolding initRest
-past-place c = number-given _ _ _ _ _ _ (sym (c .before .before .before .number-if .ensures) ∙ c .before .place .given .1) _
+past-place c = number-given _ _ _ _ _ _ (c .before .before .before .number-if .ensures) (c .before .place .given .1) _
 
 abbrev one : tie.After-known-told2 → tie.After-known-told
 one c = c .before .before .before .before
@@ -53,17 +53,17 @@ value c = c .before .value .given .0 .0
 past-value : (c : tie.After-known-told2)
     → whole (one c) ≡ onEnd Refused (fieldsFrom (line (one c)) (c .before .value .given .0 .1 .0)) (last (place (one c)) (value c))
 past-value c =
-    past-place (one c) ∙ number-given _ _ _ _ _ _ (sym (c .before .before .before .number-if2 .ensures) ∙ c .before .value .given .1) _
+    past-place (one c) ∙ number-given _ _ _ _ _ _ (c .before .before .before .number-if2 .ensures) (c .before .value .given .1) _
 
 past-end : (c : tie.Else1) → let k = c .before .before in whole (one k) ≡ last (place (one k)) (value k)
 past-end c = past-value (c .before .before) ∙ ended _ _ _ _ (sym (c .before .ends-at .ensures) ∙ not-false _ (c .if1 .left))
 
 returns : tie.Need-returns
 unfolding initRest
-returns c = sym (number-refused _ _ _ _ (sym (c .before .before .number-if .ensures) ∙ c .enum-told .given .1) _)
+returns c = sym (number-refused _ _ _ _ (c .before .before .number-if .ensures) (c .enum-told .given .1) _)
 
 returns-2 : tie.Need-returns-2
-returns-2 c = sym (past-place (c .before .before .before) ∙ number-refused _ _ _ _ (sym (c .before .before .number-if2 .ensures) ∙ c .enum-told2 .given .1) _)
+returns-2 c = sym (past-place (c .before .before .before) ∙ number-refused _ _ _ _ (c .before .before .number-if2 .ensures) (c .enum-told2 .given .1) _)
 
 returns-3 : tie.Need-returns-3
 returns-3 c = sym (past-value (c .before .before) ∙ not-ended _ _ _ _ (sym (c .before .ends-at .ensures) ∙ not-true _ (c .if1 .taken)))

@@ -1,5 +1,5 @@
 -- The first refusal, or 17 with the bytes needed, or the text. Assumes nothing.
-use Prim.Native.Nat.{_<_}
+use Prim.Native.Nat.{_≤_}
 use mathlib.Core.Path.{_≡_, sym, _∙_, ap}
 use native.Mathlib.Omega.{arith}
 use lib.ListN.{length, length-map}
@@ -8,7 +8,7 @@ use Rattle.event.specs.declared.Answer.{Answer}
 use Rattle.trace.specs.Writing.{roomFault, traceText}
 use Rattle.trace.proofs.Cells.{words-below}
 use Rattle.trace.proofs.Puts.{put-length}
-use Rattle.trace.proofs.Sizes.{text-short, length-onward, onward-sound}
+use Rattle.trace.proofs.Range.{longestText, text-length, room-fits}
 use Rattle.trace.proofs.Written.{room-sound, refused, short, written}
 use Rattle.trace.proofs.write.Statement.{statement}
 use Rattle.trace.proofs.write.Tie as tie
@@ -20,15 +20,15 @@ start c = c .before .before .before .before .before .before
 none : (c : tie.Else1) → let s = c .before .before .before .before .before in roomFault (s .args .memory) (s .args .room .now) .number ≡ 0
 none c = ap (λ (a : Answer). a .number) (sym (c .before .before .room-fault .ensures)) ∙ c .if1 .left
 
-small : (c : tie.After-count-of) → length (traceText (start c .args .memory) (onward (start c .args .room .now) 0 (c .count-of .result))) < 32400
+small : (c : tie.After-count-of) → length (traceText (start c .args .memory) (onward (start c .args .room .now) 0 (c .count-of .result))) ≤ longestText
 small c =
     let s = start c in
     let f = room-sound (s .args .memory) (s .args .room .now) (c .count-of .ensures) (none (c .before)) in
     let g = s .good .0 .1 .1 .0 in
     let w = c .before .before .before .before .before in
-    text-short (s .args .memory) (onward (s .args .room .now) 0 (c .count-of .result)) (simp length-map at (g .1 .0 .1))
-    (omega (arith, f .0, length-onward (s .args .room .now) 0 (c .count-of .result))) (words-below (s .args .memory .cells) (g .0) (g .1 .1))
-    (onward-sound (s .args .room .now) (λ k. w .shared-slice-known .given k .fits) 1 0 (c .count-of .result) (f .1))
+    text-length (s .args .memory) _
+    (room-fits (s .args .room .now) (λ k. omega (arith, w .shared-slice-known .given k .fits)) (s .args .memory) (c .count-of .result)
+    (simp length-map at (g .1 .0 .1)) (words-below (s .args .memory .cells) (g .0) (g .1 .1)) (f .0) (f .1))
 
 room-fault-requires : tie.Need-room-fault-requires
 room-fault-requires c κs = tt

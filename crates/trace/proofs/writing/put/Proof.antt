@@ -20,7 +20,7 @@ loop-holds : tie.Need-loop-holds Inv-loop μ-loop
 loop-holds c =
     let a = c .before .before .args in
     let z : a .at + 0 ≡ a .at = omega arith in
-    (omega arith, (refl, rw z (left-all (a .out .now) (a .at) (sym (append-nil (a .bytes .now))))))
+    (omega arith, (refl, rw z (left-all (a .out .now) (a .at) (c .before .before .pre) (sym (append-nil (a .bytes .now))))))
 
 store-byte-requires : tie.Need-store-byte-requires Inv-loop μ-loop
 store-byte-requires c κs = tt

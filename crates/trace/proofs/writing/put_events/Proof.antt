@@ -40,13 +40,13 @@ next-line c =
 loop-holds : tie.Need-loop-holds Inv-loop μ-loop
 loop-holds c =
     let s = c .before .before in
-    (omega arith, left-all _ _ (rw (onward-all (s .args .room .now) (s .args .n)) (sym (append-nil _))))
+    (omega arith, left-all _ _ (s .pre) (rw (onward-all (s .args .room .now) (s .args .n)) (sym (append-nil _))))
 
 get-requires : tie.Need-get-requires Inv-loop μ-loop
 get-requires c κs = tt
 
 put-event-requires : tie.Need-put-event-requires Inv-loop μ-loop
-put-event-requires c κs = rw (c .get .ensures) (left-small (next-line (c .before)) (c .before .before .before .before .before .before .pre))
+put-event-requires c κs = rw (c .get .ensures) (left-small (next-line (c .before)))
 
 loop-again : tie.Need-loop-again Inv-loop μ-loop
 loop-again c =

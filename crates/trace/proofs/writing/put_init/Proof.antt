@@ -24,7 +24,7 @@ line-is : (c : tie.Else1) → initPart (c .before .before .args .place) (c .befo
 line-is c = rw (ne-eqb (c .before .before .args .value) 0 (c .if1 .left)) (init-parts (c .before .before .args .place) (c .before .before .args .value))
 
 at-first : (c : tie.Else1) → let s = c .before .before in Rest s (s .args .out .now) (s .args .at) (parts s)
-at-first c = left-all _ _ (line-is c)
+at-first c = left-all _ _ (c .before .before .pre) (line-is c)
 
 after-word : (c : tie.After-put) → Rest (begin c) (c .put .last .0) (c .put .result) (drop 1 (parts (begin c)))
 after-word c = left-next (at-first (c .before .before .before)) (c .put .ensures)
@@ -44,42 +44,16 @@ line-put c = left-none (left-next (after-value (c .before .before .before .befor
 returns : tie.Need-returns
 returns c = rw (c .if1 .taken) (put-none _ _)
 
-slice-aggregate-put : tie.Need-slice-aggregate-put
-slice-aggregate-put c = refl
-
-put-requires : tie.Need-put-requires
-put-requires c κs = left-small (at-first (c .before .before)) (c .before .before .before .before .pre)
-
-put-number-if-requires : tie.Need-put-number-if-requires
-put-number-if-requires c κs = let p = c .before .before .before in left-small (after-word p) (begin p .pre)
-
-put-number-if-requires-2 : tie.Need-put-number-if-requires-2
-put-number-if-requires-2 c κs = let p = c .before .before .before in left-small (after-place p) (begin (p .before .before .before .before) .pre)
-
-slice-aggregate-put-2 : tie.Need-slice-aggregate-put-2
-slice-aggregate-put-2 c = refl
-
-put-requires-2 : tie.Need-put-requires-2
-put-requires-2 c κs =
-    let p = c .before .before .before .before in
-    left-small (after-value p) (begin (p .before .before .before .before .before .before .before .before) .pre)
-
-same-length : tie.Need-same-length
-same-length c = put-length (line-put (c .before .before))
-
-returns-2 : tie.Need-returns-2
-returns-2 c = line-put (c .before .before)
-
 pub put-init-spec : {M : Type 1} → statement M
 put-init-spec =
     tie.close
     (tie.spec
     returns
-    slice-aggregate-put
-    put-requires
-    put-number-if-requires
-    put-number-if-requires-2
-    slice-aggregate-put-2
-    put-requires-2
-    same-length
-    returns-2)
+    (λ c. refl)
+    (λ c κs. left-small (at-first (c .before .before)))
+    (λ c κs. left-small (after-word (c .before .before .before)))
+    (λ c κs. left-small (after-place (c .before .before .before)))
+    (λ c. refl)
+    (λ c κs. left-small (after-value (c .before .before .before .before)))
+    (λ c. put-length (line-put (c .before .before)))
+    (λ c. line-put (c .before .before)))

@@ -31,21 +31,13 @@ next-line c =
     left-cut (inits-next (l .before .before .before .args .cells .now) (l .loop .i) (omega arith)) (l .loop .inv .1)
 
 loop-holds : tie.Need-loop-holds Inv-loop μ-loop
-loop-holds c = (omega arith, left-all _ _ (sym (append-nil _)))
-
-mul-wide : tie.Need-mul-wide Inv-loop μ-loop
-mul-wide c = omega (arith, c .before .before .before .before .before .good)
-
-wide-requires : tie.Need-wide-requires Inv-loop μ-loop
-wide-requires c κs = tt
+loop-holds c = (omega arith, left-all _ _ (c .before .before .pre .1) (sym (append-nil _)))
 
 put-init-requires : tie.Need-put-init-requires Inv-loop μ-loop
-put-init-requires c κs = rw (c .wide .ensures) (left-small (next-line (c .before)) (c .before .before .before .before .before .before .before .pre))
+put-init-requires c κs = left-small (next-line c)
 
 loop-again : tie.Need-loop-again Inv-loop μ-loop
-loop-again c =
-    let p = c .before .before in
-    (omega arith, left-next (next-line (p .before .before)) (rw (p .before .wide .ensures) at (p .put-init .ensures)))
+loop-again c = let p = c .before .before in (omega arith, left-next (next-line (p .before)) (p .put-init .ensures))
 
 same-length : tie.Need-same-length Inv-loop μ-loop
 same-length c = put-length (all-put c)
@@ -60,9 +52,9 @@ put-inits-spec =
     Inv-loop
     μ-loop
     loop-holds
-    mul-wide
     (λ c. omega arith)
-    wide-requires
+    (λ c. omega arith)
+    (λ c. omega arith)
     put-init-requires
     (λ c. omega arith)
     (λ c. omega arith)

@@ -1,5 +1,5 @@
 -- Nothing, or a TAB and the digits after it, which were put at the front of an array first. Assumes nothing.
-use Prim.Native.Nat.{_+_, _<_, _≤_}
+use Prim.Native.Nat.{_≤_}
 use mathlib.Core.Bool.{true}
 use mathlib.Core.Path.{_≡_, refl, sym, _∙_}
 use native.Mathlib.Omega.{arith}
@@ -8,6 +8,7 @@ use lib.ListN.{length, take, replicate}
 use lib.Seq.{length-take-le}
 use Rattle.text.specs.Number.{decimal}
 use Rattle.text.proofs.Decimals.{length-wide}
+use Rattle.trace.specs.Put.{Small, tabIf}
 use Rattle.trace.proofs.Puts.{put-none, then, front-put}
 use Rattle.trace.proofs.writing.put_number_if.Statement.{statement}
 use Rattle.trace.proofs.writing.put_number_if.Tie as tie
@@ -16,31 +17,23 @@ use Rattle.trace.proofs.writing.put_number_if.Tie as tie
 wanted : (c : tie.Else1) → c .before .before .args .wanted ≡ true
 wanted c = not-false _ (c .if1 .left)
 
-small : (c : tie.Else1) → c .before .before .args .at + (length (decimal (c .before .before .args .n)) + 1) < 4294967296
-small c = omega (arith, rw (wanted c) at (c .before .before .pre))
+small : (c : tie.Else1) → Small (c .before .before .args .at) (tabIf true (decimal (c .before .before .args .n)))
+small c = rw (wanted c) at (c .before .before .pre)
 
-short : (c : tie.Else1) → length (decimal (c .before .before .args .n)) ≤ 20
-short c = length-wide _ (omega (arith, c .before .before .fits .n))
+-- it has no more digits than the array
+digits-fit : (c : tie.After-wide) → length (decimal (c .wide .result)) ≤ 20
+digits-fit c = length-wide _ (omega (arith, c .wide .ensures, c .before .before .before .before .fits .n))
 
 digits-are : (c : tie.After-put-number)
     → (c .put-number .result ≤ length (c .put-number .last .0))
-    × (take (c .put-number .result) (c .put-number .last .0) ≡ decimal (c .before .before .before .before .args .n))
-digits-are c = front-put (replicate 20 0) _ (short (c .before .before)) (c .put-number .ensures)
+    × (take (c .put-number .result) (c .put-number .last .0) ≡ decimal (c .before .before .before .before .before .args .n))
+digits-are c = rw (← c .before .wide .ensures) (front-put (replicate 20 0) _ (digits-fit (c .before)) (c .put-number .ensures))
 
 returns : tie.Need-returns
 returns c = rw (not-true (c .before .before .args .wanted) (c .if1 .taken)) (put-none _ _)
 
-slice-aggregate-put-number : tie.Need-slice-aggregate-put-number
-slice-aggregate-put-number c = refl
-
-put-number-requires : tie.Need-put-number-requires
-put-number-requires c κs = omega (arith, short (c .before))
-
-slice-aggregate-put : tie.Need-slice-aggregate-put
-slice-aggregate-put c = refl
-
 put-requires : tie.Need-put-requires
-put-requires c κs = omega (arith, small (c .before .before .before .before .before))
+put-requires c κs = omega (arith, small (c .before .before .before .before .before .before))
 
 array-share-prefix-digits : tie.Need-array-share-prefix-digits
 array-share-prefix-digits c = digits-are (c .before .before .before .before .before .before .before) .0
@@ -54,29 +47,27 @@ put-requires-2 : tie.Need-put-requires-2
 put-requires-2 c κs =
     let p = c .before .before .before .before in
     let d = p .before .before .before .before in
-    rw (digits-are d .1) (omega (arith, p .put .ensures .counted, small (d .before .before)))
-
-same-length : tie.Need-same-length
-same-length c = c .before .before .put2 .kept .0 ∙ c .before .before .before .before .before .before .before .put .kept .0
+    rw (digits-are d .1) (omega (arith, p .put .ensures .counted, small (d .before .before .before)))
 
 returns-2 : tie.Need-returns-2
 returns-2 c =
     let p = c .before .before in
     let q = p .before .before .before .before .before in
     let d = q .before .before .before .before in
-    rw (wanted (d .before .before)) (then (q .put .ensures) (rw (digits-are d .1) at (p .put2 .ensures)))
+    rw (wanted (d .before .before .before)) (then (q .put .ensures) (rw (digits-are d .1) at (p .put2 .ensures)))
 
 pub put-number-if-spec : {M : Type 1} → statement M
 put-number-if-spec =
     tie.close
     (tie.spec
     returns
-    slice-aggregate-put-number
-    put-number-requires
-    slice-aggregate-put
+    (λ c. refl)
+    (λ c κs. tt)
+    (λ c κs. omega (arith, digits-fit c))
+    (λ c. refl)
     put-requires
     array-share-prefix-digits
     slice-aggregate-put-2
     put-requires-2
-    same-length
+    (λ c. c .before .before .put2 .kept .0 ∙ c .before .before .before .before .before .before .before .put .kept .0)
     returns-2)

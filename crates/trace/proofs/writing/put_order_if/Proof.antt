@@ -1,11 +1,10 @@
 -- Nothing, or a TAB and the word after it. Assumes nothing.
-use Prim.Native.Nat.{_+_, _<_}
 use mathlib.Core.Bool.{true}
 use mathlib.Core.Path.{_≡_, refl, _∙_}
 use native.Mathlib.Omega.{arith}
 use borrow.Author.Tests.{not-true, not-false}
-use lib.ListN.{length}
 use Rattle.record.specs.Layout.{orderWords, wordAt}
+use Rattle.trace.specs.Put.{Small, tabIf}
 use Rattle.trace.proofs.Puts.{put-none, then}
 use Rattle.trace.proofs.writing.put_order_if.Statement.{statement}
 use Rattle.trace.proofs.writing.put_order_if.Tie as tie
@@ -14,8 +13,8 @@ use Rattle.trace.proofs.writing.put_order_if.Tie as tie
 wanted : (c : tie.Else1) → c .before .before .args .wanted ≡ true
 wanted c = not-false _ (c .if1 .left)
 
-small : (c : tie.Else1) → c .before .before .args .at + (length (wordAt orderWords (c .before .before .args .order)) + 1) < 4294967296
-small c = omega (arith, rw (wanted c) at (c .before .before .pre))
+small : (c : tie.Else1) → Small (c .before .before .args .at) (tabIf true (wordAt orderWords (c .before .before .args .order)))
+small c = rw (wanted c) at (c .before .before .pre)
 
 returns : tie.Need-returns
 returns c = rw (not-true (c .before .before .args .wanted) (c .if1 .taken)) (put-none _ _)

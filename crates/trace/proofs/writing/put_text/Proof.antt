@@ -1,8 +1,9 @@
 -- The header, the `init` lines and the events' lines are put one after the other. Assumes nothing.
-use Prim.Native.Nat.{ℕ}
+use Prim.Native.Nat.{ℕ, suc}
 use mathlib.Core.List.{List}
-use mathlib.Core.Path.{refl, sym}
-use lib.ListN.{drop, length-map}
+use mathlib.Core.Path.{_≡_, refl, sym}
+use lib.ListN.{length, drop, length-map}
+use Rattle.event.specs.Kind.{lastPlace}
 use Rattle.event.specs.Room.{onward}
 use Rattle.trace.specs.Put.{Put}
 use Rattle.trace.specs.Writing.{traceText}
@@ -22,7 +23,7 @@ abbrev parts : tie.Start → List (List ℕ)
 parts s = traceParts (s .args .memory) (onward (s .args .room .now) 0 (s .args .n))
 
 at-first : (s : tie.Start) → Left (s .args .out .now) 0 (text s) (s .args .out .now) 0 (parts s)
-at-first s = left-all _ _ (trace-parts (s .args .memory) (onward (s .args .room .now) 0 (s .args .n)))
+at-first s = left-all _ _ (s .pre) (trace-parts (s .args .memory) (onward (s .args .room .now) 0 (s .args .n)))
 
 after-header : (c : tie.After-put) → let s = begin c in Left (s .args .out .now) 0 (text s) (c .put .last .0) (c .put .result) (drop 1 (parts s))
 after-header c = left-next (at-first (begin c)) (c .put .ensures)
@@ -35,37 +36,18 @@ text-put : (c : tie.After-put-events) → let s = begin (c .before .before .befo
     Put (s .args .out .now) 0 (text s) (c .put-events .last .0) (c .put-events .result)
 text-put c = left-none (left-next (after-inits (c .before .before .before .before)) (c .put-events .ensures))
 
-slice-aggregate-put : tie.Need-slice-aggregate-put
-slice-aggregate-put c = refl
-
-put-requires : tie.Need-put-requires
-put-requires c κs = left-small (at-first (c .before .before .before .before .before)) (c .before .before .before .before .before .pre)
-
-slice-aggregate-put-inits : tie.Need-slice-aggregate-put-inits
-slice-aggregate-put-inits c =
-    let g = begin (c .before .before .before .before) .good .1 .0 in
-    sym (simp length-map at (g .1 .1 .0 .1 .0 .1))
-
-put-inits-requires : tie.Need-put-inits-requires
-put-inits-requires c κs = let p = c .before .before .before .before in left-small (after-header p) (begin p .pre)
-
-put-events-requires : tie.Need-put-events-requires
-put-events-requires c κs = let p = c .before .before .before in left-small (after-inits p) (begin (p .before .before .before .before .before) .pre)
-
-same-length : tie.Need-same-length
-same-length c = put-length (text-put (c .before .before))
-
-returns : tie.Need-returns
-returns c = text-put (c .before .before)
+-- the memory has a cell for each location
+cells : (s : tie.Start) → length (s .args .memory .cells) ≡ suc lastPlace
+cells s = simp length-map at (s .good .1 .0 .1 .1 .0 .1 .0 .1)
 
 pub put-text-spec : {M : Type 1} → statement M
 put-text-spec =
     tie.close
     (tie.spec
-    slice-aggregate-put
-    put-requires
-    slice-aggregate-put-inits
-    put-inits-requires
-    put-events-requires
-    same-length
-    returns)
+    (λ c. refl)
+    (λ c κs. left-small (at-first (c .before .before .before .before .before)))
+    (λ c. sym (cells (begin (c .before .before .before .before))))
+    (λ c κs. let p = c .before .before .before .before in (cells (begin p), left-small (after-header p)))
+    (λ c κs. left-small (after-inits (c .before .before .before)))
+    (λ c. put-length (text-put (c .before .before)))
+    (λ c. text-put (c .before .before)))
