@@ -1,41 +1,75 @@
--- The fault of a source or target event from what the arrays hold at its location: the tests of `sourceFault` and `targetFault`, each with its
--- fold in place. A gone event crosses nothing, and a kept one is neither lost nor overwritten. Assumes nothing.
-use mathlib.Core.Path.{_≡_, refl}
-use mathlib.Core.Bool.{Bool, false, not, cond, _&&_, _||_}
-use mathlib.Core.Option.{some}
+-- The fault of an event from what the arrays hold at its location: each test of a fault, with its fold in place. A gone event crosses nothing, and a
+-- kept one is not removed. Assumes nothing.
+use mathlib.Core.Path.{_≡_, refl, sym}
+use mathlib.Core.Bool.{Bool, true, false, not, cond, _&&_, false≢true}
+use mathlib.Core.Option.{Option}
 use mathlib.Core.List.{List}
-use Prim.Native.Nat.{ℕ, suc}
-use lib.Dec.{ltb}
+use Prim.Native.Nat.{ℕ, zero, suc}
 use Rattle.event.specs.declared.Event.{Event}
-use Rattle.rules.specs.Fault.{gone, group, near, Item, closing, crossed, fate, is, isNone, item, stays, unlike, witness}
-use Rattle.rules.specs.View.{View, load, placeOf, store, wall}
-use Rattle.rules.specs.Verdict.{sourceFault}
+use Rattle.rules.specs.Fault.{Item, closing, fate, group, is, isNone, item, near, stays, unsupported, witness}
+use Rattle.rules.specs.View.{View, load, store, isLoad, isWall}
+use Rattle.rules.specs.Verdict.{keepFault, removalFault, sourceFault}
+use Rattle.judge.specs.Pass.{eventFault, goneFault, keepFaultBy, removalFaultBy, unsupportedBy}
+use Rattle.judge.specs.declared.source.Cell.{Cell}
+use Rattle.judge.specs.declared.source.Tops.{Tops}
 use Rattle.judge.proofs.Passes.{crossed-gone, crossed-plain, crossed-wall, top, topAt, topWall}
+use Rattle.judge.proofs.Sight.{Sees, a-load, a-store, a-wall}
 
-module _ (t : List Event) (b : List Item) (e : Event) (a : List Item) where
-  -- 11
-  pub gone-wall : sourceFault t b e (item wall gone) a ≡ 11
-  gone-wall = refl
+-- ---- a source event
 
-  -- 13
-  pub gone-load : (p v : ℕ) (u : Bool) → sourceFault t b e (item (load p v u) gone) a ≡ cond (u && isNone (near p b)) 13 0
-  gone-load p v u = rw (crossed-gone b (load p v u))
+-- the arrays hold, at the location p, what the tests ask of the events before and after
+pub record Right (b a : List Item) (p : ℕ) (c : Cell) (o : Option ℕ) (s : Tops) : Type 0 where
+  pub fresh-right : c .fresh ≡ isNone (near p b)
+  pub closing-right : c .closing ≡ closing (group p a)
+  pub witness-right : o ≡ witness (group p b)
+  pub all-right : s .all ≡ top b
+  pub walls-right : s .walls ≡ topWall b
+  pub here-right : s .here ≡ topAt p b
 
-  -- 14
-  pub gone-store : (p v : ℕ)
-      → sourceFault t b e (item (store p v) gone) a ≡ cond (closing (group p a) && not (is v (witness (group p b)))) 14 0
-  gone-store p v = rw (crossed-gone b (store p v))
+module _ (t : List Event) (e : Event) (b a : List Item) (c : Cell) (o : Option ℕ) (s : Tops) where
+  -- 10 to 12
+  keep-at : {v : View} {p x : ℕ} {u : Bool} (n : ℕ) → Sees v p x u → Right b a p c o s → keepFault t b e (item v (fate n)) ≡ keepFaultBy t e v n s
+  keep-at zero a-wall r = refl
+  keep-at zero (a-load {p} {v} {u}) r = rw (crossed-gone b (load p v u))
+  keep-at zero (a-store {p} {v}) r = rw (crossed-gone b (store p v))
+  keep-at (suc n) a-wall r = rw (crossed-wall b false (suc n), ← r .all-right)
+  keep-at (suc n) (a-load {p} {v} {u}) r = rw (crossed-plain (load p v u) p refl false (suc n) b, ← r .walls-right, ← r .here-right)
+  keep-at (suc n) (a-store {p} {v}) r = rw (crossed-plain (store p v) p refl false (suc n) b, ← r .walls-right, ← r .here-right)
 
-  -- 10, 12
-  kept : (v : View) (k : ℕ) (c : Bool) → crossed b (item v (stays false (suc k))) ≡ c
-      → sourceFault t b e (item v (stays false (suc k))) a ≡ cond (unlike t e (fate (suc k))) 10 (cond c 12 0)
-  kept v k c h = rw h
+  -- 13, 14
+  removal-at : {v : View} {p x : ℕ} {u : Bool} (n : ℕ) → Sees v p x u → Right b a p c o s → removalFault b (item v (fate n)) a ≡ removalFaultBy v n c o
+  removal-at zero a-wall r = refl
+  removal-at zero a-load r = rw (← r .fresh-right)
+  removal-at zero a-store r = rw (← r .closing-right, ← r .witness-right)
+  removal-at (suc n) s r = refl
 
-  pub kept-wall : (k : ℕ)
-      → sourceFault t b e (item wall (stays false (suc k))) a ≡ cond (unlike t e (fate (suc k))) 10 (cond (ltb (suc k) (top b)) 12 0)
-  kept-wall k = kept wall k (ltb (suc k) (top b)) (crossed-wall b false (suc k))
+  pub fault-at : {v : View} {p x : ℕ} {u : Bool} (n : ℕ) → Sees v p x u → Right b a p c o s
+      → sourceFault t b e (item v (fate n)) a ≡ eventFault t e v n c o s
+  fault-at n s r = rw (keep-at n s r, removal-at n s r)
 
-  pub kept-plain : (v : View) (p : ℕ) → placeOf v ≡ some p → (k : ℕ)
-      → sourceFault t b e (item v (stays false (suc k))) a
-      ≡ cond (unlike t e (fate (suc k))) 10 (cond (ltb (suc k) (topWall b) || ltb (suc k) (topAt p b)) 12 0)
-  kept-plain v p h k = kept v k (ltb (suc k) (topWall b) || ltb (suc k) (topAt p b)) (crossed-plain v p h false (suc k) b)
+-- what a gone event shows, by what is seen of it
+module _ (c : Cell) (o : Option ℕ) where
+  pub gone-wall : {v : View} {p x : ℕ} {u : Bool} → Sees v p x u → isWall v ≡ true → goneFault v c o ≡ 0
+  gone-wall a-wall h = refl
+  gone-wall a-load h = absurd (false≢true h)
+  gone-wall a-store h = absurd (false≢true h)
+
+  pub gone-load : {v : View} {p x : ℕ} {u : Bool} → Sees v p x u → isLoad v ≡ true → goneFault v c o ≡ cond (u && c .fresh) 13 0
+  gone-load a-wall h = absurd (false≢true h)
+  gone-load a-load h = refl
+  gone-load a-store h = absurd (false≢true h)
+
+  pub gone-store : {v : View} {p x : ℕ} {u : Bool} → Sees v p x u → isWall v ≡ false → isLoad v ≡ false
+      → goneFault v c o ≡ cond (c .closing && not (is x o)) 14 0
+  gone-store a-wall w l = absurd (false≢true (sym w))
+  gone-store a-load w l = absurd (false≢true (sym l))
+  gone-store a-store w l = refl
+
+-- ---- a target event
+
+pub unsupported-at : {v : View} {p x : ℕ} {u : Bool} (b : List Item) (sourced : Bool) (k : ℕ) → Sees v p x u
+    → unsupported b (item v (stays (not sourced) k)) ≡ unsupportedBy sourced (isLoad v) (isNone (near p b))
+unsupported-at b true k s = refl
+unsupported-at b false k a-wall = refl
+unsupported-at b false k a-load = refl
+unsupported-at b false k a-store = refl

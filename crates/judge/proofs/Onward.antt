@@ -51,10 +51,10 @@ module _ (view : Event → View) where
 
   -- 15, 16
   module _ (ns : List ℕ) (k : ℕ) (b : List Item) (e : Event) (t : List Event) where
-    pub target-goes : targetFault b (placed view ns k e) ≡ 0 → targetAnswer view ns k b (e ∷ t) ≡ targetAnswer view ns (suc k) (placed view ns k e ∷ b) t
+    pub target-goes : targetFault (e .kind) b (placed view ns k e) ≡ 0 → targetAnswer view ns k b (e ∷ t) ≡ targetAnswer view ns (suc k) (placed view ns k e ∷ b) t
     unfolding targetAnswer
     target-goes h = rw h
 
-    pub target-stops : (f : ℕ) → targetFault b (placed view ns k e) ≡ suc f → targetAnswer view ns k b (e ∷ t) ≡ answer (suc f) 2 k
+    pub target-stops : (f : ℕ) → targetFault (e .kind) b (placed view ns k e) ≡ suc f → targetAnswer view ns k b (e ∷ t) ≡ answer (suc f) 2 k
     unfolding targetAnswer
     target-stops f h = rw (h, eqb·suc-zero)

@@ -1,8 +1,8 @@
 -- What the pass from the front keeps of the source events passed: per location whether there was no access since the last synchronising event, the
--- witness and the greatest number, and the greatest numbers of all and of the synchronising ones. And the fault that these show. Assumes nothing.
+-- witness and the greatest number, and the greatest numbers of all and of the synchronising ones. Assumes nothing.
 use mathlib.Core.Path.{_≡_, refl, sym, _∙_, ap}
 use mathlib.Core.Bool.{Bool, true, false, cond, false≢true}
-use mathlib.Core.Option.{Option, some}
+use mathlib.Core.Option.{some}
 use mathlib.Core.List.{List, [], _∷_}
 use Prim.Native.Nat.{ℕ, zero, suc, _<_}
 use native.Mathlib.Omega.{arith}
@@ -11,16 +11,14 @@ use lib.ListN.{length, getD, set, replicate, getD-replicate, length-set}
 use lib.Seq.{getD-set-same, getD-set-other}
 use borrow.Author.Tests.{eq-eqb, eqb-false, eqb-true, ne-eqb}
 use Rattle.laws.proofs.Cases.{cases, either}
-use Rattle.event.specs.declared.Event.{Event}
 use Rattle.rules.specs.View.{View, load, store, isLoad, isWall}
-use Rattle.rules.specs.Fault.{Item, closing, fate, gone, group, isGone, isNone, item, near, stays, unlike, witness}
-use Rattle.rules.specs.Verdict.{sourceFault}
-use Rattle.judge.specs.Pass.{cellOf, crossedBy, goneFault, takesOver, topAfter, topsOf, witnessOf, witnessed}
+use Rattle.rules.specs.Fault.{Item, closing, fate, gone, group, isNone, item, near, stays, witness}
+use Rattle.judge.specs.Pass.{cellOf, takesOver, topAfter, topsOf, witnessOf, witnessed}
 use Rattle.judge.specs.declared.source.Cell.{Cell}
 use Rattle.judge.specs.declared.source.Tops.{Tops}
 use Rattle.judge.specs.declared.source.Witness.{Witness}
 use Rattle.judge.proofs.Arrays.{Fresh, Holds, either-way, fresh-plain, fresh-start, fresh-wall, holds-all, holds-set}
-use Rattle.judge.proofs.Cells.{gone-load, gone-store, kept-plain, kept-wall}
+use Rattle.judge.proofs.Cells.{Right}
 use Rattle.judge.proofs.Passes.{top, topAt, topWall, witness-next}
 use Rattle.judge.proofs.Sight.{Sees, a-load, a-store, a-wall}
 
@@ -164,15 +162,7 @@ module _ {fresh held : List Bool} {value here : List ℕ} {all walls : ℕ} {b :
     walls-is = t .walls-is ∙ sym (walls-plain n b s h);
   }
 
--- ---- the fault
-
-pub record Right (b a : List Item) (p : ℕ) (c : Cell) (o : Option ℕ) (s : Tops) : Type 0 where
-  pub fresh-right : c .fresh ≡ isNone (near p b)
-  pub closing-right : c .closing ≡ closing (group p a)
-  pub witness-right : o ≡ witness (group p b)
-  pub all-right : s .all ≡ top b
-  pub walls-right : s .walls ≡ topWall b
-  pub here-right : s .here ≡ topAt p b
+-- ---- what the tests ask
 
 pub right : {fresh held : List Bool} {value here : List ℕ} {all walls : ℕ} {b : List Item} → Tallied fresh held value here all walls b
     → (a : List Item) (i : ℕ) → i < 256 → {d : Bool} → d ≡ closing (group i a)
@@ -186,13 +176,3 @@ right t a i k d c w s = record {
   walls-right = ap (λ (s : Tops). s .walls) s ∙ t .walls-is;
   here-right = ap (λ (s : Tops). s .here) s ∙ t .here-is i k;
 }
-
-module _ (t : List Event) (e : Event) (b a : List Item) (c : Cell) (o : Option ℕ) (s : Tops) where
-  pub fault-at : {v : View} {p x : ℕ} {u : Bool} (n : ℕ) → Sees v p x u → Right b a p c o s
-      → sourceFault t b e (item v (fate n)) a ≡ cond (isGone n) (goneFault v c o) (cond (unlike t e (fate n)) 10 (cond (crossedBy v n s) 12 0))
-  fault-at zero a-wall r = refl
-  fault-at zero (a-load {p} {v} {u}) r = gone-load t b e a p v u ∙ rw (← r .fresh-right)
-  fault-at zero (a-store {p} {v}) r = gone-store t b e a p v ∙ rw (← r .closing-right, ← r .witness-right)
-  fault-at (suc n) a-wall r = kept-wall t b e a n ∙ rw (← r .all-right)
-  fault-at (suc n) (a-load {p} {v} {u}) r = kept-plain t b e a (load p v u) p refl n ∙ rw (← r .walls-right, ← r .here-right)
-  fault-at (suc n) (a-store {p} {v}) r = kept-plain t b e a (store p v) p refl n ∙ rw (← r .walls-right, ← r .here-right)

@@ -10,20 +10,24 @@ use lib.ListN.{length, getD, drop}
 use Rattle.event.specs.Kind.{has}
 use Rattle.event.specs.Room.{eventAt, onward}
 use Rattle.rules.specs.View.{View, wall, load, store, view, isWall}
-use Rattle.rules.specs.Fault.{Item, closing, fate, group, is, isGone, unlike}
+use Rattle.rules.specs.Fault.{Item, closing, fate, group, is, isGone, isLoadKind, unlike}
 use Rattle.judge.specs.declared.source.Cell.{Cell}
 use Rattle.judge.specs.declared.source.Tops.{Tops}
 use Rattle.judge.specs.declared.source.Witness.{Witness}
 use Rattle.event.specs.declared.Event.{Event}
-use Rattle.rules.specs.Verdict.{items}
+use Rattle.rules.specs.Verdict.{firstFault, items}
 
 -- the marks say which numbers from 1 to 800 the entries name
 abbrev pub Marked : List Bool → List ℕ → Type 0
 Marked marks ns = (k : ℕ) → 0 < k → k < 801 → getD marks k false ≡ has k ns
 
--- 15 or 16 of a target event, or 0
-abbrev pub newFault : Bool → Bool → Bool → ℕ
-newFault sourced isLoad fresh = cond sourced 0 (cond isLoad (cond fresh 16 0) 15)
+-- whether a target event has no source and may not be inserted
+abbrev pub unsupportedBy : Bool → Bool → Bool → Bool
+unsupportedBy sourced isLoad fresh = not sourced && (not isLoad || fresh)
+
+-- 15 or 16 of a target event of a kind, or 0
+abbrev pub targetFaultBy : ℕ → Bool → ℕ
+targetFaultBy kind unsupported = cond unsupported (cond (isLoadKind kind) 16 15) 0
 
 -- whether a store before a plain event is closing, by whether one after the event is
 abbrev pub closingAfter : Bool → ℕ → Bool → Bool
@@ -67,9 +71,9 @@ topsOf all walls here = record { all = all; walls = walls; here = here }
 abbrev pub witnessed : Witness → Option ℕ
 witnessed w = cond (w .held) (some (w .value)) none
 
--- 11, 13 or 14 of a gone event, or 0
+-- 13 or 14 of a gone event, or 0
 abbrev pub goneFault : View → Cell → Option ℕ → ℕ
-goneFault wall c o = 11
+goneFault wall c o = 0
 goneFault (load p v u) c o = cond (u && (c .fresh)) 13 0
 goneFault (store p v) c o = cond (c .closing && not (is v o)) 14 0
 
@@ -77,7 +81,14 @@ goneFault (store p v) c o = cond (c .closing && not (is v o)) 14 0
 abbrev pub crossedBy : View → ℕ → Tops → Bool
 crossedBy v n t = cond (isWall v) (ltb n (t .all)) (ltb n (t .walls) || ltb n (t .here))
 
+-- 10 to 12 of a source event, or 0
+abbrev pub keepFaultBy : List Event → Event → View → ℕ → Tops → ℕ
+keepFaultBy t e v n s = cond (isGone n) (cond (isWall v) 11 0) (cond (unlike t e (fate n)) 10 (cond (crossedBy v n s) 12 0))
+
+-- 13 or 14 of a source event, or 0
+abbrev pub removalFaultBy : View → ℕ → Cell → Option ℕ → ℕ
+removalFaultBy v n c o = cond (isGone n) (goneFault v c o) 0
+
 -- 10 to 14 of a source event, or 0
-abbrev pub eventFault : List Event → Event → ℕ → Cell → Option ℕ → Tops → ℕ
-eventFault t e n c o s =
-    cond (isGone n) (goneFault (view e) c o) (cond (unlike t e (fate n)) 10 (cond (crossedBy (view e) n s) 12 0))
+abbrev pub eventFault : List Event → Event → View → ℕ → Cell → Option ℕ → Tops → ℕ
+eventFault t e v n c o s = firstFault (keepFaultBy t e v n s) (removalFaultBy v n c o)

@@ -9,7 +9,7 @@ ghost use Rattle.event.specs.Room.{Placed, wholeEvents};
 ghost use Rattle.rules.specs.View.{view};
 ghost use Rattle.rules.specs.Fault.{fate, is, isGone, unlike};
 ghost use Rattle.rules.specs.Verdict.{sourceAnswer};
-ghost use Rattle.judge.specs.Pass.{Flagged, cellOf, closingAfter, crossedBy, eventFault, goneFault, takesOver, topAfter, topsOf, witnessOf, witnessed};
+ghost use Rattle.judge.specs.Pass.{Flagged, cellOf, closingAfter, crossedBy, eventFault, goneFault, keepFaultBy, removalFaultBy, takesOver, topAfter, topsOf, witnessOf, witnessed};
 use crate::entries::is_gone;
 use crate::seen::both;
 use crate::seen::is_load;
@@ -139,12 +139,12 @@ fn is_witness(value: Word, witness: Witness) -> bool
     false
 }
 
-// 11, 13 or 14 of a gone event, or 0.
+// 13 or 14 of a gone event, or 0.
 fn gone_fault(e: Event, cell: Cell, witness: Witness) -> Number
     ensures { λ r. ⌜ r ≡ goneFault (view e) cell (witnessed witness) ⌝ }
 {
     if is_wall(e) {
-        return 11;
+        return 0;
     }
     if is_load(e) {
         if both(e.order == USED, cell.fresh) {
@@ -157,6 +157,16 @@ fn gone_fault(e: Event, cell: Cell, witness: Witness) -> Number
             return 0;
         }
         return 14;
+    }
+    0
+}
+
+// 13 or 14 of a source event, or 0.
+fn removal_fault(e: Event, n: Entry, cell: Cell, witness: Witness) -> Number
+    ensures { λ r. ⌜ r ≡ removalFaultBy (view e) n cell (witnessed witness) ⌝ }
+{
+    if is_gone(n) {
+        return gone_fault(e, cell, witness);
     }
     0
 }
@@ -179,6 +189,25 @@ fn is_crossed(e: Event, n: Entry, tops: Tops) -> bool
     n < tops.walls || n < tops.here
 }
 
+// 10 to 12 of a source event, or 0.
+fn keep_fault(target: &[Word], e: Event, n: Entry, tops: Tops) -> Number
+    ensures { λ r. ⌜ r ≡ keepFaultBy (wholeEvents (now (target .entry))) e (view e) n tops ⌝ }
+{
+    if is_gone(n) {
+        if is_wall(e) {
+            return 11;
+        }
+        return 0;
+    }
+    if differs(target, e, n) {
+        return 10;
+    }
+    if is_crossed(e, n, tops) {
+        return 12;
+    }
+    0
+}
+
 // 10 to 14 of a source event, or 0.
 fn event_fault(
     target: &[Word],
@@ -188,18 +217,13 @@ fn event_fault(
     witness: Witness,
     tops: Tops,
 ) -> Number
-    ensures { λ r. ⌜ r ≡ eventFault (wholeEvents (now (target .entry))) e n cell (witnessed witness) tops ⌝ }
+    ensures { λ r. ⌜ r ≡ eventFault (wholeEvents (now (target .entry))) e (view e) n cell (witnessed witness) tops ⌝ }
 {
-    if is_gone(n) {
-        return gone_fault(e, cell, witness);
+    let fault = keep_fault(target, e, n, tops);
+    if fault != 0 {
+        return fault;
     }
-    if differs(target, e, n) {
-        return 10;
-    }
-    if is_crossed(e, n, tops) {
-        return 12;
-    }
-    0
+    removal_fault(e, n, cell, witness)
 }
 
 // The witness of a location after a plain event there, which takes over or does not.

@@ -6,7 +6,7 @@ ghost use lib.ListN.{length};
 ghost use Rattle.event.specs.Room.{Placed, wholeEvents};
 ghost use Rattle.rules.specs.View.{view};
 ghost use Rattle.rules.specs.Verdict.{targetAnswer};
-ghost use Rattle.judge.specs.Pass.{newFault, Marked};
+ghost use Rattle.judge.specs.Pass.{Marked, targetFaultBy, unsupportedBy};
 use crate::seen::is_load;
 use crate::seen::is_wall;
 use event::Answer;
@@ -16,21 +16,34 @@ use event::Word;
 use event::index_of;
 use event::room::get;
 
-// 15 or 16 of a target event, or 0, by whether it has a source, is a load, and is the first access to its location since the last
+// Whether a target event has no source and may not be inserted: it is no load, or the first access to its location since the last
 // synchronising event.
-fn new_fault(sourced: bool, load: bool, fresh: bool) -> Number
-    ensures { λ r. ⌜ r ≡ newFault sourced load fresh ⌝ }
+fn is_unsupported(sourced: bool, load: bool, fresh: bool) -> bool
+    ensures { λ r. ⌜ r ≡ unsupportedBy sourced load fresh ⌝ }
 {
     if sourced {
-        return 0;
+        return false;
     }
     if load {
-        if fresh {
+        return fresh;
+    }
+    true
+}
+
+// The kind of a `load`.
+const LOAD: Word = 1;
+
+// 15 or 16 of a target event of a kind, or 0.
+fn target_fault(kind: Word, unsupported: bool) -> Number
+    ensures { λ r. ⌜ r ≡ targetFaultBy kind unsupported ⌝ }
+{
+    if unsupported {
+        if kind == LOAD {
             return 16;
         }
-        return 0;
+        return 15;
     }
-    15
+    0
 }
 
 pub(crate) fn target_answer(target: &[Word], marks: &[bool; 801]) -> Answer
@@ -43,7 +56,8 @@ pub(crate) fn target_answer(target: &[Word], marks: &[bool; 801]) -> Answer
     while k < target.len() / WORDS {
         let e = get(target, k);
         let at = index_of(e.place);
-        let fault = new_fault(marks[k + 1], is_load(e), fresh[at]);
+        let unsupported = is_unsupported(marks[k + 1], is_load(e), fresh[at]);
+        let fault = target_fault(e.kind, unsupported);
         if fault != 0 {
             return Answer::new(fault, 2, k + 1);
         }

@@ -1,20 +1,20 @@
 -- What an answer says: the source's and the target's answers accept exactly where no event shows a fault, as a statement. An answer goes on to the
 -- next event only where all tests of this one fail. Assumes nothing.
 use mathlib.Core.Path.{_≡_, refl, _∙_}
-use mathlib.Core.Bool.{Bool, true, false, not, cond, _||_}
+use mathlib.Core.Bool.{Bool, true, false, not, cond}
 use mathlib.Core.List.{List, [], _∷_}
 use Prim.Native.Nat.{ℕ, suc}
-use lib.Dec.{T, eqb}
+use lib.Dec.{T, T-not, eqb}
 use Rattle.laws.proofs.Lists.{Each}
 use Rattle.event.specs.declared.Event.{Event}
 use Rattle.event.specs.Answer.{done, first}
 use Rattle.event.specs.declared.Answer.{Answer}
-use Rattle.rules.specs.Fault.{Item, crossed, fate, foreign, item, loadGone, lone, storeGone, unlike, wallGone}
+use Rattle.rules.specs.Fault.{Item, crossed, fate, isLoadKind, item, loadGone, storeGone, unlike, unsupported, wallGone}
 use Rattle.rules.specs.View.{View}
-use Rattle.rules.specs.Verdict.{items, placed, sourceAnswer, sourceFault, targetAnswer, targetFault}
+use Rattle.rules.specs.Verdict.{firstFault, items, keepFault, placed, removalFault, sourceAnswer, sourceFault, targetAnswer, targetFault}
 use Rattle.rules.proofs.Item.{Clash, Sound, Sound₁, Supported, Ordered}
 use Rattle.rules.proofs.Test.{crossed?, extra?, lost?}
-use Rattle.rules.proofs.Truth.{taken}
+use Rattle.rules.proofs.Truth.{T-true, taken}
 
 -- ---- answers
 
@@ -31,32 +31,34 @@ both a b h = go (eqb (a .number) 0) refl h
     go true e h = (rw e tt, h)
     go false e h = absurd (rw e at h)
 
-five : (c d e f g : Bool) → T (eqb (cond c 10 (cond d 11 (cond e 12 (cond f 13 (cond g 14 0))))) 0)
-    → T (not c) × T (not (d || (f || g))) × T (not e)
-five true d e f g h = absurd h
-five false true e f g h = absurd h
-five false false true f g h = absurd h
-five false false false true g h = absurd h
-five false false false false true h = absurd h
-five false false false false false h = (tt, tt, tt)
+-- ---- faults
 
-five′ : (c d e f g : Bool) → T (not c) → T (not (d || (f || g))) → T (not e) → T (eqb (cond c 10 (cond d 11 (cond e 12 (cond f 13 (cond g 14 0))))) 0)
-five′ true d e f g h i j = absurd h
-five′ false true e f g h i j = absurd i
-five′ false false true f g h i j = absurd j
-five′ false false false true g h i j = absurd i
-five′ false false false false true h i j = absurd i
-five′ false false false false false h i j = tt
+-- a test that gives a fault if it succeeds, and what is given if it fails
+passed : (c : Bool) (n k : ℕ) → T (not (eqb n 0)) → T (eqb (cond c n k) 0) → T (not c) × T (eqb k 0)
+passed true n k h g = absurd (T-not (eqb n 0) h g)
+passed false n k h g = (tt, g)
 
-pair : (c d : Bool) → T (eqb (cond c 15 (cond d 16 0)) 0) → T (not (c || d))
-pair true d h = absurd h
-pair false true h = absurd h
-pair false false h = tt
+pass : (c : Bool) (n k : ℕ) → T (not c) → T (eqb k 0) → T (eqb (cond c n k) 0)
+pass true n k h g = absurd h
+pass false n k h g = g
 
-pair′ : (c d : Bool) → T (not (c || d)) → T (eqb (cond c 15 (cond d 16 0)) 0)
-pair′ true d h = absurd h
-pair′ false true h = absurd h
-pair′ false false h = tt
+-- of two faults neither
+neither : (f g : ℕ) → T (eqb (firstFault f g) 0) → T (eqb f 0) × T (eqb g 0)
+neither f g h = go (eqb f 0) refl h
+  where
+    go : (c : Bool) → eqb f 0 ≡ c → T (eqb (cond c g f) 0) → T (eqb f 0) × T (eqb g 0)
+    go true e h = (rw e tt, h)
+    go false e h = absurd (rw e at h)
+
+nor : (f g : ℕ) → T (eqb f 0) → T (eqb g 0) → T (eqb (firstFault f g) 0)
+nor f g h k = rw (T-true (eqb f 0) h) k
+
+some-fault : (kind : ℕ) → T (not (eqb (cond (isLoadKind kind) 16 15) 0))
+some-fault kind = go (isLoadKind kind)
+  where
+    go : (c : Bool) → T (not (eqb (cond c 16 15) 0))
+    go true = tt
+    go false = tt
 
 -- no fault 10
 abbrev pub Faithful : List Event → List Event → List ℕ → Type 0
@@ -77,16 +79,26 @@ module _ (view : Event → View) where
   Clean t b (e ∷ s) [] = Unit {0}
   Clean t b (e ∷ s) (n ∷ ns) = Clean₁ t b e n (items view s ns) × Clean t (item (view e) (fate n) ∷ b) s ns
 
-  clean₁ : (t : List Event) (b : List Item) (e : Event) (n : ℕ) (a : List Item) → T (eqb (sourceFault t b e (item (view e) (fate n)) a) 0) → Clean₁ t b e n a
-  clean₁ t b e n a h =
-      let x = item (view e) (fate n) in
-      let f = five (unlike t e (fate n)) (wallGone x) (crossed b x) (loadGone b x) (storeGone b x a) h in
-      (f .0, lost? b x a .0 (f .1), crossed? b x .0 (f .2))
+  module _ (t : List Event) (b : List Item) (e : Event) (n : ℕ) (a : List Item) where
+    abbrev x : Item
+    x = item (view e) (fate n)
 
-  clean₁′ : (t : List Event) (b : List Item) (e : Event) (n : ℕ) (a : List Item) → Clean₁ t b e n a → T (eqb (sourceFault t b e (item (view e) (fate n)) a) 0)
-  clean₁′ t b e n a f =
-      let x = item (view e) (fate n) in
-      five′ (unlike t e (fate n)) (wallGone x) (crossed b x) (loadGone b x) (storeGone b x a) (f .0) (lost? b x a .1 (f .1)) (crossed? b x .1 (f .2))
+    clean₁ : T (eqb (sourceFault t b e x a) 0) → Clean₁ t b e n a
+    clean₁ h =
+        let f = neither (keepFault t b e x) (removalFault b x a) h in
+        let f10 = passed (unlike t e (fate n)) _ _ tt (f .0) in
+        let f11 = passed (wallGone x) _ _ tt (f10 .1) in
+        let f12 = passed (crossed b x) _ _ tt (f11 .1) in
+        let f13 = passed (loadGone b x) _ _ tt (f .1) in
+        let f14 = passed (storeGone b x a) _ _ tt (f13 .1) in
+        (f10 .0, lost? b x a .0 (f11 .0, f13 .0, f14 .0), crossed? b x .0 (f12 .0))
+
+    clean₁′ : Clean₁ t b e n a → T (eqb (sourceFault t b e x a) 0)
+    clean₁′ f =
+        let l = lost? b x a .1 (f .1) in
+        nor (keepFault t b e x) (removalFault b x a)
+        (pass (unlike t e (fate n)) _ _ (f .0) (pass (wallGone x) _ _ (l .0) (pass (crossed b x) _ _ (crossed? b x .1 (f .2)) tt)))
+        (pass (loadGone b x) _ _ (l .1) (pass (storeGone b x a) _ _ (l .2) tt))
 
   pub source-clean : (t : List Event) (i : ℕ) (b : List Item) (s : List Event) (ns : List ℕ) → T (eqb (sourceAnswer view t i b s ns .number) 0) → Clean t b s ns
   unfolding sourceAnswer
@@ -120,16 +132,16 @@ module _ (view : Event → View) where
   target-clean ns k b [] h = tt
   target-clean ns k b (e ∷ t) h =
       let x = placed view ns k e in
-      let q = onward (eqb (targetFault b x) 0) _ (targetAnswer view ns (suc k) (x ∷ b) t) refl h in
-      (extra? b x .0 (pair (foreign x) (lone b x) (q .0)), target-clean ns (suc k) (x ∷ b) t (q .1))
+      let q = onward (eqb (targetFault (e .kind) b x) 0) _ (targetAnswer view ns (suc k) (x ∷ b) t) refl h in
+      (extra? b x .0 (passed (unsupported b x) _ _ (some-fault (e .kind)) (q .0) .0), target-clean ns (suc k) (x ∷ b) t (q .1))
 
   pub clean-target : (ns : List ℕ) (k : ℕ) (b : List Item) (t : List Event) → Supported b (placeds ns k t) → targetAnswer view ns k b t ≡ done
   unfolding targetAnswer
   clean-target ns k b [] h = refl
   clean-target ns k b (e ∷ t) h =
       let x = placed view ns k e in
-      let f = targetFault b x in
-      taken (targetAnswer view ns (suc k) (x ∷ b) t) _ (eqb f 0) (pair′ (foreign x) (lone b x) (extra? b x .1 (h .0)))
+      let f = targetFault (e .kind) b x in
+      taken (targetAnswer view ns (suc k) (x ∷ b) t) _ (eqb f 0) (pass (unsupported b x) _ _ (extra? b x .1 (h .0)) tt)
       ∙ clean-target ns (suc k) (x ∷ b) t (h .1)
 
   -- ---- the source's faults, each kind by itself

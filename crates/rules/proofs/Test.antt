@@ -1,13 +1,13 @@
 -- The faults are tests that compute; here each is the statement that the theory speaks of. Assumes nothing.
 use mathlib.Core.Path.{_≡_, refl, sym, ap, subst}
-use mathlib.Core.Logic.{_≢_}
+use mathlib.Core.Logic.{_≢_, _↔_}
 use mathlib.Core.Bool.{Bool, true, false, not, _&&_, _||_}
 use mathlib.Core.Option.{Option, none, some, Option·some-ne-none, Option·some-injective}
 use mathlib.Core.List.{List, [], _∷_}
 use Prim.Native.Nat.{ℕ}
 use lib.Dec.{T, eqb, eqb→eq, eqb-refl, ltb→lt, lt→ltb}
 use Rattle.laws.proofs.Lists.{Each}
-use Rattle.rules.specs.Fault.{group, near, Item, above, closing, crossed, foreign, gone, is, isNone, item, loadGone, lone, stays, storeGone, viewOf}
+use Rattle.rules.specs.Fault.{group, near, Item, above, closing, crossed, gone, is, isNone, item, loadGone, stays, storeGone, unsupported, viewOf}
 use Rattle.rules.specs.Fault.{wallGone, witness}
 use Rattle.rules.specs.View.{View, apart, load, store, wall}
 use Rattle.rules.proofs.Item.{Above, Clash, Sound₁, Supported₁}
@@ -52,17 +52,16 @@ if-is (some m) v = (λ t. ap some (eqb→eq m v t), λ e. subst (λ z. T (eqb m 
 
 -- ---- 11, 13, 14
 
-pub lost? : (b : List Item) (x : Item) (a : List Item) → Unless (wallGone x || (loadGone b x || storeGone b x a)) (Sound₁ b x a)
-lost? b (item v (stays w n)) a = never
-lost? b (item wall gone) a = always
-lost? b (item (load p v u) gone) a = go (u && isNone (near p b)) (unless-and u (isNone (near p b)) (plainly u) (unless-none (near p b)))
-  where
-    go : (c : Bool) {X : Type 0} → Unless c X → Unless (c || false) X
-    go true f = f
-    go false f = f
+pub lost? : (b : List Item) (x : Item) (a : List Item) → (T (not (wallGone x)) × T (not (loadGone b x)) × T (not (storeGone b x a))) ↔ Sound₁ b x a
+lost? b (item v (stays w n)) a = (λ _. tt, λ _. (tt, tt, tt))
+lost? b (item wall gone) a = (λ h. h .0, λ h. absurd h)
+lost? b (item (load p v u) gone) a =
+    let w = unless-and u (isNone (near p b)) (plainly u) (unless-none (near p b)) in
+    (λ h. w .0 (h .1), λ h. (tt, w .1 h, tt))
 lost? b (item (store p v) gone) a =
-    unless-and (closing (group p a)) (not (is v (witness (group p b)))) (plainly (closing (group p a)))
-    (unless-not (is v (witness (group p b))) (if-is (witness (group p b)) v))
+    let w = unless-and (closing (group p a)) (not (is v (witness (group p b)))) (plainly (closing (group p a)))
+    (unless-not (is v (witness (group p b))) (if-is (witness (group p b)) v)) in
+    (λ h. w .0 (h .2), λ h. (tt, tt, w .1 h))
 
 -- ---- 12
 
@@ -79,7 +78,7 @@ crossed? (y ∷ b) x =
 
 -- ---- 15, 16
 
-pub extra? : (b : List Item) (x : Item) → Unless (foreign x || lone b x) (Supported₁ b x)
+pub extra? : (b : List Item) (x : Item) → Unless (unsupported b x) (Supported₁ b x)
 extra? b (item v gone) = never
 extra? b (item v (stays false n)) = never
 extra? b (item wall (stays true n)) = always

@@ -110,18 +110,14 @@ storeGone b (item wall gone) a = false
 storeGone b (item (load p v u) gone) a = false
 storeGone b (item (store p v) gone) a = closing (group p a) && not (is v (witness (group p b)))
 
--- 15: a target event without a source is not a load.
-abbrev pub foreign : Item → Bool
-foreign (item v gone) = false
-foreign (item v (stays false n)) = false
-foreign (item wall (stays true n)) = true
-foreign (item (load p v u) (stays true n)) = false
-foreign (item (store p v) (stays true n)) = true
+-- 15, 16: a target event without a source may not be inserted: it is no load, or a load with no near access before it.
+abbrev pub unsupported : List Item → Item → Bool
+unsupported b (item v gone) = false
+unsupported b (item v (stays false n)) = false
+unsupported b (item wall (stays true n)) = true
+unsupported b (item (load p v u) (stays true n)) = isNone (near p b)
+unsupported b (item (store p v) (stays true n)) = true
 
--- 16: a target load without a source has no near access before it.
-abbrev pub lone : List Item → Item → Bool
-lone b (item v gone) = false
-lone b (item v (stays false n)) = false
-lone b (item wall (stays true n)) = false
-lone b (item (load p v u) (stays true n)) = isNone (near p b)
-lone b (item (store p v) (stays true n)) = false
+-- The kind of a `load`.
+abbrev pub isLoadKind : ℕ → Bool
+isLoadKind kind = eqb kind 1

@@ -10,7 +10,7 @@ use Rattle.event.specs.declared.Event.{Event}
 use Rattle.event.specs.declared.Answer.{Answer}
 use Rattle.event.specs.Answer.{answer, done, first}
 use Rattle.rules.specs.View.{View}
-use Rattle.rules.specs.Fault.{Item, item, stays, fate, fateOf, isGone, unlike, wallGone, crossed, loadGone, storeGone, foreign, lone}
+use Rattle.rules.specs.Fault.{Item, item, stays, fate, fateOf, isGone, unlike, wallGone, crossed, loadGone, storeGone, unsupported, isLoadKind}
 
 -- 7: starting values differ, from the location l on; the place is the lowest such location.
 unfoldable pub startAnswer : ℕ → List ℕ → List ℕ → Answer
@@ -28,18 +28,25 @@ entryAnswer n i b [] = done
 entryAnswer n i b (k ∷ ks) =
     cond (not (isGone k) && (ltb n k || has k b)) (answer 9 3 i) (entryAnswer n (suc i) (k ∷ b) ks)
 
+-- The first of 10 to 12 that a source event shows, or 0: it has to be kept, as it is and in order.
+abbrev pub keepFault : List Event → List Item → Event → Item → ℕ
+keepFault t b e x = cond (unlike t e (fateOf x)) 10 (cond (wallGone x) 11 (cond (crossed b x) 12 0))
+
+-- The one of 13 and 14 that a source event shows, or 0: it cannot be removed.
+abbrev pub removalFault : List Item → Item → List Item → ℕ
+removalFault b x a = cond (loadGone b x) 13 (cond (storeGone b x a) 14 0)
+
+-- The first of two faults.
+abbrev pub firstFault : ℕ → ℕ → ℕ
+firstFault f g = cond (eqb f 0) g f
+
 -- The first of 10 to 14 that a source event shows, or 0.
 abbrev pub sourceFault : List Event → List Item → Event → Item → List Item → ℕ
-sourceFault t b e x a =
-    cond (unlike t e (fateOf x)) 10
-    (cond (wallGone x) 11
-    (cond (crossed b x) 12
-    (cond (loadGone b x) 13
-    (cond (storeGone b x a) 14 0))))
+sourceFault t b e x a = firstFault (keepFault t b e x) (removalFault b x a)
 
--- The first of 15 and 16 that a target event shows, or 0.
-abbrev pub targetFault : List Item → Item → ℕ
-targetFault b x = cond (foreign x) 15 (cond (lone b x) 16 0)
+-- The one of 15 and 16 that a target event of a kind shows, or 0: of what may not be inserted a `load` is 16, any other event 15.
+abbrev pub targetFault : ℕ → List Item → Item → ℕ
+targetFault kind b x = cond (unsupported b x) (cond (isLoadKind kind) 16 15) 0
 
 module _ (view : Event → View) where
   -- The source events with the fates that their entries name.
@@ -66,7 +73,7 @@ module _ (view : Event → View) where
   targetAnswer ns k b [] = done
   targetAnswer ns k b (e ∷ t) =
       let x = placed ns k e in
-      let f = targetFault b x in
+      let f = targetFault (e .kind) b x in
       cond (eqb f 0) (targetAnswer ns (suc k) (x ∷ b) t) (answer f 2 k)
 
   -- The answer: 7, 8, 9 over all entries, then the source events, then the target events.

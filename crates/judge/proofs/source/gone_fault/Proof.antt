@@ -10,7 +10,8 @@ use Rattle.rules.specs.View.{view, isLoad, isWall}
 use Rattle.rules.specs.Fault.{is}
 use Rattle.judge.specs.Pass.{goneFault, witnessed}
 use Rattle.judge.specs.declared.source.Cell.{Cell}
-use Rattle.judge.proofs.Sight.{sees, gone-wall, gone-load, gone-store}
+use Rattle.judge.proofs.Cells.{gone-wall, gone-load, gone-store}
+use Rattle.judge.proofs.Sight.{sees}
 use Rattle.judge.proofs.source.gone_fault.Statement.{statement}
 use Rattle.judge.proofs.source.gone_fault.Tie as tie
 

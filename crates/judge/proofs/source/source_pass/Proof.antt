@@ -19,7 +19,8 @@ use Rattle.judge.specs.declared.source.Witness.{Witness}
 use Rattle.judge.proofs.Events.{drop-next, onward-next}
 use Rattle.judge.proofs.Onward.{source-goes, source-stops}
 use Rattle.judge.proofs.Sight.{sees, sees-at}
-use Rattle.judge.proofs.Tallied.{Tallied, fault-at, right, tallied-plain, tallied-start, tallied-wall}
+use Rattle.judge.proofs.Cells.{fault-at}
+use Rattle.judge.proofs.Tallied.{Tallied, right, tallied-plain, tallied-start, tallied-wall}
 use Rattle.judge.proofs.source.source_pass.Statement.{statement}
 use Rattle.judge.proofs.source.source_pass.Tie as tie
 

@@ -1,5 +1,5 @@
 -- From each target event on the answer is that from the next event on, until an event is refused or none is left; the array says which locations
--- had no access since the last synchronising event. Assumes nothing.
+-- had no access since the last synchronising event, which is all that 16 asks. Assumes nothing.
 use Prim.Native.Nat.{ℕ, suc, zero, _+_, _-_, _/_, _≤_, _<_}
 use mathlib.Core.Bool.{Bool}
 use mathlib.Core.List.{List, [], _∷_}
@@ -8,178 +8,154 @@ use native.Mathlib.Numerals.{add-one}
 use native.Mathlib.Omega.{arith}
 use lib.ListN.{length, length-set}
 use Rattle.event.specs.Answer.{answer, done}
+use Rattle.event.specs.declared.Answer.{Answer}
 use Rattle.event.specs.declared.Event.{Event}
 use Rattle.event.specs.Kind.{has}
 use Rattle.event.specs.Room.{eventAt, onward}
 use Rattle.rules.specs.View.{view, isLoad, isWall}
 use Rattle.rules.specs.Fault.{Item, isNone, near}
 use Rattle.rules.specs.Verdict.{placed, targetAnswer, targetFault}
-use Rattle.judge.specs.Pass.{Marked, newFault}
+use Rattle.judge.specs.Pass.{Marked, targetFaultBy, unsupportedBy}
 use Rattle.judge.proofs.Arrays.{Fresh, fresh-plain, fresh-start, fresh-wall}
+use Rattle.judge.proofs.Cells.{unsupported-at}
 use Rattle.judge.proofs.Events.{onward-next}
 use Rattle.judge.proofs.Onward.{target-goes, target-stops}
-use Rattle.judge.proofs.Sight.{new-fault, sees}
+use Rattle.judge.proofs.Sight.{sees}
 use Rattle.judge.proofs.target.target_answer.Statement.{statement}
 use Rattle.judge.proofs.target.target_answer.Tie as tie
 
+-- the answer from the events of a room
+abbrev whole : List ℕ → List ℕ → Answer
+whole ns room = targetAnswer view ns 1 [] (onward room 0 (length room / 6))
+
+-- the events before the index are passed, by the numbers that some entries name
+record Passed (ns room : List ℕ) (fresh : List Bool) (k : ℕ) : Type 0 where
+  behind : List Item
+  fresh-is : Fresh fresh behind
+  answers : whole ns room ≡ targetAnswer view ns (k + 1) behind (onward room k (length room / 6 - k))
+
+record Along (room : List ℕ) (marks fresh : List Bool) (k : ℕ) : Type 0 where
+  bound : k ≤ length room / 6
+  size : length fresh ≡ 256
+  passed : (ns : List ℕ) → Marked marks ns → Passed ns room fresh k
+
 abbrev Inv-loop : tie.InvT-loop
-Inv-loop target marks fresh₀ k₀ fresh k =
-    (k ≤ length target / 6) × ((length fresh ≡ 256) × ((ns : List ℕ) → Marked marks ns → (b : List Item) × (Fresh fresh b
-    × (targetAnswer view ns 1 [] (onward target 0 (length target / 6)) ≡ targetAnswer view ns (k + 1) b (onward target k (length target / 6 - k))))))
+Inv-loop target marks fresh₀ k₀ fresh k = Along target marks fresh k
 
 abbrev μ-loop : tie.MeasureT-loop
 μ-loop target marks fresh₀ k₀ fresh k = length target / 6 - k
 
--- the loop's event, of the number after its index
-abbrev turn : tie.After-get Inv-loop μ-loop → tie.At-loop Inv-loop μ-loop
-turn c = c .before .before
+fault-told : (b : List Item) (ns : List ℕ) (k : ℕ) (e : Event) {i r : ℕ} {u s l f : Bool} → s ≡ has k ns → l ≡ isLoad (view e) → i ≡ e .place
+    → f ≡ isNone (near i b) → u ≡ unsupportedBy s l f → r ≡ targetFaultBy (e .kind) u → targetFault (e .kind) b (placed view ns k e) ≡ r
+fault-told b ns k e p q i g u r =
+    ap (targetFaultBy (e .kind)) (unsupported-at b (has k ns) k (sees e) ∙ sym (u ∙ rw (p, q, g, i))) ∙ sym r
 
-abbrev room : tie.After-get Inv-loop μ-loop → List ℕ
-room c = turn c .before .before .args .target .now
-
-abbrev marks : tie.After-get Inv-loop μ-loop → List Bool
-marks c = turn c .before .before .args .marks .now
-
-abbrev number : tie.After-get Inv-loop μ-loop → ℕ
-number c = turn c .loop .k + 1
-
-place-in : (c : tie.After-index-of Inv-loop μ-loop) → c .index-of .result < 256
-place-in c =
-    let p : eventAt (room (c .before)) (turn (c .before) .loop .k) .place < 256 = turn (c .before) .before .before .pre .1 _ (omega arith) in
-    let q : c .before .get .result .place ≡ eventAt (room (c .before)) (turn (c .before) .loop .k) .place = ap (λ (e : Event). e .place)
-    (c .before .get .ensures) in
-    omega (arith, c .index-of .ensures)
+stops : (ns : List ℕ) (k : ℕ) (b : List Item) (e : Event) (t : List Event) (n : ℕ) → (n ≡ 0 → ⊥) → targetFault (e .kind) b (placed view ns k e) ≡ n
+    → targetAnswer view ns k b (e ∷ t) ≡ answer n 2 k
+stops ns k b e t zero z h = absurd (z refl)
+stops ns k b e t (suc n) z h = target-stops view ns k b e t n h
 
 none-left : (ns : List ℕ) (k : ℕ) (b : List Item) (l : List ℕ) (i n : ℕ) → n ≡ 0 → targetAnswer view ns k b (onward l i n) ≡ done
 unfolding onward targetAnswer
 none-left ns k b l i n e = rw e
 
--- what the entries say of it, and its fault
-abbrev at : tie.After-new-fault Inv-loop μ-loop → tie.After-index-of Inv-loop μ-loop
-at c = c .before .before .before
+-- the event at the index
+module _ (c : tie.After-index-of Inv-loop μ-loop) where
+  abbrev turn : tie.At-loop Inv-loop μ-loop
+  turn = c .before .before .before
 
-abbrev get : tie.After-new-fault Inv-loop μ-loop → tie.After-get Inv-loop μ-loop
-get c = at c .before
+  abbrev begin : tie.Start Inv-loop μ-loop
+  begin = turn .before .before
 
-fault-told : (b : List Item) (ns : List ℕ) (k : ℕ) (e : Event) {i r : ℕ} {s l f : Bool} → s ≡ has k ns → l ≡ isLoad (view e) → i ≡ e .place
-    → f ≡ isNone (near i b) → r ≡ newFault s l f → targetFault b (placed view ns k e) ≡ r
-fault-told b ns k e p q i g r = new-fault b (has k ns) k (sees e) ∙ sym (r ∙ rw (p, q, g, i))
+  abbrev room : List ℕ
+  room = begin .args .target .now
 
-abbrev event : tie.After-new-fault Inv-loop μ-loop → Event
-event c = get c .get .result
+  abbrev index : ℕ
+  index = turn .loop .k
 
-module _ (c : tie.After-new-fault Inv-loop μ-loop) (ns : List ℕ) (m : Marked (marks (get c)) ns) where
-  abbrev behind : List Item
-  behind = turn (get c) .loop .inv .1 .1 ns m .0
-
-  abbrev passed : List Item
-  passed = placed view ns (number (get c)) (event c) ∷ behind
+  abbrev event : Event
+  event = c .before .get .result
 
   abbrev rest : List Event
-  rest = onward (room (get c)) (number (get c)) (length (room (get c)) / 6 - number (get c))
+  rest = onward room (index + 1) (length room / 6 - (index + 1))
 
-  told : targetFault behind (placed view ns (number (get c)) (event c)) ≡ c .new-fault .result
+  place-in : c .index-of .result < 256
+  place-in =
+      let p : eventAt room index .place < 256 = begin .pre .1 index (omega arith) in
+      let q : event .place ≡ eventAt room index .place = ap (λ (e : Event). e .place) (c .before .get .ensures) in
+      omega (arith, c .index-of .ensures)
+
+-- its fault, by the numbers that the entries name
+abbrev at : tie.After-target-fault Inv-loop μ-loop → tie.After-index-of Inv-loop μ-loop
+at c = c .before .before .before .before
+
+module _ (c : tie.After-target-fault Inv-loop μ-loop) (ns : List ℕ) (m : Marked (begin (at c) .args .marks .now) ns) where
+  abbrev before : Passed ns (room (at c)) (turn (at c) .loop .fresh) (index (at c))
+  before = turn (at c) .loop .inv .passed ns m
+
+  abbrev here : Item
+  here = placed view ns (index (at c) + 1) (event (at c))
+
+  told : targetFault (event (at c) .kind) (before .behind) here ≡ c .target-fault .result
   told =
-      fault-told behind ns (number (get c)) (event c) (m (number (get c)) (omega arith) (omega arith)) (c .before .is-load .ensures) (at c .index-of .ensures)
-      (turn (get c) .loop .inv .1 .1 ns m .1 .0 (at c .index-of .result) (place-in (at c)))
-      (c .new-fault .ensures)
+      fault-told (before .behind) ns (index (at c) + 1) (event (at c)) (m (index (at c) + 1) (omega arith) (omega arith))
+      (c .before .before .is-load .ensures) (at c .index-of .ensures) (before .fresh-is (at c .index-of .result) (place-in (at c)))
+      (c .before .is-unsupported .ensures) (c .target-fault .ensures)
 
-  from-here : targetAnswer view ns 1 [] (onward (room (get c)) 0 (length (room (get c)) / 6)) ≡ targetAnswer view ns (number (get c)) behind (event c ∷ rest)
+  from-here : whole ns (room (at c)) ≡ targetAnswer view ns (index (at c) + 1) (before .behind) (event (at c) ∷ rest (at c))
   from-here =
-      turn (get c) .loop .inv .1 .1 ns m .1 .1
-      ∙ rw (onward-next (room (get c)) (length (room (get c)) / 6) (turn (get c) .loop .k) (event c) (omega arith) (get c .get .ensures))
+      before .answers
+      ∙ rw (onward-next (room (at c)) (length (room (at c)) / 6) (index (at c)) (event (at c)) (omega arith) (at c .before .get .ensures))
 
-  goes-on : c .new-fault .result ≡ 0
-      → targetAnswer view ns 1 [] (onward (room (get c)) 0 (length (room (get c)) / 6))
-      ≡ targetAnswer view ns (number (get c) + 1) passed rest
-  goes-on z =
-      from-here ∙ (target-goes view ns (number (get c)) behind (event c) rest (told ∙ z) ∙ rw (← add-one (number (get c))))
+  goes-on : c .target-fault .result ≡ 0 → {fresh : List Bool} → Fresh fresh (here ∷ before .behind) → Passed ns (room (at c)) fresh (index (at c) + 1)
+  goes-on z f = record {
+    behind = here ∷ before .behind;
+    fresh-is = f;
+    answers = from-here ∙ (target-goes view ns (index (at c) + 1) (before .behind) (event (at c)) (rest (at c)) (told ∙ z)
+        ∙ rw (← add-one (index (at c) + 1)));
+  }
 
-stops : (ns : List ℕ) (k : ℕ) (b : List Item) (e : Event) (t : List Event) (n : ℕ) → (n ≡ 0 → ⊥) → targetFault b (placed view ns k e) ≡ n
-    → targetAnswer view ns k b (e ∷ t) ≡ answer n 2 k
-stops ns k b e t zero z h = absurd (z refl)
-stops ns k b e t (suc n) z h = target-stops view ns k b e t n h
-
-wall-is : (c : tie.After-is-wall Inv-loop μ-loop) {b : Bool} → c .is-wall .result ≡ b → isWall (view (event (c .before .before))) ≡ b
+wall-is : (c : tie.After-is-wall Inv-loop μ-loop) {b : Bool} → c .is-wall .result ≡ b → isWall (view (event (at (c .before .before)))) ≡ b
 wall-is c e = sym (c .is-wall .ensures) ∙ e
 
 loop-holds : tie.Need-loop-holds Inv-loop μ-loop
 loop-holds c =
     let l = c .before .args .target .now in
     let e : length l / 6 - 0 ≡ length l / 6 = omega arith in
-    (omega arith, (refl, λ ns m. ([], (fresh-start, rw e))))
-
-get-requires : tie.Need-get-requires Inv-loop μ-loop
-get-requires c κs = tt
-
-index-of-requires : tie.Need-index-of-requires Inv-loop μ-loop
-index-of-requires c κs = tt
-
-is-load-requires : tie.Need-is-load-requires Inv-loop μ-loop
-is-load-requires c κs = tt
-
-array-read-new-fault : tie.Need-array-read-new-fault Inv-loop μ-loop
-array-read-new-fault c = place-in (c .before .before)
-
-new-fault-requires : tie.Need-new-fault-requires Inv-loop μ-loop
-new-fault-requires c κs = tt
-
-new-requires : tie.Need-new-requires Inv-loop μ-loop
-new-requires c κs = tt
+    record { bound = omega arith; size = refl; passed = λ ns m. record { behind = []; fresh-is = fresh-start; answers = rw e } }
 
 returns : tie.Need-returns Inv-loop μ-loop
 returns c ns m =
     let f = c .before .before in
     c .new .ensures ∙ sym (from-here f ns m ∙ stops ns _ _ _ _ _ (c .before .if1 .taken) (told f ns m))
 
-is-wall-requires : tie.Need-is-wall-requires Inv-loop μ-loop
-is-wall-requires c κs = tt
-
 loop-again : tie.Need-loop-again Inv-loop μ-loop
 loop-again c =
-    let f = c .before .before .before in (
-      omega arith,
-      (
-        refl,
-        λ ns m. (
-          passed f ns m,
-          (
-            fresh-wall _ (behind f ns m) (sees (event f)) (wall-is (c .before) (c .if2 .taken)),
-            goes-on f ns m (c .before .before .if1 .left),
-          ),
-        ),
-      ),
-    )
-
-array-write-fresh : tie.Need-array-write-fresh Inv-loop μ-loop
-array-write-fresh c = place-in (c .before .before .before .before .before .before)
+    let f = c .before .before .before in
+    record {
+      bound = omega arith;
+      size = refl;
+      passed = λ ns m. goes-on f ns m (c .before .before .if1 .left)
+          (fresh-wall _ (before f ns m .behind) (sees (event (at f))) (wall-is (c .before) (c .if2 .taken)));
+    }
 
 loop-again-2 : tie.Need-loop-again-2 Inv-loop μ-loop
 loop-again-2 c =
     let f = c .before .before .before in
-    let size = turn (get f) .loop .inv .1 .0 in (
-      omega arith,
-      (
-        simp length-set size,
-        λ ns m. (
-          passed f ns m,
-          (
-            fresh-plain _ (behind f ns m) (sees (event f)) (wall-is (c .before) (c .if2 .left)) (turn (get f) .loop .fresh) (at f .index-of .ensures)
-                (place-in (at f)) size (turn (get f) .loop .inv .1 .1 ns m .1 .0),
-            goes-on f ns m (c .before .before .if1 .left),
-          ),
-        ),
-      ),
-    )
-
-new-requires-2 : tie.Need-new-requires-2 Inv-loop μ-loop
-new-requires-2 c κs = tt
+    let t = turn (at f) .loop in
+    record {
+      bound = omega arith;
+      size = simp length-set (t .inv .size);
+      passed = λ ns m. goes-on f ns m (c .before .before .if1 .left)
+          (fresh-plain _ (before f ns m .behind) (sees (event (at f))) (wall-is (c .before) (c .if2 .left)) (t .fresh) (at f .index-of .ensures)
+          (place-in (at f)) (t .inv .size) (before f ns m .fresh-is));
+    }
 
 returns-2 : tie.Need-returns-2 Inv-loop μ-loop
 returns-2 c ns m =
-    let l = c .before .before .before .before .args .target .now in
-    let e : length l / 6 - c .before .before .loop .k ≡ 0 = omega arith in
-    c .new2 .ensures ∙ sym (c .before .before .loop .inv .1 .1 ns m .1 .1 ∙ none-left ns _ _ l _ _ e)
+    let t = c .before .before in
+    let e : length (t .before .before .args .target .now) / 6 - t .loop .k ≡ 0 = omega arith in
+    c .new2 .ensures ∙ sym (t .loop .inv .passed ns m .answers ∙ none-left ns _ _ _ _ _ e)
 
 pub target-answer-spec : {M : Type 1} → statement M
 target-answer-spec =
@@ -188,22 +164,23 @@ target-answer-spec =
     Inv-loop
     μ-loop
     loop-holds
-    get-requires
-    index-of-requires
+    (λ c κs. tt)
+    (λ c κs. tt)
     (λ c. omega arith)
     (λ c. omega arith)
-    is-load-requires
-    array-read-new-fault
-    new-fault-requires
+    (λ c κs. tt)
+    (λ c. place-in (c .before .before))
+    (λ c κs. tt)
+    (λ c κs. tt)
     (λ c. omega arith)
-    new-requires
+    (λ c κs. tt)
     returns
     (λ c. omega arith)
-    is-wall-requires
+    (λ c κs. tt)
     (λ c. omega arith)
     loop-again
-    array-write-fresh
+    (λ c. place-in (at (c .before .before .before)))
     (λ c. omega arith)
     loop-again-2
-    new-requires-2
+    (λ c κs. tt)
     returns-2)
