@@ -6,8 +6,8 @@ use Prim.Native.Nat.{ℕ, suc}
 use Rattle.laws.proofs.Lists.{Each}
 use Rattle.rules.proofs.Item.{wall, load, store, gone, stays, Item, item, keep, sourced, Numbered, Supported, Likes, Faultless, Kept, Above}
 use Rattle.rules.proofs.Item.{Gone, may}
-use Rattle.rules.proofs.Word.{keptLoad, recent, Agree₁, Agree}
-use Rattle.rules.proofs.Place.{word, at-own, recent-near, holds-recent}
+use Rattle.rules.proofs.Word.{keptLoad, nearWord, Agree₁, Agree}
+use Rattle.rules.proofs.Place.{word, at-own, word-near, holds-of-word}
 use Rattle.rules.proofs.Order.{Exact, rising, rising-sourced}
 use Rattle.rules.proofs.Insertion.{near-fits}
 use Rattle.rules.proofs.Target.{print, numbered-like, word-like, supported-like, Given, Print, prints-likes, kept}
@@ -19,14 +19,14 @@ use Rattle.rules.proofs.Fixed.{Fill as FillOf, InOrder, full, leave, pu
 abbrev Fill : List Item → List Item → List Item → Type 0
 Fill b s t = FillOf may b s t
 
-fill : (b t : List Item) (i : ℕ) → Numbered i t → ((l : ℕ) → Agree (recent (word l b)) (word l t)) → Supported b t → Fill b (sourced t) t
+fill : (b t : List Item) (i : ℕ) → Numbered i t → ((l : ℕ) → Agree (nearWord (word l b)) (word l t)) → Supported b t → Fill b (sourced t) t
 fill b [] i n g h = full
 fill b (item v gone ∷ t) i n g h = absurd n
 fill b (item v (stays false m) ∷ t) i n g h = leave (fill (item v (stays false m) ∷ b) t (suc i) (n .1) (λ l. g l .1) (h .1))
 fill b (item wall (stays true m) ∷ t) i n g h = absurd (h .0)
 fill b (item (load p v u) (stays true m) ∷ t) i n g h =
-    let f = at-own (λ x. Agree₁ x (recent (word p b))) p {x = keptLoad v} (g p .0) in
-    put (tt, holds-recent p b v (near-fits (recent (word p b)) v (recent-near p b (h .0)) f))
+    let f = at-own (λ x. Agree₁ x (nearWord (word p b))) p {x = keptLoad v} (g p .0) in
+    put (tt, holds-of-word p b v (near-fits (nearWord (word p b)) v (word-near p b (h .0)) f))
     (fill (item (load p v u) (stays true m) ∷ b) t (suc i) (n .1) (λ l. g l .1) (h .1))
 fill b (item (store p v) (stays true m) ∷ t) i n g h = absurd (h .0)
 

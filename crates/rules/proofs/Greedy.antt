@@ -12,16 +12,10 @@ use borrow.Author.Tests.{eqb-true}
 use Rattle.rules.proofs.Item.{View, wall, load, store, gone, stays, Item, item, valueOf, near, Holds, Stores, Removable, one, Move, remove, keep}
 use Rattle.rules.proofs.Item.{Sound, Gone, may}
 use Rattle.rules.proofs.Fixed.{Still as StillOf, Last as LastOf, Lasts as LastsOf, out, under, end, more}
-use Rattle.rules.proofs.Word.{Letter, far, keptLoad, keptStore, goneLoad, goneStore, late, recent, over, know, known, fits, Agree, first-unused, Ok}
+use Rattle.rules.proofs.Word.{Letter, far, keptLoad, keptStore, goneLoad, goneStore, nearLetter, storesWord, witnessLetter, fits, Agree, first-unused, Ok}
 use Rattle.rules.proofs.Word.{ok-of-fine, some≢none}
-use Rattle.rules.proofs.WordMoves.{ok-unload, ok-over, ok-stay, agree-step, fresh, Stays, AllStay}
-use Rattle.rules.proofs.Place.{letter, word, by-place, at-own, recent-holds, holds-recent, stores-over, over-stores, step-of, fine-of-sound, Agrees}
-
-abbrev N : ℕ → List Item → Option ℕ
-N l b = recent (word l b)
-
-abbrev K : ℕ → List Item → Option ℕ
-K l b = known (word l b)
+use Rattle.rules.proofs.WordMoves.{ok-unload, ok-stores, ok-stay, agree-step, fresh, Stays, AllStay}
+use Rattle.rules.proofs.Place.{letter, word, nearAt, witnessAt, by-place, at-own, word-holds, holds-of-word, stores-of-word, word-stores, step-of, fine-of-sound, Agrees}
 
 abbrev Still : List Item → List Item → Type 0
 Still b s = StillOf may Gone b s
@@ -34,78 +28,78 @@ Lasts s t = LastsOf may Gone s t
 
 -- ---- where nothing may be removed, nothing is gone
 
-load-out : (b : List Item) (q v : ℕ) (u : Bool) (a : List Item) (n : Option ℕ) → N q b ≡ n → fits n v → first-unused n u
+load-out : (b : List Item) (q v : ℕ) (u : Bool) (a : List Item) (n : Option ℕ) → nearAt q b ≡ n → fits n v → first-unused n u
     → Removable b (item (load q v u) gone) a
 load-out b q v false a n e f g = tt
 load-out b q v true a none e f g = absurd g
-load-out b q v true a (some m) e f g = holds-recent q b v (e ∙ ap some f)
+load-out b q v true a (some m) e f g = holds-of-word q b v (e ∙ ap some f)
 
 -- a load of another place does not matter, and one of this place could be removed
 still-load : (p : ℕ) (b a : List Item) (q v : ℕ) (u : Bool) → p ≡ q → (Gone (item (load q v u) gone) → Removable b (item (load q v u) gone) a → ⊥)
-    → fits (N p b) v → first-unused (N p b) u → ⊥
-still-load p b a q v u i r f g = r tt (load-out b q v u a (N p b) (rw i) f g)
+    → fits (nearAt p b) v → first-unused (nearAt p b) u → ⊥
+still-load p b a q v u i r f g = r tt (load-out b q v u a (nearAt p b) (rw i) f g)
 
 -- what the walk over the items after a gone store shows, if the next letter is y
 abbrev Settled : ℕ → Option ℕ → Option ℕ → List Letter → Letter → Type 0
 Settled v n k w y = Agree n (y ∷ w) → Ok n k (y ∷ w)
-    → (late y n ≡ some v → Agree (late y n) w → Ok (late y n) k w → (k ≡ some v) ⊎ T (over w))
-    → (k ≡ some v) ⊎ T (over (y ∷ w))
+    → (nearLetter y n ≡ some v → Agree (nearLetter y n) w → Ok (nearLetter y n) k w → (k ≡ some v) ⊎ T (storesWord w))
+    → (k ≡ some v) ⊎ T (storesWord (y ∷ w))
 
-still-store : (p v : ℕ) (k : Option ℕ) (b a : List Item) → N p b ≡ some v → Still b a → Agree (N p b) (word p a) → Ok (N p b) k (word p a)
-    → (k ≡ some v) ⊎ T (over (word p a))
+still-store : (p v : ℕ) (k : Option ℕ) (b a : List Item) → nearAt p b ≡ some v → Still b a → Agree (nearAt p b) (word p a) → Ok (nearAt p b) k (word p a)
+    → (k ≡ some v) ⊎ T (storesWord (word p a))
 still-store p v k b [] e r g h = inl (h ∙ e)
 still-store p v k b (item wall gone ∷ a) e r g h = inl (h .0 .1 ∙ e)
 still-store p v k b (item wall (stays w n) ∷ a) e r g h = inl (h .0 .1 ∙ e)
 still-store p v k b (item (load q x u) gone ∷ a) e r g h =
-    by-place (Settled v (N p b) k (word p a)) p q (goneLoad x u) (λ g h ih. ih e (g .1) (h .1))
+    by-place (Settled v (nearAt p b) k (word p a)) p q (goneLoad x u) (λ g h ih. ih e (g .1) (h .1))
     (λ i g h ih. absurd (still-load p b a q x u i (r .0) (g .0) (h .0)))
     g h (λ e. still-store p v k (item (load q x u) gone ∷ b) a e (r .1))
 still-store p v k b (item (load q x u) (stays w n) ∷ a) e r g h =
-    by-place (Settled v (N p b) k (word p a)) p q (keptLoad x) (λ g h ih. ih e (g .1) (h .1)) (λ i g h ih. inl (h .0 ∙ e))
+    by-place (Settled v (nearAt p b) k (word p a)) p q (keptLoad x) (λ g h ih. ih e (g .1) (h .1)) (λ i g h ih. inl (h .0 ∙ e))
     g h (λ e. still-store p v k (item (load q x u) (stays w n) ∷ b) a e (r .1))
 still-store p v k b (item (store q x) gone ∷ a) e r g h =
-    by-place (Settled v (N p b) k (word p a)) p q (goneStore x) (λ g h ih. ih e (g .1) (h .1)) (λ i g h ih. inr tt)
+    by-place (Settled v (nearAt p b) k (word p a)) p q (goneStore x) (λ g h ih. ih e (g .1) (h .1)) (λ i g h ih. inr tt)
     g h (λ e. still-store p v k (item (store q x) gone ∷ b) a e (r .1))
 still-store p v k b (item (store q x) (stays w n) ∷ a) e r g h =
-    by-place (Settled v (N p b) k (word p a)) p q (keptStore x) (λ g h ih. ih e (g .1) (h .1)) (λ i g h ih. inr tt)
+    by-place (Settled v (nearAt p b) k (word p a)) p q (keptStore x) (λ g h ih. ih e (g .1) (h .1)) (λ i g h ih. inr tt)
     g h (λ e. still-store p v k (item (store q x) (stays w n) ∷ b) a e (r .1))
 
-store-out : (p : ℕ) (b a : List Item) (q v : ℕ) → p ≡ q → K p b ≡ N p b → (K p b ≡ some v) ⊎ T (over (word p a)) → Removable b (item (store q v) gone) a
-store-out p b a q v i c (inl e) = inl (holds-recent q b v (rw (← i) (sym c ∙ e)))
-store-out p b a q v i c (inr o) = inr (stores-over q a (rw (← i) o))
+store-out : (p : ℕ) (b a : List Item) (q v : ℕ) → p ≡ q → witnessAt p b ≡ nearAt p b → (witnessAt p b ≡ some v) ⊎ T (storesWord (word p a)) → Removable b (item (store q v) gone) a
+store-out p b a q v i c (inl e) = inl (holds-of-word q b v (rw (← i) (sym c ∙ e)))
+store-out p b a q v i c (inr o) = inr (stores-of-word q a (rw (← i) o))
 
 own-letter : (p q : ℕ) (x : Letter) → p ≡ q → cond (eqb p q) x far ≡ x
 own-letter p q x i = rw i (at-own (λ y. cond (eqb q q) x far ≡ y) q refl)
 
 abbrev Cleared : Option ℕ → Option ℕ → List Letter → Letter → Type 0
 Cleared n k w y = Agree n (y ∷ w) → Ok n k (y ∷ w)
-    → (know y n k ≡ late y n → Agree (late y n) w → Ok (late y n) (know y n k) w → AllStay w)
+    → (witnessLetter y n k ≡ nearLetter y n → Agree (nearLetter y n) w → Ok (nearLetter y n) (witnessLetter y n k) w → AllStay w)
     → AllStay (y ∷ w)
 
-still : (p : ℕ) (b a : List Item) → K p b ≡ N p b → Still b a → Agree (N p b) (word p a) → Ok (N p b) (K p b) (word p a) → AllStay (word p a)
+still : (p : ℕ) (b a : List Item) → witnessAt p b ≡ nearAt p b → Still b a → Agree (nearAt p b) (word p a) → Ok (nearAt p b) (witnessAt p b) (word p a) → AllStay (word p a)
 still p b [] c r g h = tt
 still p b (item wall gone ∷ a) c r g h = absurd (h .0 .0)
 still p b (item wall (stays w n) ∷ a) c r g h = (tt, still p (item wall (stays w n) ∷ b) a refl (r .1) (g .1) (h .1))
 still p b (item (load q v u) gone ∷ a) c r g h =
-    by-place (Cleared (N p b) (K p b) (word p a)) p q (goneLoad v u) (λ g h ih. (tt, ih c (g .1) (h .1)))
+    by-place (Cleared (nearAt p b) (witnessAt p b) (word p a)) p q (goneLoad v u) (λ g h ih. (tt, ih c (g .1) (h .1)))
     (λ i g h ih. absurd (still-load p b a q v u i (r .0) (g .0) (h .0)))
     g h (λ c. still p (item (load q v u) gone ∷ b) a c (r .1))
 still p b (item (load q v u) (stays w n) ∷ a) c r g h =
-    by-place (Cleared (N p b) (K p b) (word p a)) p q (keptLoad v) (λ g h ih. (tt, ih c (g .1) (h .1))) (λ i g h ih. (tt, ih refl (g .1) (h .1)))
+    by-place (Cleared (nearAt p b) (witnessAt p b) (word p a)) p q (keptLoad v) (λ g h ih. (tt, ih c (g .1) (h .1))) (λ i g h ih. (tt, ih refl (g .1) (h .1)))
     g h (λ c. still p (item (load q v u) (stays w n) ∷ b) a c (r .1))
 still p b (item (store q v) gone ∷ a) c r g h =
-    by-place (Cleared (N p b) (K p b) (word p a)) p q (goneStore v) (λ g h ih. (tt, ih c (g .1) (h .1)))
+    by-place (Cleared (nearAt p b) (witnessAt p b) (word p a)) p q (goneStore v) (λ g h ih. (tt, ih c (g .1) (h .1)))
     (λ i g h ih. absurd (r .0 tt (store-out p b a q v i c
-    (let e : N p (item (store q v) gone ∷ b) ≡ some v = ap (λ y. late y (N p b)) (own-letter p q (goneStore v) i) in
-    still-store p v (K p b) (item (store q v) gone ∷ b) a e (r .1) (rw e (g .1)) (rw e (h .1))))))
+    (let e : nearAt p (item (store q v) gone ∷ b) ≡ some v = ap (λ y. nearLetter y (nearAt p b)) (own-letter p q (goneStore v) i) in
+    still-store p v (witnessAt p b) (item (store q v) gone ∷ b) a e (r .1) (rw e (g .1)) (rw e (h .1))))))
     g h (λ c. still p (item (store q v) gone ∷ b) a c (r .1))
 still p b (item (store q v) (stays w n) ∷ a) c r g h =
-    by-place (Cleared (N p b) (K p b) (word p a)) p q (keptStore v) (λ g h ih. (tt, ih c (g .1) (h .1))) (λ i g h ih. (tt, ih refl (g .1) (h .1)))
+    by-place (Cleared (nearAt p b) (witnessAt p b) (word p a)) p q (keptStore v) (λ g h ih. (tt, ih c (g .1) (h .1))) (λ i g h ih. (tt, ih refl (g .1) (h .1)))
     g h (λ c. still p (item (store q v) (stays w n) ∷ b) a c (r .1))
 
 -- ---- to remove the last makes no fault
 
-agree-last : (l : ℕ) {b s t : List Item} → Last b s t → Agree (N l b) (word l s) → Agree (N l b) (word l t)
+agree-last : (l : ℕ) {b s t : List Item} → Last b s t → Agree (nearAt l b) (word l s) → Agree (nearAt l b) (word l t)
 agree-last l (out {b = b} {a = a} {e = e} r g m) c = let k : Move one b (e ∷ a) a = remove m in agree-step (step-of l k g) c
 agree-last l (under q) c = (c .0, agree-last l q (c .1))
 
@@ -118,19 +112,19 @@ first-out (some m) k v u w f c g h = ok-unload (some m) k v u w (λ e. some≢no
 abbrev Spared : Option ℕ → Option ℕ → List Letter → Letter → Type 0
 Spared n k w y = Agree n (y ∷ w) → Ok n k (y ∷ w) → Ok n k w
 
-ok-out : (l : ℕ) (b : List Item) (e : Item) (a : List Item) → Still (e ∷ b) a → Gone e → Removable b e a → Spared (N l b) (K l b) (word l a) (letter l e)
+ok-out : (l : ℕ) (b : List Item) (e : Item) (a : List Item) → Still (e ∷ b) a → Gone e → Removable b e a → Spared (nearAt l b) (witnessAt l b) (word l a) (letter l e)
 ok-out l b (item v (stays w n)) a r g m = absurd g
 ok-out l b (item wall gone) a r g m = absurd m
-ok-out l b (item (load q v u) gone) a r g m = by-place (Spared (N l b) (K l b) (word l a)) l q (goneLoad v u) (λ g h. h .1)
-    (λ i g h. first-out (N l b) (K l b) v u (word l a) (fresh (word l b))
+ok-out l b (item (load q v u) gone) a r g m = by-place (Spared (nearAt l b) (witnessAt l b) (word l a)) l q (goneLoad v u) (λ g h. h .1)
+    (λ i g h. first-out (nearAt l b) (witnessAt l b) v u (word l a) (fresh (word l b))
     (λ e. let o : letter l (item (load q v u) gone) ≡ goneLoad v u = own-letter l q (goneLoad v u) i in
     still l (item (load q v u) gone ∷ b) a (rw o (rw e)) r (rw o (g .1)) (rw o (h .1))) g h)
-ok-out l b (item (store q v) gone) a r g (inl m) = by-place (Spared (N l b) (K l b) (word l a)) l q (goneStore v) (λ g h. h .1)
-    (λ i g h. let e : N l b ≡ some v = rw i (recent-holds q b v m) in rw e (h .1))
-ok-out l b (item (store q v) gone) a r g (inr m) = by-place (Spared (N l b) (K l b) (word l a)) l q (goneStore v) (λ g h. h .1)
-    (λ i g h. ok-over (some v) (N l b) (K l b) (word l a) (rw i (over-stores q a m)) (h .1))
+ok-out l b (item (store q v) gone) a r g (inl m) = by-place (Spared (nearAt l b) (witnessAt l b) (word l a)) l q (goneStore v) (λ g h. h .1)
+    (λ i g h. let e : nearAt l b ≡ some v = rw i (word-holds q b v m) in rw e (h .1))
+ok-out l b (item (store q v) gone) a r g (inr m) = by-place (Spared (nearAt l b) (witnessAt l b) (word l a)) l q (goneStore v) (λ g h. h .1)
+    (λ i g h. ok-stores (some v) (nearAt l b) (witnessAt l b) (word l a) (rw i (word-stores q a m)) (h .1))
 
-ok-last : (l : ℕ) {b s t : List Item} → Last b s t → Agree (N l b) (word l s) → Ok (N l b) (K l b) (word l s) → Ok (N l b) (K l b) (word l t)
+ok-last : (l : ℕ) {b s t : List Item} → Last b s t → Agree (nearAt l b) (word l s) → Ok (nearAt l b) (witnessAt l b) (word l s) → Ok (nearAt l b) (witnessAt l b) (word l t)
 ok-last l (out {b = b} {a = a} {e = e} r g m) c h = ok-out l b e a r g m c h
 ok-last l (under q) c h = (h .0, ok-last l q (c .1) (h .1))
 

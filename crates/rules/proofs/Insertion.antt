@@ -9,12 +9,9 @@ use Prim.Native.Nat.{ℕ}
 use lib.Dec.{eqb, eqb-refl, T-not}
 use Rattle.rules.proofs.Item.{wall, load, store, gone, stays, Item, item, place, Insertable, Differ, Swappable, two, Move, insert, swap, next}
 use Rattle.rules.proofs.Item.{Moves, done, step, Supported₁, Supported}
-use Rattle.rules.proofs.Word.{Letter, far, fence, keptLoad, keptStore, goneLoad, goneStore, late, recent, fits, some≢none}
+use Rattle.rules.proofs.Word.{Letter, far, aWall, keptLoad, keptStore, goneLoad, goneStore, nearLetter, fits, some≢none}
 use Rattle.rules.proofs.WordMoves.{Apart, left, right}
-use Rattle.rules.proofs.Place.{glyph, see, letter, word, by-place, recent-near, near-recent, recent-holds, apart-of}
-
-abbrev pub N : ℕ → List Item → Option ℕ
-N l b = recent (word l b)
+use Rattle.rules.proofs.Place.{glyph, see, letter, nearAt, by-place, word-near, near-of-word, word-holds, apart-of}
 
 pub near-fits : (n : Option ℕ) (v : ℕ) → n ≢ none → fits n v → n ≡ some v
 near-fits none v ne f = absurd (ne refl)
@@ -23,25 +20,25 @@ near-fits (some m) v ne f = ap some f
 -- ---- and back
 
 -- more may be near
-pub late-more : (x : Letter) (n n′ : Option ℕ) → (n ≢ none → n′ ≢ none) → late x n ≢ none → late x n′ ≢ none
-late-more far n n′ f h = f h
-late-more (fence d) n n′ f h = h
-late-more (keptLoad v) n n′ f h = h
-late-more (keptStore v) n n′ f h = h
-late-more (goneLoad v u) n n′ f h = h
-late-more (goneStore v) n n′ f h = h
+pub near-more : (x : Letter) (n n′ : Option ℕ) → (n ≢ none → n′ ≢ none) → nearLetter x n ≢ none → nearLetter x n′ ≢ none
+near-more far n n′ f h = f h
+near-more (aWall d) n n′ f h = h
+near-more (keptLoad v) n n′ f h = h
+near-more (keptStore v) n n′ f h = h
+near-more (goneLoad v u) n n′ f h = h
+near-more (goneStore v) n n′ f h = h
 
-pub supported₁-more : (b c : List Item) (e : Item) → ((l : ℕ) → N l b ≢ none → N l c ≢ none) → Supported₁ b e → Supported₁ c e
+pub supported₁-more : (b c : List Item) (e : Item) → ((l : ℕ) → nearAt l b ≢ none → nearAt l c ≢ none) → Supported₁ b e → Supported₁ c e
 supported₁-more b c (item v gone) f h = tt
 supported₁-more b c (item v (stays false n)) f h = tt
 supported₁-more b c (item wall (stays true n)) f h = h
-supported₁-more b c (item (load p v u) (stays true n)) f h = near-recent p c (f p (recent-near p b h))
+supported₁-more b c (item (load p v u) (stays true n)) f h = near-of-word p c (f p (word-near p b h))
 supported₁-more b c (item (store p v) (stays true n)) f h = h
 
-pub supported-more : (b c s : List Item) → ((l : ℕ) → N l b ≢ none → N l c ≢ none) → Supported b s → Supported c s
+pub supported-more : (b c s : List Item) → ((l : ℕ) → nearAt l b ≢ none → nearAt l c ≢ none) → Supported b s → Supported c s
 supported-more b c [] f h = tt
 supported-more b c (e ∷ s) f h =
-    (supported₁-more b c e f (h .0), supported-more (e ∷ b) (e ∷ c) s (λ l. late-more (letter l e) (N l b) (N l c) (f l)) (h .1))
+    (supported₁-more b c e f (h .0), supported-more (e ∷ b) (e ∷ c) s (λ l. near-more (letter l e) (nearAt l b) (nearAt l c) (f l)) (h .1))
 
 -- an inserted item is supported, and so is what follows it
 inserted : (b : List Item) (e : Item) (a : List Item) → Insertable b e → Supported b a → Supported₁ b e × Supported (e ∷ b) a
@@ -49,37 +46,37 @@ inserted b (item v gone) a i h = absurd (i .0)
 inserted b (item v (stays false n)) a i h = absurd (i .0)
 inserted b (item wall (stays true n)) a i h = absurd (i .1)
 inserted b (item (load p v u) (stays true n)) a i h = (
-  near-recent p b (λ e. some≢none (sym (recent-holds p b v (i .1)) ∙ e)),
+  near-of-word p b (λ e. some≢none (sym (word-holds p b v (i .1)) ∙ e)),
   supported-more b (item (load p v u) (stays true n) ∷ b) a
-      (λ l k. by-place (λ x. late x (N l b) ≢ none) l p (keptLoad v) k (λ _ e. some≢none e)) h,
+      (λ l k. by-place (λ x. nearLetter x (nearAt l b) ≢ none) l p (keptLoad v) k (λ _ e. some≢none e)) h,
 )
 inserted b (item (store p v) (stays true n)) a i h = absurd (i .1)
 
-late-apart : {x y : Letter} (n : Option ℕ) → Apart x y → late y (late x n) ≢ none → late x (late y n) ≢ none
-late-apart n left h = h
-late-apart n right h = h
+near-apart : {x y : Letter} (n : Option ℕ) → Apart x y → nearLetter y (nearLetter x n) ≢ none → nearLetter x (nearLetter y n) ≢ none
+near-apart n left h = h
+near-apart n right h = h
 
 -- an item that may be swapped with e does not see it
-unseen : (l : ℕ) (p : Option ℕ) (x : Letter) (n : Option ℕ) → Differ p (some l) → late (see l p x) n ≢ none → n ≢ none
+unseen : (l : ℕ) (p : Option ℕ) (x : Letter) (n : Option ℕ) → Differ p (some l) → nearLetter (see l p x) n ≢ none → n ≢ none
 unseen l none x n d h = absurd d
-unseen l (some p) x n d h = by-place (λ y. late y n ≢ none → n ≢ none) l p x (λ k. k) (λ e. absurd (T-not (eqb p l) d (rw e (eqb-refl p)))) h
+unseen l (some p) x n d h = by-place (λ y. nearLetter y n ≢ none → n ≢ none) l p x (λ k. k) (λ e. absurd (T-not (eqb p l) d (rw e (eqb-refl p)))) h
 
-unseen′ : (l : ℕ) (p : Option ℕ) (x : Letter) (n : Option ℕ) → Differ (some l) p → n ≢ none → late (see l p x) n ≢ none
+unseen′ : (l : ℕ) (p : Option ℕ) (x : Letter) (n : Option ℕ) → Differ (some l) p → n ≢ none → nearLetter (see l p x) n ≢ none
 unseen′ l none x n d h = absurd d
-unseen′ l (some p) x n d h = by-place (λ y. late y n ≢ none) l p x h (λ e. absurd (T-not (eqb l p) d (rw e (eqb-refl p))))
+unseen′ l (some p) x n d h = by-place (λ y. nearLetter y n ≢ none) l p x h (λ e. absurd (T-not (eqb l p) d (rw e (eqb-refl p))))
 
 forward : (b : List Item) (e f : Item) → Swappable e f → Supported₁ (e ∷ b) f → Supported₁ b f
 forward b e (item v gone) d h = tt
 forward b e (item v (stays false n)) d h = tt
 forward b e (item wall (stays true n)) d h = h
-forward b e (item (load p v u) (stays true n)) d h = near-recent p b (unseen p (place e) (glyph e) (N p b) d (recent-near p (e ∷ b) h))
+forward b e (item (load p v u) (stays true n)) d h = near-of-word p b (unseen p (place e) (glyph e) (nearAt p b) d (word-near p (e ∷ b) h))
 forward b e (item (store p v) (stays true n)) d h = h
 
 backward : (b : List Item) (e f : Item) → Swappable e f → Supported₁ b e → Supported₁ (f ∷ b) e
 backward b (item v gone) f d h = tt
 backward b (item v (stays false n)) f d h = tt
 backward b (item wall (stays true n)) f d h = h
-backward b (item (load p v u) (stays true n)) f d h = near-recent p (f ∷ b) (unseen′ p (place f) (glyph f) (N p b) d (recent-near p b h))
+backward b (item (load p v u) (stays true n)) f d h = near-of-word p (f ∷ b) (unseen′ p (place f) (glyph f) (nearAt p b) d (word-near p b h))
 backward b (item (store p v) (stays true n)) f d h = h
 
 supported-move : {b s t : List Item} → Move two b s t → Supported b s → Supported b t
@@ -89,7 +86,7 @@ supported-move (swap {b = b} {a = a} {e = e} {f = f} d) h = (
   (
     backward b e f d (h .0),
     supported-more (f ∷ e ∷ b) (e ∷ f ∷ b) a
-        (λ l. late-apart (N l b) (apart-of l (place e) (place f) (glyph e) (glyph f) d)) (h .1 .1),
+        (λ l. near-apart (nearAt l b) (apart-of l (place e) (place f) (glyph e) (glyph f) d)) (h .1 .1),
   ),
 )
 supported-move (next m) h = (h .0, supported-move m (h .1))

@@ -10,7 +10,7 @@ use lib.Dec.{T, eqb, eqb→eq, eqb-refl, T-not}
 use Rattle.rules.proofs.Item.{View, wall, load, store, gone, stays, Item, item, viewOf, place, valueOf, group, near, Holds, Stores, Removable}
 use Rattle.rules.proofs.Item.{Differ, one, Move, remove, swap, next, closing, witness, Sound₁, Sound, Gone}
 use Rattle.rules.proofs.Chain.{Strict}
-use Rattle.rules.proofs.Word.{Letter, far, fence, keptLoad, keptStore, goneLoad, goneStore, recent, over, shut, seed, known, Fine₁, Fine, none≢some}
+use Rattle.rules.proofs.Word.{Letter, far, aWall, keptLoad, keptStore, goneLoad, goneStore, nearWord, storesWord, closingWord, seed, witnessWord, Fine₁, Fine, none≢some}
 use Rattle.rules.proofs.Word.{Agree}
 use Rattle.rules.proofs.WordMoves.{Cut, Apart, left, right, Step, cut, flip, on}
 
@@ -18,8 +18,8 @@ use Rattle.rules.proofs.WordMoves.{Cut, Apart, left, right, Step, cut, 
 
 -- an item as its own place sees it
 abbrev pub glyph : Item → Letter
-glyph (item wall gone) = fence true
-glyph (item wall (stays w n)) = fence false
+glyph (item wall gone) = aWall true
+glyph (item wall (stays w n)) = aWall false
 glyph (item (load p v u) gone) = goneLoad v u
 glyph (item (load p v u) (stays w n)) = keptLoad v
 glyph (item (store p v) gone) = goneStore v
@@ -35,6 +35,13 @@ letter l e = see l (place e) (glyph e)
 
 abbrev pub word : ℕ → List Item → List Letter
 word l s = map (letter l) s
+
+-- the near access before and the witness, as a place sees them
+abbrev pub nearAt : ℕ → List Item → Option ℕ
+nearAt l b = nearWord (word l b)
+
+abbrev pub witnessAt : ℕ → List Item → Option ℕ
+witnessAt l b = witnessWord (word l b)
 
 -- what holds of a far letter and, at its place, of x, holds of what a place sees
 pub by-place : (P : Letter → Type 0) (l p : ℕ) (x : Letter) → P far → (l ≡ p → P x) → P (cond (eqb l p) x far)
@@ -56,7 +63,7 @@ at-own P p {x} h = go (eqb p p) (eqb-refl p) h
 
 data Seen : List Item → List Letter → Type 0 where
   end : Seen [] []
-  stop : {d : Bool} {w : List Letter} → Seen [] (fence d ∷ w)
+  stop : {d : Bool} {w : List Letter} → Seen [] (aWall d ∷ w)
   pass : {g : List Item} {w : List Letter} → Seen g w → Seen g (far ∷ w)
   load-gone : {p v : ℕ} {u : Bool} {g : List Item} {w : List Letter} → Seen g w → Seen (item (load p v u) gone ∷ g) (goneLoad v u ∷ w)
   load-kept : {p v : ℕ} {u y : Bool} {n : ℕ} {g : List Item} {w : List Letter} → Seen g w → Seen (item (load p v u) (stays y n) ∷ g) (keptLoad v ∷ w)
@@ -84,7 +91,7 @@ seen l (item (store p v) (stays y n) ∷ s) =
 abbrev values : List Item → Option ℕ
 values g = Option·map valueOf (Option·map viewOf (head? g))
 
-seen-near : {g : List Item} {w : List Letter} → Seen g w → values g ≡ recent w
+seen-near : {g : List Item} {w : List Letter} → Seen g w → values g ≡ nearWord w
 seen-near end = refl
 seen-near stop = refl
 seen-near (pass r) = seen-near r
@@ -93,16 +100,16 @@ seen-near (load-kept r) = refl
 seen-near (store-gone r) = refl
 seen-near (store-kept r) = refl
 
-seen-over : {g : List Item} {w : List Letter} → Seen g w → Stores (Option·map viewOf (head? g)) ≡ T (over w)
-seen-over end = refl
-seen-over stop = refl
-seen-over (pass r) = seen-over r
-seen-over (load-gone r) = refl
-seen-over (load-kept r) = refl
-seen-over (store-gone r) = refl
-seen-over (store-kept r) = refl
+seen-stores : {g : List Item} {w : List Letter} → Seen g w → Stores (Option·map viewOf (head? g)) ≡ T (storesWord w)
+seen-stores end = refl
+seen-stores stop = refl
+seen-stores (pass r) = seen-stores r
+seen-stores (load-gone r) = refl
+seen-stores (load-kept r) = refl
+seen-stores (store-gone r) = refl
+seen-stores (store-kept r) = refl
 
-seen-closing : {g : List Item} {w : List Letter} → Seen g w → closing g ≡ shut w
+seen-closing : {g : List Item} {w : List Letter} → Seen g w → closing g ≡ closingWord w
 seen-closing end = refl
 seen-closing stop = refl
 seen-closing (pass r) = seen-closing r
@@ -120,25 +127,25 @@ pub witness-store : (p v : ℕ) (g : List Item) → witness (item (store p v) go
 witness-store p v [] = refl
 witness-store p v (f ∷ g) = refl
 
-seen-witness : {g : List Item} {w : List Letter} → Seen g w → witness g ≡ known w
+seen-witness : {g : List Item} {w : List Letter} → Seen g w → witness g ≡ witnessWord w
 seen-witness end = refl
 seen-witness stop = refl
 seen-witness (pass r) = seen-witness r
-seen-witness (load-gone {p = p} {v = v} {u = u} {g = g} {w = w} r) = witness-load p v u g (recent w) (known w) (seen-near r) (seen-witness r)
+seen-witness (load-gone {p = p} {v = v} {u = u} {g = g} {w = w} r) = witness-load p v u g (nearWord w) (witnessWord w) (seen-near r) (seen-witness r)
 seen-witness (load-kept r) = refl
 seen-witness (store-gone {p = p} {v = v} {g = g} r) = witness-store p v g ∙ seen-witness r
 seen-witness (store-kept r) = refl
 
-pub near-word : (l : ℕ) (s : List Item) → Option·map valueOf (near l s) ≡ recent (word l s)
+pub near-word : (l : ℕ) (s : List Item) → Option·map valueOf (near l s) ≡ nearWord (word l s)
 near-word l s = seen-near (seen l s)
 
-over-word : (l : ℕ) (s : List Item) → Stores (near l s) ≡ T (over (word l s))
-over-word l s = seen-over (seen l s)
+stores-word : (l : ℕ) (s : List Item) → Stores (near l s) ≡ T (storesWord (word l s))
+stores-word l s = seen-stores (seen l s)
 
-closing-word : (l : ℕ) (s : List Item) → closing (group l s) ≡ shut (word l s)
+closing-word : (l : ℕ) (s : List Item) → closing (group l s) ≡ closingWord (word l s)
 closing-word l s = seen-closing (seen l s)
 
-witness-word : (l : ℕ) (s : List Item) → witness (group l s) ≡ known (word l s)
+witness-word : (l : ℕ) (s : List Item) → witness (group l s) ≡ witnessWord (word l s)
 witness-word l s = seen-witness (seen l s)
 
 -- ---- nearness, in the word
@@ -159,23 +166,23 @@ holds-map : (o : Option View) (v : ℕ) → Option·map valueOf o ≡ some v →
 holds-map none v h = none≢some h
 holds-map (some e) v h = Option·some-injective (valueOf e) v h
 
-pub recent-near : (l : ℕ) (s : List Item) → near l s ≢ none → recent (word l s) ≢ none
-recent-near l s h = rw near-word at (map-none (near l s) h)
+pub word-near : (l : ℕ) (s : List Item) → near l s ≢ none → nearWord (word l s) ≢ none
+word-near l s h = rw near-word at (map-none (near l s) h)
 
-pub near-recent : (l : ℕ) (s : List Item) → recent (word l s) ≢ none → near l s ≢ none
-near-recent l s h = none-map (near l s) (rw near-word h)
+pub near-of-word : (l : ℕ) (s : List Item) → nearWord (word l s) ≢ none → near l s ≢ none
+near-of-word l s h = none-map (near l s) (rw near-word h)
 
-pub recent-holds : (l : ℕ) (s : List Item) (v : ℕ) → Holds v (near l s) → recent (word l s) ≡ some v
-recent-holds l s v h = sym (near-word l s) ∙ map-holds (near l s) v h
+pub word-holds : (l : ℕ) (s : List Item) (v : ℕ) → Holds v (near l s) → nearWord (word l s) ≡ some v
+word-holds l s v h = sym (near-word l s) ∙ map-holds (near l s) v h
 
-pub holds-recent : (l : ℕ) (s : List Item) (v : ℕ) → recent (word l s) ≡ some v → Holds v (near l s)
-holds-recent l s v h = holds-map (near l s) v (near-word l s ∙ h)
+pub holds-of-word : (l : ℕ) (s : List Item) (v : ℕ) → nearWord (word l s) ≡ some v → Holds v (near l s)
+holds-of-word l s v h = holds-map (near l s) v (near-word l s ∙ h)
 
-pub stores-over : (l : ℕ) (s : List Item) → T (over (word l s)) → Stores (near l s)
-stores-over l s h = rw over-word h
+pub stores-of-word : (l : ℕ) (s : List Item) → T (storesWord (word l s)) → Stores (near l s)
+stores-of-word l s h = rw stores-word h
 
-pub over-stores : (l : ℕ) (s : List Item) → Stores (near l s) → T (over (word l s))
-over-stores l s h = rw (over-word l s) at h
+pub word-stores : (l : ℕ) (s : List Item) → Stores (near l s) → T (storesWord (word l s))
+word-stores l s h = rw (stores-word l s) at h
 
 -- ---- faults
 
@@ -183,7 +190,7 @@ fine₁ : (l : ℕ) (b : List Item) (e : Item) (a : List Item) → Sound₁ b e 
 fine₁ l b (item wall gone) a h = h
 fine₁ l b (item wall (stays w n)) a h = tt
 fine₁ l b (item (load p v u) gone) a h =
-    by-place (λ x. Fine₁ (word l b) x (word l a)) l p (goneLoad v u) tt (λ e. rw e (λ t. recent-near p b (h t)))
+    by-place (λ x. Fine₁ (word l b) x (word l a)) l p (goneLoad v u) tt (λ e. rw e (λ t. word-near p b (h t)))
 fine₁ l b (item (load p v u) (stays w n)) a h = by-place (λ x. Fine₁ (word l b) x (word l a)) l p (keptLoad v) tt (λ _. tt)
 fine₁ l b (item (store p v) gone) a h =
     by-place (λ x. Fine₁ (word l b) x (word l a)) l p (goneStore v) tt
@@ -197,7 +204,7 @@ fine-of-sound l b (e ∷ s) h = (fine₁ l b e s (h .0), fine-of-sound l (e ∷ 
 sound₁ : (b : List Item) (e : Item) (a : List Item) → ((l : ℕ) → Fine₁ (word l b) (letter l e) (word l a)) → Sound₁ b e a
 sound₁ b (item v (stays w n)) a h = tt
 sound₁ b (item wall gone) a h = h 0
-sound₁ b (item (load p v u) gone) a h = λ t. near-recent p b (at-own (λ x. Fine₁ (word p b) x (word p a)) p {x = goneLoad v u} (h p) t)
+sound₁ b (item (load p v u) gone) a h = λ t. near-of-word p b (at-own (λ x. Fine₁ (word p b) x (word p a)) p {x = goneLoad v u} (h p) t)
 sound₁ b (item (store p v) gone) a h =
     λ t. witness-word p b ∙ at-own (λ x. Fine₁ (word p b) x (word p a)) p {x = goneStore v} (h p) (rw (closing-word p a) at t)
 
@@ -211,12 +218,12 @@ cut-of : (l : ℕ) (b : List Item) (e : Item) (a : List Item) → Gone e → Rem
 cut-of l b (item v (stays w n)) a g r = absurd g
 cut-of l b (item wall gone) a g r = absurd r
 cut-of l b (item (load p v true) gone) a g r =
-    by-place (λ x. Cut (word l b) x (word l a)) l p (goneLoad v true) tt (λ e. rw e (recent-holds p b v r))
+    by-place (λ x. Cut (word l b) x (word l a)) l p (goneLoad v true) tt (λ e. rw e (word-holds p b v r))
 cut-of l b (item (load p v false) gone) a g r = by-place (λ x. Cut (word l b) x (word l a)) l p (goneLoad v false) tt (λ _. tt)
 cut-of l b (item (store p v) gone) a g (inl r) =
-    by-place (λ x. Cut (word l b) x (word l a)) l p (goneStore v) tt (λ e. rw e (inl (recent-holds p b v r)))
+    by-place (λ x. Cut (word l b) x (word l a)) l p (goneStore v) tt (λ e. rw e (inl (word-holds p b v r)))
 cut-of l b (item (store p v) gone) a g (inr r) =
-    by-place (λ x. Cut (word l b) x (word l a)) l p (goneStore v) tt (λ e. rw e (inr (over-stores p a r)))
+    by-place (λ x. Cut (word l b) x (word l a)) l p (goneStore v) tt (λ e. rw e (inr (word-stores p a r)))
 
 pub apart-of : (l : ℕ) (p q : Option ℕ) (x y : Letter) → Differ p q → Apart (see l p x) (see l q y)
 apart-of l none q x y d = absurd d

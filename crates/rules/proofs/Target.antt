@@ -13,9 +13,9 @@ use Rattle.laws.proofs.Lists.{Each}
 use Rattle.rules.proofs.Item.{View, gone, stays, Item, item, one, two, Move, remove, swap, next, Moves, done, step, Supported₁, Supported}
 use Rattle.rules.proofs.Item.{keep, sourced, Numbered, Like, same, marks, Likes, like-nil, like-cons, Pull, here, there, Match, none-left, pick}
 use Rattle.rules.proofs.Item.{Gone, New}
-use Rattle.rules.proofs.Place.{letter, word, Agrees}
+use Rattle.rules.proofs.Place.{letter, nearAt, word, Agrees}
 use Rattle.rules.proofs.Order.{Exact, all-unpull}
-use Rattle.rules.proofs.Insertion.{N, late-more, supported₁-more}
+use Rattle.rules.proofs.Insertion.{near-more, supported₁-more}
 use Rattle.rules.proofs.Chain.{all-one, total, less-one, less-ones, same-twos, Strict, AllStrict}
 use Rattle.rules.proofs.Image.{Over, over-cons, over-nil}
 
@@ -51,11 +51,11 @@ supported₁ b same h = h
 supported₁ b (marks {w = true}) h = h
 supported₁ b (marks {w = false}) h = tt
 
-pub supported-like : (b c : List Item) {s t : List Item} → ((l : ℕ) → N l b ≢ none → N l c ≢ none) → Likes s t → Supported b t → Supported c s
+pub supported-like : (b c : List Item) {s t : List Item} → ((l : ℕ) → nearAt l b ≢ none → nearAt l c ≢ none) → Likes s t → Supported b t → Supported c s
 supported-like b c g like-nil h = tt
 supported-like b c g (like-cons {e = e} {f = f} q r) h = (
   supported₁ c q (supported₁-more b c f g (h .0)),
-  supported-like (f ∷ b) (e ∷ c) (λ l k. rw (letter-like l q) (late-more (letter l f) (N l b) (N l c) (g l) k)) r (h .1),
+  supported-like (f ∷ b) (e ∷ c) (λ l k. rw (letter-like l q) (near-more (letter l f) (nearAt l b) (nearAt l c) (g l) k)) r (h .1),
 )
 
 -- ---- the target with the marks of the source

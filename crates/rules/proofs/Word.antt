@@ -1,5 +1,5 @@
 -- The theory of one location: an automaton that accepts its word, that is what it sees of a source, if and only if the word is free of the
--- faults 11, 13 and 14. Its state is what the source holds, n, and what the target is known to hold, k. Assumes nothing.
+-- faults 11, 13 and 14. Its state is the value of the near access, n, and that of the witness, k. Assumes nothing.
 use mathlib.Core.Path.{_≡_, refl, sym, _∙_, ap}
 use mathlib.Core.Logic.{_≢_}
 use mathlib.Core.Bool.{Bool, true, false, not}
@@ -11,79 +11,79 @@ use lib.Dec.{T}
 -- What one place sees of an item.
 pub data Letter : Type 0 where
   far : Letter
-  fence : (gone : Bool) → Letter
+  aWall : (gone : Bool) → Letter
   keptLoad : (value : ℕ) → Letter
   keptStore : (value : ℕ) → Letter
   goneLoad : (value : ℕ) (used : Bool) → Letter
   goneStore : (value : ℕ) → Letter
 
--- the value of the recent access, after x, where it was n before x
-abbrev pub late : Letter → Option ℕ → Option ℕ
-late far n = n
-late (fence g) n = none
-late (keptLoad v) n = some v
-late (keptStore v) n = some v
-late (goneLoad v u) n = some v
-late (goneStore v) n = some v
+-- the value of the near access after a letter, where it was n before it
+abbrev pub nearLetter : Letter → Option ℕ → Option ℕ
+nearLetter far n = n
+nearLetter (aWall g) n = none
+nearLetter (keptLoad v) n = some v
+nearLetter (keptStore v) n = some v
+nearLetter (goneLoad v u) n = some v
+nearLetter (goneStore v) n = some v
 
--- the value of the recent access before
-abbrev pub recent : List Letter → Option ℕ
-recent [] = none
-recent (x ∷ b) = late x (recent b)
+-- the value of the near access before
+abbrev pub nearWord : List Letter → Option ℕ
+nearWord [] = none
+nearWord (x ∷ b) = nearLetter x (nearWord b)
 
--- the recent access after is a store
-abbrev pub over : List Letter → Bool
-over [] = false
-over (far ∷ a) = over a
-over (fence g ∷ a) = false
-over (keptLoad v ∷ a) = false
-over (keptStore v ∷ a) = true
-over (goneLoad v u ∷ a) = false
-over (goneStore v ∷ a) = true
+-- the near access after is a store
+abbrev pub storesWord : List Letter → Bool
+storesWord [] = false
+storesWord (far ∷ a) = storesWord a
+storesWord (aWall g ∷ a) = false
+storesWord (keptLoad v ∷ a) = false
+storesWord (keptStore v ∷ a) = true
+storesWord (goneLoad v u ∷ a) = false
+storesWord (goneStore v ∷ a) = true
 
 -- ---- faults 11, 13 and 14, at one place
 
--- of the accesses after, the first that is a store or kept is a kept load, or there is none
-abbrev pub shut : List Letter → Bool
-shut [] = true
-shut (far ∷ a) = shut a
-shut (fence g ∷ a) = true
-shut (keptLoad v ∷ a) = true
-shut (keptStore v ∷ a) = false
-shut (goneLoad v u ∷ a) = shut a
-shut (goneStore v ∷ a) = false
+-- closing: of the accesses after, the first that is a store or kept is a kept load, or there is none
+abbrev pub closingWord : List Letter → Bool
+closingWord [] = true
+closingWord (far ∷ a) = closingWord a
+closingWord (aWall g ∷ a) = true
+closingWord (keptLoad v ∷ a) = true
+closingWord (keptStore v ∷ a) = false
+closingWord (goneLoad v u ∷ a) = closingWord a
+closingWord (goneStore v ∷ a) = false
 
 -- k, or v where there is no access before
 abbrev pub seed : Option ℕ → ℕ → Option ℕ → Option ℕ
 seed none v k = some v
 seed (some m) v k = k
 
-abbrev pub know : Letter → Option ℕ → Option ℕ → Option ℕ
-know far n k = k
-know (fence g) n k = none
-know (keptLoad v) n k = some v
-know (keptStore v) n k = some v
-know (goneLoad v u) n k = seed n v k
-know (goneStore v) n k = k
+abbrev pub witnessLetter : Letter → Option ℕ → Option ℕ → Option ℕ
+witnessLetter far n k = k
+witnessLetter (aWall g) n k = none
+witnessLetter (keptLoad v) n k = some v
+witnessLetter (keptStore v) n k = some v
+witnessLetter (goneLoad v u) n k = seed n v k
+witnessLetter (goneStore v) n k = k
 
--- the value of the last kept access before or, with no kept one, of the first access of the group, if that is a load
-abbrev pub known : List Letter → Option ℕ
-known [] = none
-known (x ∷ b) = know x (recent b) (known b)
+-- the witness: the value of the last kept access before or, with no kept one, of the first access of the group, if that is a load
+abbrev pub witnessWord : List Letter → Option ℕ
+witnessWord [] = none
+witnessWord (x ∷ b) = witnessLetter x (nearWord b) (witnessWord b)
 
 abbrev pub Fine₁ : List Letter → Letter → List Letter → Type 0
 Fine₁ b far a = Unit {0}
-Fine₁ b (fence g) a = T (not g)
+Fine₁ b (aWall g) a = T (not g)
 Fine₁ b (keptLoad v) a = Unit {0}
 Fine₁ b (keptStore v) a = Unit {0}
-Fine₁ b (goneLoad v u) a = T u → recent b ≢ none
-Fine₁ b (goneStore v) a = T (shut a) → known b ≡ some v
+Fine₁ b (goneLoad v u) a = T u → nearWord b ≢ none
+Fine₁ b (goneStore v) a = T (closingWord a) → witnessWord b ≡ some v
 
 abbrev pub Fine : List Letter → List Letter → Type 0
 Fine b [] = Unit {0}
 Fine b (x ∷ a) = Fine₁ b x a × Fine (x ∷ b) a
 
--- ---- agreement: a load has the value of the recent access before it
+-- ---- agreement: a load has the value of the near access before it
 
 abbrev pub fits : Option ℕ → ℕ → Type 0
 fits none v = Unit {0}
@@ -91,7 +91,7 @@ fits (some m) v = m ≡ v
 
 abbrev pub Agree₁ : Letter → Option ℕ → Type 0
 Agree₁ far n = Unit {0}
-Agree₁ (fence g) n = Unit {0}
+Agree₁ (aWall g) n = Unit {0}
 Agree₁ (keptLoad v) n = fits n v
 Agree₁ (keptStore v) n = Unit {0}
 Agree₁ (goneLoad v u) n = fits n v
@@ -99,7 +99,7 @@ Agree₁ (goneStore v) n = Unit {0}
 
 abbrev pub Agree : Option ℕ → List Letter → Type 0
 Agree n [] = Unit {0}
-Agree n (x ∷ s) = Agree₁ x n × Agree (late x n) s
+Agree n (x ∷ s) = Agree₁ x n × Agree (nearLetter x n) s
 
 abbrev pub first-unused : Option ℕ → Bool → Type 0
 first-unused none u = T (not u)
@@ -107,7 +107,7 @@ first-unused (some m) u = Unit {0}
 
 abbrev pub guard : Letter → Option ℕ → Option ℕ → Type 0
 guard far n k = Unit {0}
-guard (fence g) n k = T (not g) × (k ≡ n)
+guard (aWall g) n k = T (not g) × (k ≡ n)
 guard (keptLoad v) n k = k ≡ n
 guard (keptStore v) n k = Unit {0}
 guard (goneLoad v u) n k = first-unused n u
@@ -115,7 +115,7 @@ guard (goneStore v) n k = Unit {0}
 
 abbrev pub Ok : Option ℕ → Option ℕ → List Letter → Type 0
 Ok n k [] = k ≡ n
-Ok n k (x ∷ s) = guard x n k × Ok (late x n) (know x n k) s
+Ok n k (x ∷ s) = guard x n k × Ok (nearLetter x n) (witnessLetter x n k) s
 
 -- ---- the automaton is the faults
 
@@ -125,26 +125,26 @@ some≢none {v = v} e = absurd (Option·some-ne-none v e)
 pub none≢some : {X : Type 0} {v : ℕ} → none ≡ Option.some v → X
 none≢some {v = v} e = absurd (Option·none-ne-some v e)
 
-pub ok-shut : {n k : Option ℕ} (s : List Letter) → n ≢ none → Agree n s → Ok n k s → T (shut s) → k ≡ n
-ok-shut [] ne g h c = h
-ok-shut (far ∷ s) ne g h c = ok-shut s ne (g .1) (h .1) c
-ok-shut (fence x ∷ s) ne g h c = h .0 .1
-ok-shut (keptLoad v ∷ s) ne g h c = h .0
-ok-shut (keptStore v ∷ s) ne g h c = absurd c
-ok-shut {n = none} (goneLoad v u ∷ s) ne g h c = absurd (ne refl)
-ok-shut {n = some m} (goneLoad v u ∷ s) ne g h c = ok-shut s (λ e. some≢none e) (g .1) (h .1) c ∙ ap some (sym (g .0))
-ok-shut (goneStore v ∷ s) ne g h c = absurd c
+pub ok-closing : {n k : Option ℕ} (s : List Letter) → n ≢ none → Agree n s → Ok n k s → T (closingWord s) → k ≡ n
+ok-closing [] ne g h c = h
+ok-closing (far ∷ s) ne g h c = ok-closing s ne (g .1) (h .1) c
+ok-closing (aWall x ∷ s) ne g h c = h .0 .1
+ok-closing (keptLoad v ∷ s) ne g h c = h .0
+ok-closing (keptStore v ∷ s) ne g h c = absurd c
+ok-closing {n = none} (goneLoad v u ∷ s) ne g h c = absurd (ne refl)
+ok-closing {n = some m} (goneLoad v u ∷ s) ne g h c = ok-closing s (λ e. some≢none e) (g .1) (h .1) c ∙ ap some (sym (g .0))
+ok-closing (goneStore v ∷ s) ne g h c = absurd c
 
-fine₁ : (b s : List Letter) (x : Letter) → Agree (recent b) (x ∷ s) → Ok (recent b) (known b) (x ∷ s) → Fine₁ b x s
+fine₁ : (b s : List Letter) (x : Letter) → Agree (nearWord b) (x ∷ s) → Ok (nearWord b) (witnessWord b) (x ∷ s) → Fine₁ b x s
 fine₁ b s far g h = tt
-fine₁ b s (fence d) g h = h .0 .0
+fine₁ b s (aWall d) g h = h .0 .0
 fine₁ b s (keptLoad v) g h = tt
 fine₁ b s (keptStore v) g h = tt
 fine₁ b s (goneLoad v true) g h = λ _ e. rw e at (h .0)
 fine₁ b s (goneLoad v false) g h = λ t. absurd t
-fine₁ b s (goneStore v) g h = ok-shut s (λ e. some≢none e) (g .1) (h .1)
+fine₁ b s (goneStore v) g h = ok-closing s (λ e. some≢none e) (g .1) (h .1)
 
-pub fine-of-ok : (b s : List Letter) → Agree (recent b) s → Ok (recent b) (known b) s → Fine b s
+pub fine-of-ok : (b s : List Letter) → Agree (nearWord b) s → Ok (nearWord b) (witnessWord b) s → Fine b s
 fine-of-ok b [] g h = tt
 fine-of-ok b (x ∷ s) g h = (fine₁ b s x g h, fine-of-ok (x ∷ b) s (g .1) (h .1))
 
@@ -158,12 +158,12 @@ seeded none k v g e = refl
 seeded (some m) k v g e = e ∙ ap some g
 
 -- where the next that is looked at would find the state not in order, a fault has been seen
-pub ok-of-fine : (b s : List Letter) → Agree (recent b) s → (T (shut s) → known b ≡ recent b) → Fine b s → Ok (recent b) (known b) s
+pub ok-of-fine : (b s : List Letter) → Agree (nearWord b) s → (T (closingWord s) → witnessWord b ≡ nearWord b) → Fine b s → Ok (nearWord b) (witnessWord b) s
 ok-of-fine b [] g c f = c tt
 ok-of-fine b (far ∷ s) g c f = (tt, ok-of-fine (far ∷ b) s (g .1) c (f .1))
-ok-of-fine b (fence d ∷ s) g c f = ((f .0, c tt), ok-of-fine (fence d ∷ b) s (g .1) (λ _. refl) (f .1))
+ok-of-fine b (aWall d ∷ s) g c f = ((f .0, c tt), ok-of-fine (aWall d ∷ b) s (g .1) (λ _. refl) (f .1))
 ok-of-fine b (keptLoad v ∷ s) g c f = (c tt, ok-of-fine (keptLoad v ∷ b) s (g .1) (λ _. refl) (f .1))
 ok-of-fine b (keptStore v ∷ s) g c f = (tt, ok-of-fine (keptStore v ∷ b) s (g .1) (λ _. refl) (f .1))
 ok-of-fine b (goneLoad v u ∷ s) g c f =
-    (unused (recent b) u (f .0), ok-of-fine (goneLoad v u ∷ b) s (g .1) (λ t. seeded (recent b) (known b) v (g .0) (c t)) (f .1))
+    (unused (nearWord b) u (f .0), ok-of-fine (goneLoad v u ∷ b) s (g .1) (λ t. seeded (nearWord b) (witnessWord b) v (g .0) (c t)) (f .1))
 ok-of-fine b (goneStore v ∷ s) g c f = (tt, ok-of-fine (goneStore v ∷ b) s (g .1) (f .0) (f .1))

@@ -7,7 +7,7 @@ use mathlib.Core.Option.{Option, none, some}
 use mathlib.Core.List.{List, [], _∷_}
 use Prim.Native.Nat.{ℕ}
 use lib.Dec.{T}
-use Rattle.rules.proofs.Word.{Letter, far, fence, keptLoad, keptStore, goneLoad, goneStore, recent, over, known, fits, Agree, Ok, some≢none}
+use Rattle.rules.proofs.Word.{Letter, far, aWall, keptLoad, keptStore, goneLoad, goneStore, nearWord, storesWord, witnessWord, fits, Agree, Ok, some≢none}
 use Rattle.rules.proofs.Word.{none≢some}
 
 -- ---- moves of words
@@ -15,12 +15,12 @@ use Rattle.rules.proofs.Word.{none≢some}
 -- a gone letter may be removed
 abbrev pub Cut : List Letter → Letter → List Letter → Type 0
 Cut b far a = Unit {0}
-Cut b (fence d) a = ⊥
+Cut b (aWall d) a = ⊥
 Cut b (keptLoad v) a = ⊥
 Cut b (keptStore v) a = ⊥
-Cut b (goneLoad v true) a = recent b ≡ some v
+Cut b (goneLoad v true) a = nearWord b ≡ some v
 Cut b (goneLoad v false) a = Unit {0}
-Cut b (goneStore v) a = (recent b ≡ some v) ⊎ T (over a)
+Cut b (goneStore v) a = (nearWord b ≡ some v) ⊎ T (storesWord a)
 
 -- at least one of two letters is far
 pub data Apart : Letter → Letter → Type 0 where
@@ -37,36 +37,36 @@ pub data Step : List Letter → List Letter → List Letter → Type 0 where
 agree-none : (v : ℕ) (s : List Letter) → Agree (some v) s → Agree none s
 agree-none w [] g = tt
 agree-none w (far ∷ s) g = (tt, agree-none w s (g .1))
-agree-none w (fence d ∷ s) g = g
+agree-none w (aWall d ∷ s) g = g
 agree-none w (keptLoad v ∷ s) g = (tt, g .1)
 agree-none w (keptStore v ∷ s) g = g
 agree-none w (goneLoad v u ∷ s) g = (tt, g .1)
 agree-none w (goneStore v ∷ s) g = g
 
-agree-over : (n m : Option ℕ) (s : List Letter) → T (over s) → Agree n s → Agree m s
-agree-over n m [] o g = tt
-agree-over n m (far ∷ s) o g = (tt, agree-over n m s o (g .1))
-agree-over n m (fence d ∷ s) o g = g
-agree-over n m (keptLoad v ∷ s) o g = absurd o
-agree-over n m (keptStore v ∷ s) o g = g
-agree-over n m (goneLoad v u ∷ s) o g = absurd o
-agree-over n m (goneStore v ∷ s) o g = g
+agree-stores : (n m : Option ℕ) (s : List Letter) → T (storesWord s) → Agree n s → Agree m s
+agree-stores n m [] o g = tt
+agree-stores n m (far ∷ s) o g = (tt, agree-stores n m s o (g .1))
+agree-stores n m (aWall d ∷ s) o g = g
+agree-stores n m (keptLoad v ∷ s) o g = absurd o
+agree-stores n m (keptStore v ∷ s) o g = g
+agree-stores n m (goneLoad v u ∷ s) o g = absurd o
+agree-stores n m (goneStore v ∷ s) o g = g
 
 -- a load with a value before it says nothing new
 pub agree-load : (n : Option ℕ) (v : ℕ) (s : List Letter) → fits n v → Agree (some v) s → Agree n s
 agree-load none v s f g = agree-none v s g
 agree-load (some m) v s f g = rw f g
 
-agree-cut : (b : List Letter) (x : Letter) (a : List Letter) → Cut b x a → Agree (recent b) (x ∷ a) → Agree (recent b) a
+agree-cut : (b : List Letter) (x : Letter) (a : List Letter) → Cut b x a → Agree (nearWord b) (x ∷ a) → Agree (nearWord b) a
 agree-cut b far a c g = g .1
-agree-cut b (fence d) a c g = absurd c
+agree-cut b (aWall d) a c g = absurd c
 agree-cut b (keptLoad v) a c g = absurd c
 agree-cut b (keptStore v) a c g = absurd c
-agree-cut b (goneLoad v u) a c g = agree-load (recent b) v a (g .0) (g .1)
+agree-cut b (goneLoad v u) a c g = agree-load (nearWord b) v a (g .0) (g .1)
 agree-cut b (goneStore v) a (inl e) g = rw e (g .1)
-agree-cut b (goneStore v) a (inr o) g = agree-over (some v) (recent b) a o (g .1)
+agree-cut b (goneStore v) a (inr o) g = agree-stores (some v) (nearWord b) a o (g .1)
 
-pub agree-step : {b s t : List Letter} → Step b s t → Agree (recent b) s → Agree (recent b) t
+pub agree-step : {b s t : List Letter} → Step b s t → Agree (nearWord b) s → Agree (nearWord b) t
 agree-step (cut {b = b} {x = x} {a = a} c) g = agree-cut b x a c g
 agree-step (flip left) g = (g .1 .0, (tt, g .1 .1))
 agree-step (flip right) g = (tt, (g .0, g .1 .1))
@@ -78,7 +78,7 @@ agree-step (on m) g = (g .0, agree-step m (g .1))
 ok-more : (u : ℕ) (k : Option ℕ) (s : List Letter) → Ok (some u) none s → Ok (some u) k s
 ok-more u k [] h = none≢some h
 ok-more u k (far ∷ s) h = (tt, ok-more u k s (h .1))
-ok-more u k (fence d ∷ s) h = none≢some (h .0 .1)
+ok-more u k (aWall d ∷ s) h = none≢some (h .0 .1)
 ok-more u k (keptLoad v ∷ s) h = none≢some (h .0)
 ok-more u k (keptStore v ∷ s) h = h
 ok-more u k (goneLoad v d ∷ s) h = (tt, ok-more v k s (h .1))
@@ -87,25 +87,25 @@ ok-more u k (goneStore v ∷ s) h = (tt, ok-more v k s (h .1))
 ok-first : (v : ℕ) (s : List Letter) → Agree (some v) s → Ok none none s → Ok (some v) (some v) s
 ok-first v [] g h = refl
 ok-first v (far ∷ s) g h = (tt, ok-first v s (g .1) (h .1))
-ok-first v (fence d ∷ s) g h = ((h .0 .0, refl), h .1)
+ok-first v (aWall d ∷ s) g h = ((h .0 .0, refl), h .1)
 ok-first v (keptLoad u ∷ s) g h = (refl, h .1)
 ok-first v (keptStore u ∷ s) g h = h
 ok-first v (goneLoad u d ∷ s) g h = (tt, rw (g .0) (h .1))
 ok-first v (goneStore u ∷ s) g h = (tt, ok-more u (some v) s (h .1))
 
-pub ok-over : (n m k : Option ℕ) (s : List Letter) → T (over s) → Ok n k s → Ok m k s
-ok-over n m k [] o h = absurd o
-ok-over n m k (far ∷ s) o h = (tt, ok-over n m k s o (h .1))
-ok-over n m k (fence d ∷ s) o h = absurd o
-ok-over n m k (keptLoad v ∷ s) o h = absurd o
-ok-over n m k (keptStore v ∷ s) o h = h
-ok-over n m k (goneLoad v u ∷ s) o h = absurd o
-ok-over n m k (goneStore v ∷ s) o h = h
+pub ok-stores : (n m k : Option ℕ) (s : List Letter) → T (storesWord s) → Ok n k s → Ok m k s
+ok-stores n m k [] o h = absurd o
+ok-stores n m k (far ∷ s) o h = (tt, ok-stores n m k s o (h .1))
+ok-stores n m k (aWall d ∷ s) o h = absurd o
+ok-stores n m k (keptLoad v ∷ s) o h = absurd o
+ok-stores n m k (keptStore v ∷ s) o h = h
+ok-stores n m k (goneLoad v u ∷ s) o h = absurd o
+ok-stores n m k (goneStore v ∷ s) o h = h
 
-pub fresh : (b : List Letter) → recent b ≡ none → known b ≡ none
+pub fresh : (b : List Letter) → nearWord b ≡ none → witnessWord b ≡ none
 fresh [] e = refl
 fresh (far ∷ b) e = fresh b e
-fresh (fence d ∷ b) e = refl
+fresh (aWall d ∷ b) e = refl
 fresh (keptLoad v ∷ b) e = some≢none e
 fresh (keptStore v ∷ b) e = some≢none e
 fresh (goneLoad v u ∷ b) e = some≢none e
@@ -122,18 +122,18 @@ pub ok-unload : (n k : Option ℕ) (v : ℕ) (u : Bool) (s : List Letter) → n 
 ok-unload none k v u s ne f h = absurd (ne refl)
 ok-unload (some m) k v u s ne f h = rw f (h .1)
 
-ok-cut : (b : List Letter) (x : Letter) (a : List Letter) → Cut b x a → Agree (recent b) (x ∷ a) → Ok (recent b) (known b) a
-    → Ok (recent b) (known b) (x ∷ a)
+ok-cut : (b : List Letter) (x : Letter) (a : List Letter) → Cut b x a → Agree (nearWord b) (x ∷ a) → Ok (nearWord b) (witnessWord b) a
+    → Ok (nearWord b) (witnessWord b) (x ∷ a)
 ok-cut b far a c g h = (tt, h)
-ok-cut b (fence d) a c g h = absurd c
+ok-cut b (aWall d) a c g h = absurd c
 ok-cut b (keptLoad v) a c g h = absurd c
 ok-cut b (keptStore v) a c g h = absurd c
-ok-cut b (goneLoad v true) a c g h = ok-load (recent b) (known b) v true a (fresh b) (λ _ e. some≢none (sym c ∙ e)) (g .0) (g .1) h
-ok-cut b (goneLoad v false) a c g h = ok-load (recent b) (known b) v false a (fresh b) (λ t. absurd t) (g .0) (g .1) h
+ok-cut b (goneLoad v true) a c g h = ok-load (nearWord b) (witnessWord b) v true a (fresh b) (λ _ e. some≢none (sym c ∙ e)) (g .0) (g .1) h
+ok-cut b (goneLoad v false) a c g h = ok-load (nearWord b) (witnessWord b) v false a (fresh b) (λ t. absurd t) (g .0) (g .1) h
 ok-cut b (goneStore v) a (inl e) g h = (tt, rw e at h)
-ok-cut b (goneStore v) a (inr o) g h = (tt, ok-over (recent b) (some v) (known b) a o h)
+ok-cut b (goneStore v) a (inr o) g h = (tt, ok-stores (nearWord b) (some v) (witnessWord b) a o h)
 
-pub ok-step : {b s t : List Letter} → Step b s t → Agree (recent b) s → Ok (recent b) (known b) t → Ok (recent b) (known b) s
+pub ok-step : {b s t : List Letter} → Step b s t → Agree (nearWord b) s → Ok (nearWord b) (witnessWord b) t → Ok (nearWord b) (witnessWord b) s
 ok-step (cut {b = b} {x = x} {a = a} c) g h = ok-cut b x a c g h
 ok-step (flip left) g h = (tt, (h .0, h .1 .1))
 ok-step (flip right) g h = (h .1 .0, (tt, h .1 .1))
@@ -142,7 +142,7 @@ ok-step (on m) g h = (h .0, ok-step m (g .1) (h .1))
 -- a word with nothing gone is accepted
 abbrev pub Stays : Letter → Type 0
 Stays far = Unit {0}
-Stays (fence d) = T (not d)
+Stays (aWall d) = T (not d)
 Stays (keptLoad v) = Unit {0}
 Stays (keptStore v) = Unit {0}
 Stays (goneLoad v u) = ⊥
@@ -155,7 +155,7 @@ AllStay (x ∷ s) = Stays x × AllStay s
 pub ok-stay : (n : Option ℕ) (s : List Letter) → AllStay s → Ok n n s
 ok-stay n [] h = refl
 ok-stay n (far ∷ s) h = (tt, ok-stay n s (h .1))
-ok-stay n (fence d ∷ s) h = ((h .0, refl), ok-stay none s (h .1))
+ok-stay n (aWall d ∷ s) h = ((h .0, refl), ok-stay none s (h .1))
 ok-stay n (keptLoad v ∷ s) h = (refl, ok-stay (some v) s (h .1))
 ok-stay n (keptStore v ∷ s) h = (tt, ok-stay (some v) s (h .1))
 ok-stay n (goneLoad v u ∷ s) h = absurd (h .0)
