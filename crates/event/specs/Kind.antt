@@ -114,7 +114,7 @@ isLocation Location = true
 isLocation Mutex = false
 isLocation Nowhere = false
 
--- the order's place holds a load's mark
+-- marks, not orders
 abbrev pub isMarks : Orders → Bool
 isMarks Bare = false
 isMarks Marks = true
@@ -123,6 +123,10 @@ isMarks Writes = false
 isMarks Updates = false
 isMarks Fences = false
 isMarks NoKind = false
+
+-- a load is what has a mark
+abbrev pub isLoadKind : ℕ → Bool
+isLoadKind kind = isMarks (row kind .orders)
 
 -- plain: `load` and `store`; atomic: every other access to a location
 abbrev pub plain : Event → Bool

@@ -1,7 +1,7 @@
 // The fixed table: a kind's number decides all that a kind is, its orders, its place, its values, whether it reads, what it sets and
 // whether it synchronises.
 ghost use mathlib.Core.Path.{_≡_};
-ghost use Rattle.event.specs.Kind.{accessRow, barrierRow, noKind, row, has, takes, fitsPlace, fitsValues, fields, lawful, isMarks, isLocation, plain};
+ghost use Rattle.event.specs.Kind.{accessRow, barrierRow, noKind, row, has, takes, fitsPlace, fitsValues, fields, lawful, isMarks, isLoadKind, isLocation, plain};
 use crate::Event;
 use crate::Word;
 
@@ -192,8 +192,7 @@ pub fn suits(kind: Word, place: Word, order: Word, first: Word, second: Word) ->
     fits_values(row.values, first, second)
 }
 
-// Whether the order's place holds a load's mark.
-pub fn is_marks(orders: Orders) -> bool
+fn is_marks(orders: Orders) -> bool
     ensures { λ r. ⌜ r ≡ isMarks orders ⌝ }
 {
     match orders {
@@ -205,6 +204,14 @@ pub fn is_marks(orders: Orders) -> bool
         Orders::Fences => false,
         Orders::NoKind => false,
     }
+}
+
+// Whether a kind is that of loads.
+pub fn is_load_kind(kind: Word) -> bool
+    ensures { λ r. ⌜ r ≡ isLoadKind kind ⌝ }
+{
+    let orders = row_of(kind).orders;
+    is_marks(orders)
 }
 
 fn is_location(place: Place) -> bool

@@ -7,10 +7,10 @@ use mathlib.Core.List.{List}
 use Prim.Native.Nat.{ℕ, _+_, _-_, _/_, _<_}
 use lib.Dec.{ltb}
 use lib.ListN.{length, getD, drop}
-use Rattle.event.specs.Kind.{has}
+use Rattle.event.specs.Kind.{isLoadKind, has}
 use Rattle.event.specs.Room.{eventAt, onward}
 use Rattle.rules.specs.View.{View, wall, load, store, view, isWall}
-use Rattle.rules.specs.Fault.{Item, closing, fate, group, is, isGone, isLoadKind, unlike}
+use Rattle.rules.specs.Fault.{Item, closing, fate, group, is, isGone, unlike}
 use Rattle.judge.specs.declared.source.Cell.{Cell}
 use Rattle.judge.specs.declared.source.Tops.{Tops}
 use Rattle.judge.specs.declared.source.Witness.{Witness}

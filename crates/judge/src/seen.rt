@@ -1,10 +1,9 @@
 // What the rules see of an event.
 ghost use mathlib.Core.Path.{_≡_};
 ghost use mathlib.Core.Bool.{_&&_, _||_};
-ghost use Rattle.event.specs.Kind.{row, isMarks};
 ghost use Rattle.rules.specs.View.{view, same, isWall, isLoad};
 use event::Event;
-use event::kind::is_marks;
+use event::kind::is_load_kind;
 use event::kind::is_plain;
 use event::kind::row_of;
 
@@ -35,14 +34,6 @@ pub(crate) fn is_load(e: Event) -> bool
     false
 }
 
-// Whether the order's place of an event holds a mark.
-fn is_marked(e: Event) -> bool
-    ensures { λ r. ⌜ r ≡ isMarks (row (e .kind) .orders) ⌝ }
-{
-    let orders = row_of(e.kind).orders;
-    is_marks(orders)
-}
-
 // Whether two events are the same, the marks of loads apart.
 pub(crate) fn is_same(e: Event, f: Event) -> bool
     ensures { λ r. ⌜ r ≡ same e f ⌝ }
@@ -55,7 +46,10 @@ pub(crate) fn is_same(e: Event, f: Event) -> bool
                 e.first == f.first,
                 both(
                     e.second == f.second,
-                    both(e.code == f.code, either(is_marked(e), e.order == f.order)),
+                    both(
+                        e.code == f.code,
+                        either(is_load_kind(e.kind), e.order == f.order),
+                    ),
                 ),
             ),
         ),

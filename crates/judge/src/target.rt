@@ -14,6 +14,7 @@ use event::Number;
 use event::WORDS;
 use event::Word;
 use event::index_of;
+use event::kind::is_load_kind;
 use event::room::get;
 
 // Whether a target event has no source and may not be inserted: it is no load, or the first access to its location since the last
@@ -30,15 +31,12 @@ fn is_unsupported(sourced: bool, load: bool, fresh: bool) -> bool
     true
 }
 
-// The kind of a `load`.
-const LOAD: Word = 1;
-
 // 15 or 16 of a target event of a kind, or 0.
 fn target_fault(kind: Word, unsupported: bool) -> Number
     ensures { λ r. ⌜ r ≡ targetFaultBy kind unsupported ⌝ }
 {
     if unsupported {
-        if kind == LOAD {
+        if is_load_kind(kind) {
             return 16;
         }
         return 15;

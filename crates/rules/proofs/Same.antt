@@ -4,14 +4,14 @@ use mathlib.Core.Bool.{Bool, true, false, cond, _&&_, _||_}
 use Prim.Native.Nat.{ℕ}
 use lib.Dec.{T, eqb, eqb→eq, eqb-refl}
 use Rattle.event.specs.declared.Event.{Event}
-use Rattle.event.specs.Kind.{used, row, plain, isMarks}
+use Rattle.event.specs.Kind.{used, row, plain, isLoadKind}
 use Rattle.rules.specs.View.{same, view, load, store, wall}
 use Rattle.rules.proofs.Matching.{Alike, equal, marked}
 use Rattle.rules.proofs.Truth.{and, and-left, and-right, or-right}
 
 pub same-refl : (e : Event) → T (same e e)
 same-refl e = go (eqb (e .kind) (e .kind)) (eqb (e .place) (e .place)) (eqb (e .first) (e .first)) (eqb (e .second) (e .second)) (eqb (e .code) (e .code))
-    (isMarks (row (e .kind) .orders)) (eqb (e .order) (e .order)) (eqb-refl (e .kind)) (eqb-refl (e .place)) (eqb-refl (e .first)) (eqb-refl (e .second)) (eqb-refl (e .code))
+    (isLoadKind (e .kind)) (eqb (e .order) (e .order)) (eqb-refl (e .kind)) (eqb-refl (e .place)) (eqb-refl (e .first)) (eqb-refl (e .second)) (eqb-refl (e .code))
     (eqb-refl (e .order))
   where
     go : (a b c d f m o : Bool) → T a → T b → T c → T d → T f → T o → T (a && (b && (c && (d && (f && (m || o))))))
@@ -32,7 +32,7 @@ shared e f h =
     let b = eqb (e .place) (f .place) in
     let c = eqb (e .first) (f .first) in
     let d = eqb (e .second) (f .second) in
-    let g = eqb (e .code) (f .code) && (isMarks (row (e .kind) .orders) || eqb (e .order) (f .order)) in
+    let g = eqb (e .code) (f .code) && (isLoadKind (e .kind) || eqb (e .order) (f .order)) in
     let i = and-right a (b && (c && (d && g))) h in
     let j = and-right b (c && (d && g)) i in
     record {

@@ -117,7 +117,3 @@ unsupported b (item v (stays false n)) = false
 unsupported b (item wall (stays true n)) = true
 unsupported b (item (load p v u) (stays true n)) = isNone (near p b)
 unsupported b (item (store p v) (stays true n)) = true
-
--- The kind of a `load`.
-abbrev pub isLoadKind : ℕ → Bool
-isLoadKind kind = eqb kind 1

@@ -5,12 +5,12 @@ use mathlib.Core.List.{List, [], _∷_}
 use Prim.Native.Nat.{ℕ, suc}
 use lib.Dec.{eqb, ltb}
 use lib.ListN.{length}
-use Rattle.event.specs.Kind.{has}
+use Rattle.event.specs.Kind.{isLoadKind, has}
 use Rattle.event.specs.declared.Event.{Event}
 use Rattle.event.specs.declared.Answer.{Answer}
 use Rattle.event.specs.Answer.{answer, done, first}
 use Rattle.rules.specs.View.{View}
-use Rattle.rules.specs.Fault.{Item, item, stays, fate, fateOf, isGone, unlike, wallGone, crossed, loadGone, storeGone, unsupported, isLoadKind}
+use Rattle.rules.specs.Fault.{Item, item, stays, fate, fateOf, isGone, unlike, wallGone, crossed, loadGone, storeGone, unsupported}
 
 -- 7: starting values differ, from the location l on; the place is the lowest such location.
 unfoldable pub startAnswer : ℕ → List ℕ → List ℕ → Answer

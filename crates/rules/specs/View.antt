@@ -3,7 +3,7 @@ use mathlib.Core.Bool.{Bool, true, false, not, cond, _&&_, _||_}
 use mathlib.Core.Option.{Option, none, some}
 use Prim.Native.Nat.{ℕ}
 use lib.Dec.{eqb}
-use Rattle.event.specs.Kind.{used, row, plain, isMarks}
+use Rattle.event.specs.Kind.{used, row, plain, isLoadKind}
 use Rattle.event.specs.declared.Event.{Event}
 
 -- A plain event is a load, which says whether its value is used, or a store; every synchronising event is a wall.
@@ -60,4 +60,4 @@ same e f =
     && (eqb (e .first) (f .first)
     && (eqb (e .second) (f .second)
     && (eqb (e .code) (f .code)
-    && (isMarks (row (e .kind) .orders) || eqb (e .order) (f .order))))))
+    && (isLoadKind (e .kind) || eqb (e .order) (f .order))))))

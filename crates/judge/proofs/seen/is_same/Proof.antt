@@ -11,7 +11,7 @@ returns c = rw (
   c .before .before .before .both2 .ensures,
   c .before .before .before .before .both .ensures,
   c .before .before .before .before .before .either .ensures,
-  c .before .before .before .before .before .before .before .before .is-marked .ensures,
+  c .before .before .before .before .before .before .before .before .is-load-kind .ensures,
 )
 
 pub is-same-spec : {M : Type 1} → statement M
