@@ -3,3 +3,5 @@ pub mod Rooms
 pub mod Lawful
 pub mod Wrap
 pub mod Table
+pub mod Has
+pub mod Answers

@@ -6,16 +6,13 @@ use mathlib.Core.List.{List, [], _∷_}
 use mathlib.Core.Path.{_≡_, refl}
 use lib.ListN.{getD}
 use Rattle.laws.proofs.Bools.{and-left, and-right}
+use Rattle.laws.proofs.Lists.{every}
 use Rattle.event.specs.Kind.{row, rows, noKind, isLocation}
 use Rattle.event.specs.declared.kind.Row.{Row}
 use Rattle.event.specs.declared.kind.Place.{Place}
 use Rattle.event.specs.declared.kind.Place.the-variants.{Location, Mutex, Nowhere}
 use Rattle.event.specs.declared.kind.Sets.{Sets}
 use Rattle.event.specs.declared.kind.Sets.the-variants.{Nothing, First, Second, Sum}
-
-abbrev pub every : (Row → Bool) → List Row → Bool
-every test [] = true
-every test (r ∷ l) = test r && every test l
 
 found : (test : Row → Bool) (l : List Row) → every test l ≡ true → test noKind ≡ true → (k : ℕ) → test (getD l k noKind) ≡ true
 found test [] h n k = n

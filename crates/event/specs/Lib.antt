@@ -1,5 +1,5 @@
 -- What the contracts of this crate say, by page: answers, the table of kinds, the memory, events in a room. Assumes nothing.
-pub mod Answer
 pub mod Kind
+pub mod Answer
 pub mod Memory
 pub mod Room

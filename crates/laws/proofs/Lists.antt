@@ -1,5 +1,6 @@
--- What holds of each element of a list. Assumes nothing.
+-- What holds of each element of a list, and what a test finds of each. Assumes nothing.
 use Prim.Native.Nat.{ℕ}
+use mathlib.Core.Bool.{Bool, true, _&&_}
 use mathlib.Core.List.{List, [], _∷_, _++_}
 use mathlib.Core.Path.{_≡_}
 
@@ -7,6 +8,11 @@ use mathlib.Core.Path.{_≡_}
 abbrev pub Each : {A : Type 0} → (A → Type 0) → List A → Type 0
 Each P [] = Unit {0}
 Each P (a ∷ l) = P a × Each P l
+
+-- every element passes a test
+abbrev pub every : {A : Type 0} → (A → Bool) → List A → Bool
+every test [] = true
+every test (a ∷ l) = test a && every test l
 
 -- the number s is no element
 abbrev pub Free : ℕ → List ℕ → Type 0

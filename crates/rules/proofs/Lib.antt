@@ -39,4 +39,5 @@ pub mod Along
 -- the theorem, what it leaves in memory, and the table of kinds beside the view
 pub mod Theorem
 pub mod Outcome
+pub mod Answers
 pub mod Sync
