@@ -1,20 +1,18 @@
 -- Rooms and texts in a cycle: what the writer makes of a room is read back into a room as the same events, and what a reading puts in a room
 -- is written as the same bytes. Both follow from one trace having one text, as six words are one event. Assumes nothing.
 use Prim.Native.Nat.{ℕ, zero, suc, _+_, _*_, _/_, _≤_}
-use mathlib.Core.Path.{_≡_, refl, ap}
-use mathlib.Core.Bool.{true}
+use mathlib.Core.Path.{_≡_, refl}
 use mathlib.Core.List.{List, [], _∷_, _++_}
 use native.Mathlib.Omega.{arith}
 use lib.Dec.{ltb}
 use lib.ListN.{length, getD, take, drop}
 use lib.Seq.{take-at}
 use borrow.Author.Tests.{ltb-false, le-ltb, le-leb}
-use Rattle.laws.proofs.Cases.{cases, either, not-first, not-second}
+use Rattle.laws.proofs.Cases.{not-first, not-second}
 use Rattle.laws.proofs.Lists.{Each}
 use Rattle.event.specs.Answer.{answer, done}
-use Rattle.event.specs.Kind.{lawful}
 use Rattle.event.specs.Memory.{stepped}
-use Rattle.event.specs.Room.{flat, inRoom, eventAt, onward}
+use Rattle.event.specs.Room.{flat}
 use Rattle.event.specs.declared.Answer.{Answer}
 use Rattle.event.specs.declared.Event.{Event}
 use Rattle.event.specs.declared.memory.Memory.{Memory}

@@ -1,7 +1,7 @@
 -- Laws of bytes put from a place on: one part after another, and what is left of a whole while its parts are put. Assumes nothing.
-use Prim.Native.Nat.{ℕ, zero, suc, _+_, _≤_}
+use Prim.Native.Nat.{ℕ, zero, suc, _+_, _≤_, _<_}
 use mathlib.Core.Path.{_≡_, refl, sym, _∙_, ap}
-use mathlib.Core.List.{List, [], _∷_, _++_, append-assoc}
+use mathlib.Core.List.{List, [], _∷_, _++_, append-assoc, append-nil}
 use native.Mathlib.Omega.{arith}
 use lib.ListN.{length, set, take, length-append}
 use lib.Seq.{sets, length-sets}
@@ -26,7 +26,8 @@ pub put-none : (room : List ℕ) (at : ℕ) → Put room at [] room at
 put-none room at = record { counted = omega arith; stored = refl }
 
 -- two parts put one after the other
-pub then : {room room₁ room₂ v w : List ℕ} {at at₁ at₂ : ℕ} → Put room at v room₁ at₁ → Put room₁ at₁ w room₂ at₂ → Put room at (v ++ w) room₂ at₂
+pub then : {room room₁ room₂ v w : List ℕ} {at at₁ at₂ : ℕ} → Put room at v room₁ at₁ → Put room₁ at₁ w room₂ at₂
+    → Put room at (v ++ w) room₂ at₂
 then {room} {v = v} {w} {at} p q = record {
   counted = omega (arith, length-append v w, p .counted, q .counted);
   stored = q .stored ∙ rw (p .stored, p .counted, sets-append room at v w);
@@ -66,15 +67,29 @@ module _ {room whole now : List ℕ} {at here : ℕ} where
   pub left-small : {v : List ℕ} {ps : List (List ℕ)} → Left room at whole now here (v ∷ ps) → Small here v
   left-small {v} {ps} l = omega (arith, length-append v (all ps), l .counts, l .small)
 
-  -- what is left, cut in two; nothing left
-  pub left-cut : {rest v w : List ℕ} → rest ≡ v ++ w → Left room at whole now here (rest ∷ []) → Left room at whole now here (v ∷ w ∷ [])
-  left-cut {v = v} {w} e l =
-      let d : all ((v ++ w) ∷ []) ≡ all (v ∷ w ∷ []) = append-assoc v w [] in
-      let m = rw e at l in
-      record { small = l .small; counts = rw (← d) (m .counts); stores = rw (← d) (m .stores) }
+-- a whole that is put in n pieces: those from the i-th on are left
+pub record Going (whole : List ℕ) (rest : ℕ → List ℕ) (n : ℕ) (room : List ℕ) (at : ℕ) (now : List ℕ) (here i : ℕ) : Type 0 where
+  pub few : i ≤ n
+  pub left : Left room at whole now here (rest i ∷ [])
 
-  pub left-end : {rest : List ℕ} → rest ≡ [] → Left room at whole now here (rest ∷ []) → Put room at whole now here
-  left-end e l = let m = rw e at l in record { counted = omega (arith, m .counts); stored = m .stores }
+pub going : (room : List ℕ) (at n : ℕ) {whole : List ℕ} {rest : ℕ → List ℕ} → Small at whole → whole ≡ rest 0 → Going whole rest n room at room at 0
+going room at n {whole} {rest} h e = record { few = omega arith; left = left-all room at h (e ∙ sym (append-nil (rest 0))) }
+
+module _ {whole room now : List ℕ} {rest : ℕ → List ℕ} {n at here i : ℕ} (g : Going whole rest n room at now here i) where
+  -- the next piece, and the others
+  pub going-next : {v : List ℕ} → rest i ≡ v ++ rest (i + 1) → Left room at whole now here (v ∷ rest (i + 1) ∷ [])
+  going-next {v} e =
+      let d : all ((v ++ rest (i + 1)) ∷ []) ≡ all (v ∷ rest (i + 1) ∷ []) = append-assoc v (rest (i + 1)) [] in
+      let m = rw e at (g .left) in
+      record { small = m .small; counts = rw (← d) (m .counts); stores = rw (← d) (m .stores) }
+
+  pub going-on : {v now₁ : List ℕ} {here₁ : ℕ} → i < n → rest i ≡ v ++ rest (i + 1) → Put now here v now₁ here₁
+      → Going whole rest n room at now₁ here₁ (i + 1)
+  going-on h e p = record { few = omega arith; left = left-next (going-next e) p }
+
+  -- no piece is left
+  pub going-end : rest i ≡ [] → Put room at whole now here
+  going-end e = let m = rw e at (g .left) in record { counted = omega (arith, m .counts); stored = m .stores }
 
 -- what was written at the front of a room, read back
 pub front-put : {r : ℕ} {after : List ℕ} (room v : List ℕ) → length v ≤ length room → (r ≡ 0 + length v) × (after ≡ wrote room 0 v)

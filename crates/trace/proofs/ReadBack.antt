@@ -46,27 +46,30 @@ some-after : (ls ts : List (List ℕ)) → Some ts → Some (ls ++ ts)
 some-after [] ts h = h
 some-after (l ∷ ls) ts h = tt
 
+fit-read : (e : Event) → Fit e → recordOf (eventLine e) ≡ Line e
+fit-read e h = event-read e h
+
 -- the lines of events are read without refusal, as the events, and leave the cells alone
 tail-lines : (side k n : ℕ) (es : List Event) → n + length es ≤ 800 → Each Fit es → linesFault side k n (tail es) ≡ done
 tail-lines side k n [] b h = lines-end side k n
 tail-lines side k n (e ∷ es) b h =
-    lines-go side k n (eventLine e) (tail es) e (some-end (map eventLine es)) (event-read e (h .0)) (omega arith)
+    lines-go side k n (eventLine e) (tail es) e (some-end (map eventLine es)) (fit-read e (h .0)) (omega arith)
     ∙ tail-lines side (k + 1) (n + 1) es (omega arith) (h .1)
 
 tail-events : (es : List Event) → Each Fit es → eventsIn (tail es) ≡ es
 unfolding eventsIn
 tail-events [] h = rw blank
-tail-events (e ∷ es) h = rw (event-read e (h .0), tail-events es (h .1))
+tail-events (e ∷ es) h = rw (fit-read e (h .0), tail-events es (h .1))
 
 tail-start : (cells : List ℕ) (es : List Event) → Each Fit es → startIn cells (tail es) ≡ cells
 unfolding startIn
 tail-start cells [] h = rw blank
-tail-start cells (e ∷ es) h = rw (event-read e (h .0), startIn) (tail-start cells es (h .1))
+tail-start cells (e ∷ es) h = rw (fit-read e (h .0), startIn) (tail-start cells es (h .1))
 
 tail-inits : (side k low : ℕ) (es : List Event) → length es ≤ 800 → Each Fit es → initsFault side k low (tail es) ≡ done
 tail-inits side k low [] b h = inits-last side k low [] ∙ tail-lines side k 0 [] b h
 tail-inits side k low (e ∷ es) b h =
-    inits-event side k low empty (eventLine e) (tail es) e (some-end (map eventLine es)) (event-read e (h .0)) ∙ tail-lines side k 0 (e ∷ es) (omega arith) h
+    inits-event side k low empty (eventLine e) (tail es) e (some-end (map eventLine es)) (fit-read e (h .0)) ∙ tail-lines side k 0 (e ∷ es) (omega arith) h
 
 -- a line of a starting value, where one may come
 init-go : (side k low p v : ℕ) (ps : List (List ℕ)) → Some ps → recordOf (initLine p v) ≡ Init p v → low ≤ p

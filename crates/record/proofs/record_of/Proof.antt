@@ -40,26 +40,11 @@ returns : tie.Need-returns
 unfolding recordOf
 returns c = rw (← fields-start _, line-end _ _ (sym (c .before .before .field-of .ensures) ∙ c .enum-told .given .1))
 
-sub-word : tie.Need-sub-word
-sub-word c = inside c .0
-
-part-word-start : tie.Need-part-word-start
-part-word-start c = inside c .0
-
-part-word-end : tie.Need-part-word-end
-part-word-end c = inside c .1
-
-add-init-rest : tie.Need-add-init-rest
-add-init-rest c = omega (arith, inside (c .before .before .before .before))
-
 returns-2 : tie.Need-returns-2
 unfolding recordOf
 returns-2 c =
     let k = c .before .before .before .before .before in
     rw (found k, ← c .before .before .same-bytes .ensures, c .before .if1 .taken) (c .init-rest .ensures)
-
-add-event-rest : tie.Need-add-event-rest
-add-event-rest c = omega (arith, inside (c .before .before .before .before .before))
 
 returns-3 : tie.Need-returns-3
 unfolding recordOf
@@ -76,15 +61,15 @@ record-of-spec =
     (search needs)
     (search needs)
     returns
-    sub-word
-    part-word-start
-    part-word-end
+    (λ c. inside c .0)
+    (λ c. inside c .0)
+    (λ c. inside c .1)
     (search needs)
     (search needs)
-    add-init-rest
+    (λ c. omega (arith, inside (c .before .before .before .before)))
     (search needs)
     returns-2
     (search needs)
-    add-event-rest
+    (λ c. omega (arith, inside (c .before .before .before .before .before)))
     (search needs)
     returns-3)

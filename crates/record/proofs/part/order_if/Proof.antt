@@ -46,18 +46,6 @@ returns-2 : tie.Need-returns-2
 unfolding orderPart
 returns-2 c = rw (wanted (c .before .before .before), ← c .before .before .field-of .ensures, c .enum-told .given .1)
 
-sub-order-of : tie.Need-sub-order-of
-sub-order-of c = inside c .0
-
-part-order-of-start : tie.Need-part-order-of-start
-part-order-of-start c = inside c .0
-
-part-order-of-end : tie.Need-part-order-of-end
-part-order-of-end c = inside c .1
-
-add-t14 : tie.Need-add-t14
-add-t14 c = omega (arith, inside (c .before .before))
-
 returns-3 : tie.Need-returns-3
 unfolding orderPart
 returns-3 c = let k = c .before .before in
@@ -72,9 +60,9 @@ order-if-spec =
     (search needs)
     (search needs)
     returns-2
-    sub-order-of
-    part-order-of-start
-    part-order-of-end
+    (λ c. inside c .0)
+    (λ c. inside c .0)
+    (λ c. inside c .1)
     (search needs)
-    add-t14
+    (λ c. omega (arith, inside (c .before .before)))
     returns-3)

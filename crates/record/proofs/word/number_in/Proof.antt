@@ -1,5 +1,5 @@
 -- The invariant: the word's number is the one that it has among the rows from here on. Assumes nothing.
-use Prim.Native.Nat.{ℕ, _-_, _≤_}
+use Prim.Native.Nat.{_-_}
 use mathlib.Core.List.{[], map}
 use mathlib.Core.Path.{_≡_, refl, sym, _∙_}
 use native.Mathlib.Omega.{arith}
@@ -22,12 +22,6 @@ asked : (c : tie.After-same-bytes Inv-loop μ-loop) → let l = c .before .befor
     let a = l .before .before .args in
     c .same-bytes .result ≡ same (a .word .now) (wordIn (getD (a .table .now) (l .loop .i) []))
 asked c = rw (c .before .word-in .ensures) at (c .same-bytes .ensures)
-
-word-in-requires : tie.Need-word-in-requires Inv-loop μ-loop
-word-in-requires c κs = tt
-
-same-bytes-requires : tie.Need-same-bytes-requires Inv-loop μ-loop
-same-bytes-requires c κs = tt
 
 returns : tie.Need-returns Inv-loop μ-loop
 returns c =
@@ -56,8 +50,8 @@ number-in-spec =
     (λ c. refl)
     (λ c. omega arith)
     (λ c. omega arith)
-    word-in-requires
-    same-bytes-requires
+    (λ c κs. tt)
+    (λ c κs. tt)
     (λ c. omega arith)
     returns
     (λ c. omega arith)

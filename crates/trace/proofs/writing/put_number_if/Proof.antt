@@ -29,15 +29,6 @@ digits-are : (c : tie.After-put-number)
     × (take (c .put-number .result) (c .put-number .last .0) ≡ decimal (c .before .before .before .before .before .args .n))
 digits-are c = rw (← c .before .wide .ensures) (front-put (replicate 20 0) _ (digits-fit (c .before)) (c .put-number .ensures))
 
-returns : tie.Need-returns
-returns c = rw (not-true (c .before .before .args .wanted) (c .if1 .taken)) (put-none _ _)
-
-put-requires : tie.Need-put-requires
-put-requires c κs = omega (arith, small (c .before .before .before .before .before .before))
-
-array-share-prefix-digits : tie.Need-array-share-prefix-digits
-array-share-prefix-digits c = digits-are (c .before .before .before .before .before .before .before) .0
-
 slice-aggregate-put-2 : tie.Need-slice-aggregate-put-2
 slice-aggregate-put-2 c =
     let p = c .before .before .before .before .before .before .before .before in
@@ -60,13 +51,13 @@ pub put-number-if-spec : {M : Type 1} → statement M
 put-number-if-spec =
     tie.close
     (tie.spec
-    returns
+    (λ c. rw (not-true (c .before .before .args .wanted) (c .if1 .taken)) (put-none _ _))
     (λ c. refl)
     (λ c κs. tt)
     (λ c κs. omega (arith, digits-fit c))
     (λ c. refl)
-    put-requires
-    array-share-prefix-digits
+    (λ c κs. omega (arith, small (c .before .before .before .before .before .before)))
+    (λ c. digits-are (c .before .before .before .before .before .before .before) .0)
     slice-aggregate-put-2
     put-requires-2
     (λ c. c .before .before .put2 .kept .0 ∙ c .before .before .before .before .before .before .before .put .kept .0)

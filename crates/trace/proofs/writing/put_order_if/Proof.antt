@@ -16,23 +16,8 @@ wanted c = not-false _ (c .if1 .left)
 small : (c : tie.Else1) → Small (c .before .before .args .at) (tabIf true (wordAt orderWords (c .before .before .args .order)))
 small c = rw (wanted c) at (c .before .before .pre)
 
-returns : tie.Need-returns
-returns c = rw (not-true (c .before .before .args .wanted) (c .if1 .taken)) (put-none _ _)
-
-slice-aggregate-put : tie.Need-slice-aggregate-put
-slice-aggregate-put c = refl
-
-put-requires : tie.Need-put-requires
-put-requires c κs = omega (arith, small (c .before .before))
-
-slice-aggregate-put-word : tie.Need-slice-aggregate-put-word
-slice-aggregate-put-word c = refl
-
 put-word-requires : tie.Need-put-word-requires
 put-word-requires c κs = let p = c .before .before .before .before in omega (arith, p .put .ensures .counted, small (p .before .before .before))
-
-same-length : tie.Need-same-length
-same-length c = c .before .before .put-word .kept .0 ∙ c .before .before .before .before .before .before .before .put .kept .0
 
 returns-2 : tie.Need-returns-2
 returns-2 c =
@@ -44,10 +29,10 @@ pub put-order-if-spec : {M : Type 1} → statement M
 put-order-if-spec =
     tie.close
     (tie.spec
-    returns
-    slice-aggregate-put
-    put-requires
-    slice-aggregate-put-word
+    (λ c. rw (not-true (c .before .before .args .wanted) (c .if1 .taken)) (put-none _ _))
+    (λ c. refl)
+    (λ c κs. omega (arith, small (c .before .before)))
+    (λ c. refl)
     put-word-requires
-    same-length
+    (λ c. c .before .before .put-word .kept .0 ∙ c .before .before .before .before .before .before .before .put .kept .0)
     returns-2)

@@ -4,12 +4,6 @@ use native.Mathlib.Omega.{arith}
 use Rattle.trace.proofs.writing.size_of.Statement.{statement}
 use Rattle.trace.proofs.writing.size_of.Tie as tie
 
-slice-aggregate-put-text : tie.Need-slice-aggregate-put-text
-slice-aggregate-put-text c = refl
-
-put-text-requires : tie.Need-put-text-requires
-put-text-requires c κs = c .before .before .pre
-
 returns : tie.Need-returns
 returns c = omega (arith, c .before .put-text .ensures .counted)
 
@@ -17,6 +11,6 @@ pub size-of-spec : {M : Type 1} → statement M
 size-of-spec =
     tie.close
     (tie.spec
-    slice-aggregate-put-text
-    put-text-requires
+    (λ c. refl)
+    (λ c κs. c .before .before .pre)
     returns)
