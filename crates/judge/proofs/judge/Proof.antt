@@ -78,14 +78,8 @@ module _ (c : tie.After-start-answer) where
   abbrev entries : List ℕ
   entries = start c .args .entries .now
 
-start-answer-requires : tie.Need-start-answer-requires
-start-answer-requires c κs = tt
-
 returns : tie.Need-returns
 returns c = by-start _ _ (source (c .before .before)) (target (c .before .before)) _ (c .before .before .start-answer .ensures) (c .if1 .taken)
-
-new-requires : tie.Need-new-requires
-new-requires c κs = tt
 
 returns-2 : tie.Need-returns-2
 returns-2 c =
@@ -136,9 +130,9 @@ pub judge-spec : {M : Type 1} → statement M
 judge-spec =
     tie.close
     (tie.spec
-    start-answer-requires
+    (λ c κs. tt)
     returns
-    new-requires
+    (λ c κs. tt)
     returns-2
     (λ c κs. omega arith)
     returns-3

@@ -99,18 +99,6 @@ loop-holds c =
       ),
     )
 
-get-requires : tie.Need-get-requires Inv-loop μ-loop
-get-requires c κs = tt
-
-index-of-requires : tie.Need-index-of-requires Inv-loop μ-loop
-index-of-requires c κs = tt
-
-array-read-was : tie.Need-array-read-was Inv-loop μ-loop
-array-read-was c = place-in c
-
-is-wall-requires : tie.Need-is-wall-requires Inv-loop μ-loop
-is-wall-requires c κs = tt
-
 loop-again : tie.Need-loop-again Inv-loop μ-loop
 loop-again c =
     let w = c .before in (
@@ -123,15 +111,6 @@ loop-again c =
         ),
       ),
     )
-
-is-load-requires : tie.Need-is-load-requires Inv-loop μ-loop
-is-load-requires c κs = tt
-
-closing-after-requires : tie.Need-closing-after-requires Inv-loop μ-loop
-closing-after-requires c κs = tt
-
-array-write-closing : tie.Need-array-write-closing Inv-loop μ-loop
-array-write-closing c = place-in (c .before .before .before .before .before)
 
 loop-again-2 : tie.Need-loop-again-2 Inv-loop μ-loop
 loop-again-2 c =
@@ -165,18 +144,18 @@ closing-flags-spec =
     μ-loop
     loop-holds
     (λ c. omega arith)
-    get-requires
-    index-of-requires
-    array-read-was
+    (λ c κs. tt)
+    (λ c κs. tt)
+    (λ c. place-in c)
     (λ c. omega arith)
-    is-wall-requires
+    (λ c κs. tt)
     (λ c. omega arith)
     loop-again
-    is-load-requires
+    (λ c κs. tt)
     (λ c. omega arith)
     (λ c. omega arith)
-    closing-after-requires
-    array-write-closing
+    (λ c κs. tt)
+    (λ c. place-in (c .before .before .before .before .before))
     (λ c. omega arith)
     loop-again-2
     returns)

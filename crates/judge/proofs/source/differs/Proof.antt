@@ -25,9 +25,6 @@ told : (l : List ℕ) (e : Event) {n k : ℕ} {f : Event} → isGone n ≡ false
     → not (same e f) ≡ unlike (onward l 0 (length l / 6)) e (fate n)
 told l e {n} h i g = rw (g, i) (sym (unlike-at l e n h))
 
-sub-get : tie.Need-sub-get
-sub-get c = let h = kept-number (c .before .before .args .n) (c .before .before .pre) in omega arith
-
 returns : tie.Need-returns
 returns c =
     let a = c .before .before .before .before in
@@ -36,4 +33,4 @@ returns c =
 pub differs-spec : {M : Type 1} → statement M
 differs-spec =
     tie.close
-    (tie.spec (search needs) sub-get (search needs) (search needs) returns)
+    (tie.spec (search needs) (λ c. let h = kept-number (c .before .before .args .n) (c .before .before .pre) in omega arith) (search needs) (search needs) returns)

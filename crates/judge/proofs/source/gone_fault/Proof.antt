@@ -41,26 +41,14 @@ store-told c h e =
     (gone-store _ _ (sees (event (c .before))) (wall-is (c .before .before .before) (c .before .before .if1 .left)) (load-is (c .before) (c .if2 .left))
     ∙ rw (h, e))
 
-is-wall-requires : tie.Need-is-wall-requires
-is-wall-requires c κs = tt
-
 returns : tie.Need-returns
 returns c = sym (gone-wall _ _ (sees (c .before .before .args .e)) (wall-is (c .before) (c .if1 .taken)))
-
-is-load-requires : tie.Need-is-load-requires
-is-load-requires c κs = tt
-
-both-requires : tie.Need-both-requires
-both-requires c κs = tt
 
 returns-2 : tie.Need-returns-2
 returns-2 c = load-told (c .before .before .before .before) (c .before .before .before .if2 .taken) (sym (c .before .both .ensures) ∙ c .if3 .taken)
 
 returns-3 : tie.Need-returns-3
 returns-3 c = load-told (c .before .before .before .before) (c .before .before .before .if2 .taken) (sym (c .before .both .ensures) ∙ c .if3 .left)
-
-is-witness-requires : tie.Need-is-witness-requires
-is-witness-requires c κs = tt
 
 returns-4 : tie.Need-returns-4
 returns-4 c = store-told (c .before .before .before) (c .before .before .if4 .taken) (sym (c .before .is-witness .ensures) ∙ c .if5 .taken)
@@ -73,4 +61,4 @@ returns-6 c = store-told (c .before) (c .if4 .left) refl
 
 pub gone-fault-spec : {M : Type 1} → statement M
 gone-fault-spec = tie.close
-    (tie.spec is-wall-requires returns is-load-requires both-requires returns-2 returns-3 is-witness-requires returns-4 returns-5 returns-6)
+    (tie.spec (λ c κs. tt) returns (λ c κs. tt) (λ c κs. tt) returns-2 returns-3 (λ c κs. tt) returns-4 returns-5 returns-6)

@@ -9,9 +9,6 @@ use Rattle.judge.proofs.source.is_crossed.Tie as tie
 is : (b : Bool) (c : tie.After-is-wall) → c .is-wall .result ≡ b → isWall (view (c .before .args .e)) ≡ b
 is b c h = sym (c .is-wall .ensures) ∙ h
 
-is-wall-requires : tie.Need-is-wall-requires
-is-wall-requires c κs = tt
-
 returns : tie.Need-returns
 returns c = rw (is _ (c .before .before) (c .before .if1 .taken))
 
@@ -22,4 +19,4 @@ returns-3 : tie.Need-returns-3
 returns-3 c = rw (is _ (c .before .before .before .before) (c .before .before .before .if1 .left), le-ltb _ _ (c .before .if2 .left))
 
 pub is-crossed-spec : {M : Type 1} → statement M
-is-crossed-spec = tie.close (tie.spec is-wall-requires returns returns-2 returns-3)
+is-crossed-spec = tie.close (tie.spec (λ c κs. tt) returns returns-2 returns-3)

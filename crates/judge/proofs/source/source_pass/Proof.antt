@@ -150,61 +150,10 @@ loop-holds c =
     let e : length l / 6 - 0 ≡ length l / 6 = omega arith in
     (omega arith, ([], (tallied-start, rw e)))
 
-get-requires : tie.Need-get-requires Inv-loop μ-loop
-get-requires c κs = tt
-
-index-of-requires : tie.Need-index-of-requires Inv-loop μ-loop
-index-of-requires c κs = tt
-
-array-read-first : tie.Need-array-read-first Inv-loop μ-loop
-array-read-first c = place-in c
-
-array-read-new : tie.Need-array-read-new Inv-loop μ-loop
-array-read-new c = place-in c
-
-mul-new : tie.Need-mul-new Inv-loop μ-loop
-mul-new c = omega (arith, place-in c)
-
-array-read-new-2 : tie.Need-array-read-new-2 Inv-loop μ-loop
-array-read-new-2 c = place-in c
-
-new-requires : tie.Need-new-requires Inv-loop μ-loop
-new-requires c κs = tt
-
-new-requires-2 : tie.Need-new-requires-2 Inv-loop μ-loop
-new-requires-2 c κs = tt
-
-mul-new-2 : tie.Need-mul-new-2 Inv-loop μ-loop
-mul-new-2 c = omega (arith, place-in (c .before .before .before))
-
-array-read-new-3 : tie.Need-array-read-new-3 Inv-loop μ-loop
-array-read-new-3 c = place-in (c .before .before .before)
-
-new-requires-3 : tie.Need-new-requires-3 Inv-loop μ-loop
-new-requires-3 c κs = tt
-
-event-fault-requires : tie.Need-event-fault-requires Inv-loop μ-loop
-event-fault-requires c κs = tt
-
-add-i : tie.Need-add-i Inv-loop μ-loop
-add-i c = omega (arith, few (at c))
-
-new-requires-4 : tie.Need-new-requires-4 Inv-loop μ-loop
-new-requires-4 c κs = tt
-
 returns : tie.Need-returns Inv-loop μ-loop
 returns c =
     let f = c .before .before in
     c .new4 .ensures ∙ sym (whole (at f) ∙ stops _ _ _ _ _ _ _ _ (c .before .if1 .taken) (told f))
-
-top-after-requires : tie.Need-top-after-requires Inv-loop μ-loop
-top-after-requires c κs = tt
-
-is-wall-requires : tie.Need-is-wall-requires Inv-loop μ-loop
-is-wall-requires c κs = tt
-
-top-after-requires-2 : tie.Need-top-after-requires-2 Inv-loop μ-loop
-top-after-requires-2 c κs = tt
 
 loop-again : tie.Need-loop-again Inv-loop μ-loop
 loop-again c =
@@ -220,42 +169,6 @@ loop-again c =
         ),
       ),
     )
-
-is-load-requires : tie.Need-is-load-requires Inv-loop μ-loop
-is-load-requires c κs = tt
-
-takes-over-requires : tie.Need-takes-over-requires Inv-loop μ-loop
-takes-over-requires c κs = tt
-
-witness-after-requires : tie.Need-witness-after-requires Inv-loop μ-loop
-witness-after-requires c κs = tt
-
-array-write-fresh : tie.Need-array-write-fresh Inv-loop μ-loop
-array-write-fresh c = place-in (at (fault (c .before .before .before .before)))
-
-array-write-held : tie.Need-array-write-held Inv-loop μ-loop
-array-write-held c = place-in (at (fault (c .before .before .before .before)))
-
-mul-value : tie.Need-mul-value Inv-loop μ-loop
-mul-value c = omega (arith, place-in (at (fault (c .before .before .before .before))))
-
-array-write-value : tie.Need-array-write-value Inv-loop μ-loop
-array-write-value c = place-in (at (fault (c .before .before .before .before)))
-
-mul-top-after : tie.Need-mul-top-after Inv-loop μ-loop
-mul-top-after c = omega (arith, place-in (at (fault (c .before .before .before .before))))
-
-array-read-top-after : tie.Need-array-read-top-after Inv-loop μ-loop
-array-read-top-after c = place-in (at (fault (c .before .before .before .before)))
-
-top-after-requires-3 : tie.Need-top-after-requires-3 Inv-loop μ-loop
-top-after-requires-3 c κs = tt
-
-mul-here : tie.Need-mul-here Inv-loop μ-loop
-mul-here c = omega (arith, place-in (at (fault (c .before .before .before .before .before))))
-
-array-write-here : tie.Need-array-write-here Inv-loop μ-loop
-array-write-here c = place-in (at (fault (c .before .before .before .before .before)))
 
 loop-again-2 : tie.Need-loop-again-2 Inv-loop μ-loop
 loop-again-2 c =
@@ -277,9 +190,6 @@ loop-again-2 c =
       ),
     )
 
-new-requires-5 : tie.Need-new-requires-5 Inv-loop μ-loop
-new-requires-5 c κs = tt
-
 returns-2 : tie.Need-returns-2 Inv-loop μ-loop
 returns-2 c =
     let l = c .before .before .before .before .before .before .args .source .now in
@@ -293,42 +203,42 @@ source-pass-spec =
     Inv-loop
     μ-loop
     loop-holds
-    get-requires
+    (λ c κs. tt)
     (λ c. omega arith)
     (λ c. omega arith)
-    index-of-requires
-    array-read-first
-    array-read-new
-    mul-new
-    array-read-new-2
-    new-requires
+    (λ c κs. tt)
+    (λ c. place-in c)
+    (λ c. place-in c)
+    (λ c. omega (arith, place-in c))
+    (λ c. place-in c)
+    (λ c κs. tt)
     (λ c. omega arith)
-    new-requires-2
-    mul-new-2
-    array-read-new-3
-    new-requires-3
-    event-fault-requires
-    add-i
-    new-requires-4
+    (λ c κs. tt)
+    (λ c. omega (arith, place-in (c .before .before .before)))
+    (λ c. place-in (c .before .before .before))
+    (λ c κs. tt)
+    (λ c κs. tt)
+    (λ c. omega (arith, few (at c)))
+    (λ c κs. tt)
     returns
-    top-after-requires
-    is-wall-requires
-    top-after-requires-2
+    (λ c κs. tt)
+    (λ c κs. tt)
+    (λ c κs. tt)
     (λ c. omega arith)
     loop-again
-    is-load-requires
-    takes-over-requires
-    witness-after-requires
-    array-write-fresh
-    array-write-held
-    mul-value
-    array-write-value
-    mul-top-after
-    array-read-top-after
-    top-after-requires-3
-    mul-here
-    array-write-here
+    (λ c κs. tt)
+    (λ c κs. tt)
+    (λ c κs. tt)
+    (λ c. place-in (at (fault (c .before .before .before .before))))
+    (λ c. place-in (at (fault (c .before .before .before .before))))
+    (λ c. omega (arith, place-in (at (fault (c .before .before .before .before)))))
+    (λ c. place-in (at (fault (c .before .before .before .before))))
+    (λ c. omega (arith, place-in (at (fault (c .before .before .before .before)))))
+    (λ c. place-in (at (fault (c .before .before .before .before))))
+    (λ c κs. tt)
+    (λ c. omega (arith, place-in (at (fault (c .before .before .before .before .before)))))
+    (λ c. place-in (at (fault (c .before .before .before .before .before))))
     (λ c. omega arith)
     loop-again-2
-    new-requires-5
+    (λ c κs. tt)
     returns-2)

@@ -51,17 +51,11 @@ at-end i m n h k = rw (← h, drop-length m)
 loop-holds : tie.Need-loop-holds Inv-loop μ-loop
 loop-holds c = (omega arith, refl)
 
-new-requires : tie.Need-new-requires Inv-loop μ-loop
-new-requires c κs = tt
-
 returns : tie.Need-returns Inv-loop μ-loop
 returns c = c .new .ensures ∙ sym (from-here (c .before .before) ∙ start-stops _ _ _ _ _ (c .before .if1 .taken))
 
 loop-again : tie.Need-loop-again Inv-loop μ-loop
 loop-again c = (omega arith, from-here (c .before) ∙ (start-goes _ _ _ _ _ (c .if1 .left) ∙ rw (add-one (index (c .before)))))
-
-new-requires-2 : tie.Need-new-requires-2 Inv-loop μ-loop
-new-requires-2 c κs = tt
 
 returns-2 : tie.Need-returns-2 Inv-loop μ-loop
 returns-2 c =
@@ -80,10 +74,10 @@ start-answer-spec =
     (λ c. omega arith)
     (λ c. omega arith)
     (λ c. omega arith)
-    new-requires
+    (λ c κs. tt)
     returns
     (λ c. omega arith)
     (λ c. omega arith)
     loop-again
-    new-requires-2
+    (λ c κs. tt)
     returns-2)
