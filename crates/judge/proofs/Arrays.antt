@@ -1,5 +1,5 @@
--- An array as a function: what it holds when it is made, and after one cell is set. And the two arrays that tell of the numbers that entries name
--- and of the locations that had no access since the last synchronising event. Assumes nothing.
+-- An array as a function: what it holds when it is made, and after the cell of an event's location is set. And the two arrays that tell of the
+-- numbers that entries name and of the locations that had no access since the last synchronising event. Assumes nothing.
 use mathlib.Core.Path.{_≡_, refl, sym, _∙_}
 use mathlib.Core.Bool.{Bool, true, false, cond, false≢true}
 use mathlib.Core.List.{List, [], _∷_}
@@ -10,16 +10,10 @@ use lib.ListN.{length, getD, set, replicate, getD-replicate}
 use lib.Seq.{getD-set-same, getD-set-other}
 use borrow.Author.Tests.{eqb-true, eqb-false, eq-eqb, ne-eqb}
 use Rattle.laws.proofs.Cases.{cases, either}
-use Rattle.rules.specs.View.{View, load, store, wall, isWall}
+use Rattle.rules.specs.View.{View, isWall}
 use Rattle.rules.specs.Fault.{Fate, Item, isGone, isNone, item, near}
 use Rattle.judge.specs.Pass.{Marked}
-use Rattle.judge.proofs.Passes.{none-next}
-use Rattle.judge.proofs.Sight.{Sees, a-load, a-store, a-wall}
-
--- a choice between one and the same
-pub either-way : {A : Type 0} (c : Bool) (d : A) → d ≡ cond c d d
-either-way true d = refl
-either-way false d = refl
+use Rattle.judge.proofs.Passes.{Plain, none-at, walled}
 
 -- the array holds f
 abbrev pub Holds : {A : Type 0} (n : ℕ) (d : A) → List A → (ℕ → A) → Type 0
@@ -29,13 +23,14 @@ module _ {A : Type 0} (n : ℕ) (d : A) where
   pub holds-all : (v : A) (f : ℕ → A) → ((l : ℕ) → f l ≡ v) → Holds n d (replicate n v) f
   holds-all v f h l k = getD-replicate n l v d k ∙ sym (h l)
 
-  pub holds-set : (cells : List A) (f g : ℕ → A) (p : ℕ) (v : A) → p < n → length cells ≡ n → Holds n d cells f
-      → g p ≡ v → ((l : ℕ) → eqb l p ≡ false → g l ≡ f l) → Holds n d (set cells p v) g
-  holds-set cells f g p v k size holds here there l h =
-      let w : p < length cells = omega arith in
-      cases (either (eqb l p))
-      (λ e. rw (eqb-true l p e) (getD-set-same cells p v d w ∙ sym here))
-      (λ e. getD-set-other cells p l v d (eqb-false l p e) ∙ (holds l h ∙ sym (there l e)))
+  -- what changes f at p alone is held once the cell i, which is p, is set
+  pub holds-at : (cells : List A) (f g h : ℕ → A) {p i : ℕ} {v : A} → ((l : ℕ) → g l ≡ cond (eqb l p) (h l) (f l)) → i ≡ p → v ≡ h i
+      → i < n → length cells ≡ n → Holds n d cells f → Holds n d (set cells i v) g
+  holds-at cells f g h {p} {i} {v} next e q k size holds l z =
+      let w : i < length cells = omega arith in
+      cases (either (eqb l i))
+      (λ c. rw (eqb-true l i c) (getD-set-same cells i v d w ∙ (q ∙ sym (next i ∙ rw (eq-eqb i p e)))))
+      (λ c. getD-set-other cells i l v d (eqb-false l i c) ∙ (holds l z ∙ sym (next l ∙ rw (← e, c))))
 
 -- the numbers that entries name
 pub kept-number : (n : ℕ) → isGone n ≡ false → 0 < n
@@ -63,20 +58,10 @@ Fresh fresh b = Holds 256 false fresh (λ l. isNone (near l b))
 pub fresh-start : Fresh (replicate 256 true) []
 fresh-start = holds-all 256 false true (λ l. isNone (near l [])) (λ l. refl)
 
-pub fresh-wall : {v : View} {p x : ℕ} {u : Bool} (f : Fate) (b : List Item) → Sees v p x u → isWall v ≡ true → Fresh (replicate 256 true) (item v f ∷ b)
-fresh-wall f b a-wall h = holds-all 256 false true (λ l. isNone (near l (item wall f ∷ b))) (λ l. refl)
-fresh-wall f b a-load h = absurd (false≢true h)
-fresh-wall f b a-store h = absurd (false≢true h)
+pub fresh-wall : (v : View) → isWall v ≡ true → (f : Fate) (b : List Item) → Fresh (replicate 256 true) (item v f ∷ b)
+fresh-wall v h f b = rw (walled v h) (λ l k. getD-replicate {A = Bool} 256 l true false k)
 
-none-at : {v : View} {p x : ℕ} {u : Bool} (f : Fate) (b : List Item) → Sees v p x u → isWall v ≡ false → (l : ℕ)
-    → isNone (near l (item v f ∷ b)) ≡ cond (eqb l p) false (isNone (near l b))
-none-at f b a-wall h l = absurd (false≢true (sym h))
-none-at f b (a-load {p} {v} {u}) h l = none-next l (item (load p v u) f) b
-none-at f b (a-store {p} {v}) h l = none-next l (item (store p v) f) b
-
-pub fresh-plain : {v : View} {p x : ℕ} {u : Bool} (f : Fate) (b : List Item) → Sees v p x u → isWall v ≡ false
-    → (fresh : List Bool) {i : ℕ} → i ≡ p → i < 256 → length fresh ≡ 256 → Fresh fresh b → Fresh (set fresh i false) (item v f ∷ b)
-fresh-plain {v} {p} f b s h fresh {i} e k size m =
-    holds-set 256 false fresh (λ l. isNone (near l b)) (λ l. isNone (near l (item v f ∷ b))) i false k size m
-    (none-at f b s h i ∙ rw (eq-eqb i p e))
-    (λ l q. none-at f b s h l ∙ rw (← e, q))
+pub fresh-plain : {v : View} {p x : ℕ} → Plain v p x → (f : Fate) (b : List Item) (fresh : List Bool) {i : ℕ} → i ≡ p → i < 256
+    → length fresh ≡ 256 → Fresh fresh b → Fresh (set fresh i false) (item v f ∷ b)
+fresh-plain {v} w f b fresh e k size m =
+    holds-at 256 false fresh (λ l. isNone (near l b)) (λ l. isNone (near l (item v f ∷ b))) (λ l. false) (none-at w f b) e refl k size m

@@ -12,7 +12,7 @@ use Rattle.rules.specs.Verdict.{keepFault, removalFault, sourceFault}
 use Rattle.judge.specs.Pass.{eventFault, goneFault, keepFaultBy, removalFaultBy, unsupportedBy}
 use Rattle.judge.specs.declared.source.Cell.{Cell}
 use Rattle.judge.specs.declared.source.Tops.{Tops}
-use Rattle.judge.proofs.Passes.{crossed-gone, crossed-plain, crossed-wall, top, topAt, topWall}
+use Rattle.judge.proofs.Passes.{any, crossed-gone, crossed-plain, crossed-wall, isAt, plain-load, plain-store, topBy}
 use Rattle.judge.proofs.Sight.{Sees, a-load, a-store, a-wall}
 
 -- ---- a source event
@@ -22,9 +22,9 @@ pub record Right (b a : List Item) (p : ℕ) (c : Cell) (o : Option ℕ) (s : To
   pub fresh-right : c .fresh ≡ isNone (near p b)
   pub closing-right : c .closing ≡ closing (group p a)
   pub witness-right : o ≡ witness (group p b)
-  pub all-right : s .all ≡ top b
-  pub walls-right : s .walls ≡ topWall b
-  pub here-right : s .here ≡ topAt p b
+  pub all-right : s .all ≡ topBy any b
+  pub walls-right : s .walls ≡ topBy isWall b
+  pub here-right : s .here ≡ topBy (isAt p) b
 
 module _ (t : List Event) (e : Event) (b a : List Item) (c : Cell) (o : Option ℕ) (s : Tops) where
   -- 10 to 12
@@ -33,8 +33,8 @@ module _ (t : List Event) (e : Event) (b a : List Item) (c : Cell) (o : Option �
   keep-at zero (a-load {p} {v} {u}) r = rw (crossed-gone b (load p v u))
   keep-at zero (a-store {p} {v}) r = rw (crossed-gone b (store p v))
   keep-at (suc n) a-wall r = rw (crossed-wall b false (suc n), ← r .all-right)
-  keep-at (suc n) (a-load {p} {v} {u}) r = rw (crossed-plain (load p v u) p refl false (suc n) b, ← r .walls-right, ← r .here-right)
-  keep-at (suc n) (a-store {p} {v}) r = rw (crossed-plain (store p v) p refl false (suc n) b, ← r .walls-right, ← r .here-right)
+  keep-at (suc n) (a-load {p} {v} {u}) r = rw (crossed-plain (plain-load {p = p} {x = v} {u = u}) b false (suc n), ← r .walls-right, ← r .here-right)
+  keep-at (suc n) (a-store {p} {v}) r = rw (crossed-plain (plain-store {p = p} {x = v}) b false (suc n), ← r .walls-right, ← r .here-right)
 
   -- 13, 14
   removal-at : {v : View} {p x : ℕ} {u : Bool} (n : ℕ) → Sees v p x u → Right b a p c o s → removalFault b (item v (fate n)) a ≡ removalFaultBy v n c o

@@ -1,24 +1,23 @@
 -- The array of the pass from the end: cell l says whether a store to l before the items passed is closing. And the items of a room from an
 -- index on, and the flags that are set from it. Assumes nothing.
-use mathlib.Core.Path.{_≡_, refl, sym, _∙_}
-use mathlib.Core.Bool.{Bool, true, false, cond, false≢true}
+use mathlib.Core.Path.{_≡_, refl, _∙_}
+use mathlib.Core.Bool.{Bool, true, false}
 use mathlib.Core.List.{List, [], _∷_}
-use Prim.Native.Nat.{ℕ, zero, suc, _+_, _-_, _/_, _≤_, _<_}
+use Prim.Native.Nat.{ℕ, _+_, _-_, _/_, _≤_, _<_}
 use native.Mathlib.Omega.{arith}
 use lib.Dec.{eqb}
-use lib.ListN.{length, getD, set, replicate}
+use lib.ListN.{length, getD, set, replicate, getD-replicate}
 use lib.Seq.{getD-set-same, getD-set-other}
-use borrow.Author.Tests.{eq-eqb, eqb-false, eqb-true}
+use borrow.Author.Tests.{eqb-false, eqb-true}
 use Rattle.laws.proofs.Cases.{cases, either}
 use Rattle.event.specs.Room.{eventAt, onward}
 use Rattle.event.specs.declared.Event.{Event}
-use Rattle.rules.specs.View.{View, load, store, view, wall, isLoad, isWall}
-use Rattle.rules.specs.Fault.{Fate, Item, closing, fate, gone, group, item, stays}
+use Rattle.rules.specs.View.{View, store, view, isLoad, isWall}
+use Rattle.rules.specs.Fault.{Fate, Item, closing, fate, group, item}
 use Rattle.judge.specs.Pass.{closingAfter, closingAt, itemsFrom}
-use Rattle.judge.proofs.Arrays.{Holds, either-way, holds-all, holds-set}
+use Rattle.judge.proofs.Arrays.{Holds, holds-all, holds-at}
 use Rattle.judge.proofs.Events.{drop-next, onward-next}
-use Rattle.judge.proofs.Passes.{closing-next}
-use Rattle.judge.proofs.Sight.{Sees, a-load, a-store, a-wall}
+use Rattle.judge.proofs.Passes.{Plain, closing-at, walled}
 
 -- the items of a room
 module _ (l ns : List ℕ) (size : length ns ≡ length l / 6) where
@@ -44,25 +43,14 @@ Closed cells a = Holds 256 false cells (λ l. closing (group l a))
 pub closed-start : Closed (replicate 256 true) []
 closed-start = holds-all 256 false true (λ l. closing (group l [])) (λ l. refl)
 
-pub closed-wall : {v : View} {p x : ℕ} {u : Bool} (f : Fate) (a : List Item) → Sees v p x u → isWall v ≡ true → Closed (replicate 256 true) (item v f ∷ a)
-closed-wall f a a-wall h = holds-all 256 false true (λ l. closing (group l (item wall f ∷ a))) (λ l. refl)
-closed-wall f a a-load h = absurd (false≢true h)
-closed-wall f a a-store h = absurd (false≢true h)
+pub closed-wall : (v : View) → isWall v ≡ true → (f : Fate) (a : List Item) → Closed (replicate 256 true) (item v f ∷ a)
+closed-wall v h f a = rw (walled v h) (λ l k. getD-replicate {A = Bool} 256 l true false k)
 
-closing-at : {v : View} {p x : ℕ} {u : Bool} (n : ℕ) (a : List Item) → Sees v p x u → isWall v ≡ false → (l : ℕ)
-    → closing (group l (item v (fate n) ∷ a)) ≡ cond (eqb l p) (closingAfter (isLoad v) n (closing (group l a))) (closing (group l a))
-closing-at n a a-wall h l = absurd (false≢true (sym h))
-closing-at zero a (a-load {p} {v} {u}) h l = closing-next l (item (load p v u) gone) a ∙ either-way (eqb l p) (closing (group l a))
-closing-at (suc n) a (a-load {p} {v} {u}) h l = closing-next l (item (load p v u) (stays false (suc n))) a
-closing-at n a (a-store {p} {v}) h l = closing-next l (item (store p v) (fate n)) a
-
-pub closed-plain : {v : View} {p x : ℕ} {u : Bool} (n : ℕ) (a : List Item) → Sees v p x u → isWall v ≡ false
-    → (cells : List Bool) {i : ℕ} → i ≡ p → i < 256 → length cells ≡ 256 → Closed cells a
-    → {d r : Bool} → d ≡ isLoad v → r ≡ closingAfter d n (getD cells i false) → Closed (set cells i r) (item v (fate n) ∷ a)
-closed-plain {v} {p} n a s h cells {i} e k size m {d} {r} q g =
-    holds-set 256 false cells (λ l. closing (group l a)) (λ l. closing (group l (item v (fate n) ∷ a))) i r k size m
-    (closing-at n a s h i ∙ (rw (eq-eqb i p e) (sym (g ∙ rw (q, m i k)))))
-    (λ l z. closing-at n a s h l ∙ rw (← e, z))
+pub closed-plain : {v : View} {p x : ℕ} → Plain v p x → (n : ℕ) (a : List Item) (cells : List Bool) {i : ℕ} → i ≡ p → i < 256 → length cells ≡ 256
+    → Closed cells a → {d r : Bool} → d ≡ isLoad v → r ≡ closingAfter d n (getD cells i false) → Closed (set cells i r) (item v (fate n) ∷ a)
+closed-plain {v} w n a cells {i} e k size m q g =
+    holds-at 256 false cells (λ l. closing (group l a)) (λ l. closing (group l (item v (fate n) ∷ a)))
+    (λ l. closingAfter (isLoad v) n (closing (group l a))) (closing-at w n a) e (g ∙ rw (q, m i k)) k size m
 
 pub closed-is : (cells : List Bool) {a b : List Item} → b ≡ a → Closed cells a → Closed cells b
 closed-is cells e m = rw e m

@@ -51,7 +51,8 @@ module _ (view : Event → View) where
 
   -- 15, 16
   module _ (ns : List ℕ) (k : ℕ) (b : List Item) (e : Event) (t : List Event) where
-    pub target-goes : targetFault (e .kind) b (placed view ns k e) ≡ 0 → targetAnswer view ns k b (e ∷ t) ≡ targetAnswer view ns (suc k) (placed view ns k e ∷ b) t
+    pub target-goes : targetFault (e .kind) b (placed view ns k e) ≡ 0
+        → targetAnswer view ns k b (e ∷ t) ≡ targetAnswer view ns (suc k) (placed view ns k e ∷ b) t
     unfolding targetAnswer
     target-goes h = rw h
 

@@ -12,10 +12,12 @@ use borrow.Author.Tests.{eqb-true}
 use Rattle.rules.proofs.Item.{View, wall, load, store, gone, stays, Item, item, valueOf, near, Holds, Stores, Removable, one, Move, remove, keep}
 use Rattle.rules.proofs.Item.{Sound, Gone, may}
 use Rattle.rules.proofs.Fixed.{Still as StillOf, Last as LastOf, Lasts as LastsOf, out, under, end, more}
-use Rattle.rules.proofs.Word.{Letter, far, keptLoad, keptStore, goneLoad, goneStore, nearLetter, storesWord, witnessLetter, fits, Agree, first-unused, Ok}
+use Rattle.rules.proofs.Word.{Letter, far, keptLoad, keptStore, goneLoad, goneStore, nearLetter}
+use Rattle.rules.proofs.Word.{storesWord, witnessLetter, fits, Agree, first-unused, Ok}
 use Rattle.rules.proofs.Word.{ok-of-fine, some≢none}
 use Rattle.rules.proofs.WordMoves.{ok-unload, ok-stores, ok-stay, agree-step, fresh, Stays, AllStay}
-use Rattle.rules.proofs.Place.{letter, word, nearAt, witnessAt, by-place, at-own, word-holds, holds-of-word, stores-of-word, word-stores, step-of, fine-of-sound, Agrees}
+use Rattle.rules.proofs.Place.{letter, word, nearAt, witnessAt, by-place, at-own, word-holds}
+use Rattle.rules.proofs.Place.{holds-of-word, stores-of-word, word-stores, step-of, fine-of-sound, Agrees}
 
 abbrev Still : List Item → List Item → Type 0
 Still b s = StillOf may Gone b s
@@ -64,7 +66,8 @@ still-store p v k b (item (store q x) (stays w n) ∷ a) e r g h =
     by-place (Settled v (nearAt p b) k (word p a)) p q (keptStore x) (λ g h ih. ih e (g .1) (h .1)) (λ i g h ih. inr tt)
     g h (λ e. still-store p v k (item (store q x) (stays w n) ∷ b) a e (r .1))
 
-store-out : (p : ℕ) (b a : List Item) (q v : ℕ) → p ≡ q → witnessAt p b ≡ nearAt p b → (witnessAt p b ≡ some v) ⊎ T (storesWord (word p a)) → Removable b (item (store q v) gone) a
+store-out : (p : ℕ) (b a : List Item) (q v : ℕ) → p ≡ q → witnessAt p b ≡ nearAt p b → (witnessAt p b ≡ some v) ⊎ T (storesWord (word p a))
+    → Removable b (item (store q v) gone) a
 store-out p b a q v i c (inl e) = inl (holds-of-word q b v (rw (← i) (sym c ∙ e)))
 store-out p b a q v i c (inr o) = inr (stores-of-word q a (rw (← i) o))
 
@@ -76,7 +79,8 @@ Cleared n k w y = Agree n (y ∷ w) → Ok n k (y ∷ w)
     → (witnessLetter y n k ≡ nearLetter y n → Agree (nearLetter y n) w → Ok (nearLetter y n) (witnessLetter y n k) w → AllStay w)
     → AllStay (y ∷ w)
 
-still : (p : ℕ) (b a : List Item) → witnessAt p b ≡ nearAt p b → Still b a → Agree (nearAt p b) (word p a) → Ok (nearAt p b) (witnessAt p b) (word p a) → AllStay (word p a)
+still : (p : ℕ) (b a : List Item) → witnessAt p b ≡ nearAt p b → Still b a → Agree (nearAt p b) (word p a)
+    → Ok (nearAt p b) (witnessAt p b) (word p a) → AllStay (word p a)
 still p b [] c r g h = tt
 still p b (item wall gone ∷ a) c r g h = absurd (h .0 .0)
 still p b (item wall (stays w n) ∷ a) c r g h = (tt, still p (item wall (stays w n) ∷ b) a refl (r .1) (g .1) (h .1))
@@ -112,7 +116,8 @@ first-out (some m) k v u w f c g h = ok-unload (some m) k v u w (λ e. some≢no
 abbrev Spared : Option ℕ → Option ℕ → List Letter → Letter → Type 0
 Spared n k w y = Agree n (y ∷ w) → Ok n k (y ∷ w) → Ok n k w
 
-ok-out : (l : ℕ) (b : List Item) (e : Item) (a : List Item) → Still (e ∷ b) a → Gone e → Removable b e a → Spared (nearAt l b) (witnessAt l b) (word l a) (letter l e)
+ok-out : (l : ℕ) (b : List Item) (e : Item) (a : List Item) → Still (e ∷ b) a → Gone e → Removable b e a
+    → Spared (nearAt l b) (witnessAt l b) (word l a) (letter l e)
 ok-out l b (item v (stays w n)) a r g m = absurd g
 ok-out l b (item wall gone) a r g m = absurd m
 ok-out l b (item (load q v u) gone) a r g m = by-place (Spared (nearAt l b) (witnessAt l b) (word l a)) l q (goneLoad v u) (λ g h. h .1)
@@ -124,7 +129,8 @@ ok-out l b (item (store q v) gone) a r g (inl m) = by-place (Spared (nearAt l b)
 ok-out l b (item (store q v) gone) a r g (inr m) = by-place (Spared (nearAt l b) (witnessAt l b) (word l a)) l q (goneStore v) (λ g h. h .1)
     (λ i g h. ok-stores (some v) (nearAt l b) (witnessAt l b) (word l a) (rw i (word-stores q a m)) (h .1))
 
-ok-last : (l : ℕ) {b s t : List Item} → Last b s t → Agree (nearAt l b) (word l s) → Ok (nearAt l b) (witnessAt l b) (word l s) → Ok (nearAt l b) (witnessAt l b) (word l t)
+ok-last : (l : ℕ) {b s t : List Item} → Last b s t → Agree (nearAt l b) (word l s) → Ok (nearAt l b) (witnessAt l b) (word l s)
+    → Ok (nearAt l b) (witnessAt l b) (word l t)
 ok-last l (out {b = b} {a = a} {e = e} r g m) c h = ok-out l b e a r g m c h
 ok-last l (under q) c h = (h .0, ok-last l q (c .1) (h .1))
 

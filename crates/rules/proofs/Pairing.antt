@@ -28,7 +28,8 @@ short e = absurd (omega arith)
 -- ---- fault 10, by number
 
 module _ (t : List Event) where
-  pub faithful-at : (s : List Event) (ns : List ℕ) → length ns ≡ length s → Faithful t s ns → (j : ℕ) → T (not (unlike t (getD s j noEvent) (fate (getD ns j 0))))
+  pub faithful-at : (s : List Event) (ns : List ℕ) → length ns ≡ length s → Faithful t s ns → (j : ℕ)
+      → T (not (unlike t (getD s j noEvent) (fate (getD ns j 0))))
   faithful-at [] [] l f j = tt
   faithful-at [] (n ∷ ns) l f j = short l
   faithful-at (e ∷ s) [] l f j = short (sym l)

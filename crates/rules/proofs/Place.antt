@@ -10,7 +10,8 @@ use lib.Dec.{T, eqb, eqb→eq, eqb-refl, T-not}
 use Rattle.rules.proofs.Item.{View, wall, load, store, gone, stays, Item, item, viewOf, place, valueOf, group, near, Holds, Stores, Removable}
 use Rattle.rules.proofs.Item.{Differ, one, Move, remove, swap, next, closing, witness, Sound₁, Sound, Gone}
 use Rattle.rules.proofs.Chain.{Strict}
-use Rattle.rules.proofs.Word.{Letter, far, aWall, keptLoad, keptStore, goneLoad, goneStore, nearWord, storesWord, closingWord, seed, witnessWord, Fine₁, Fine, none≢some}
+use Rattle.rules.proofs.Word.{Letter, far, aWall, keptLoad, keptStore, goneLoad, goneStore, nearWord}
+use Rattle.rules.proofs.Word.{storesWord, closingWord, seed, witnessWord, Fine₁, Fine, none≢some}
 use Rattle.rules.proofs.Word.{Agree}
 use Rattle.rules.proofs.WordMoves.{Cut, Apart, left, right, Step, cut, flip, on}
 

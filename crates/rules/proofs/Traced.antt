@@ -187,7 +187,8 @@ module _ (view : Event → View) (s t : List Event) (ns : List ℕ) where
       found₁ x e i (h .0 ∙ (rw d c)) (h .1) (g .0)
   found k (e ∷ r) (x ∷ u) h g (suc j) m i a b c = found (suc k) r u (h .2) (g .1) j m i (omega arith) (omega arith) c
 
-  pub faithful-run : Entries (length t) s ns → (u : List Traced) → Ends ns 1 u t → Each Known u → (j : ℕ) → T (not (unlike t (getD s j noEvent) (fate (getD ns j 0))))
+  pub faithful-run : Entries (length t) s ns → (u : List Traced) → Ends ns 1 u t → Each Known u → (j : ℕ)
+      → T (not (unlike t (getD s j noEvent) (fate (getD ns j 0))))
   faithful-run w u h g j = go (getD ns j 0) refl
     where
       go : (n : ℕ) → getD ns j 0 ≡ n → T (not (unlike t (getD s j noEvent) (fate n)))

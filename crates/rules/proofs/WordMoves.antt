@@ -7,7 +7,8 @@ use mathlib.Core.Option.{Option, none, some}
 use mathlib.Core.List.{List, [], _∷_}
 use Prim.Native.Nat.{ℕ}
 use lib.Dec.{T}
-use Rattle.rules.proofs.Word.{Letter, far, aWall, keptLoad, keptStore, goneLoad, goneStore, nearWord, storesWord, witnessWord, fits, Agree, Ok, some≢none}
+use Rattle.rules.proofs.Word.{Letter, far, aWall, keptLoad, keptStore, goneLoad, goneStore, nearWord}
+use Rattle.rules.proofs.Word.{storesWord, witnessWord, fits, Agree, Ok, some≢none}
 use Rattle.rules.proofs.Word.{none≢some}
 
 -- ---- moves of words

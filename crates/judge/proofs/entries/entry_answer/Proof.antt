@@ -109,7 +109,8 @@ beyond c =
 within : (c : tie.Else2 Inv-loop μ-loop) → entry (c .before .before .before) ≤ targets (c .before .before .before)
 within c = omega (arith, c .before .number-index .ensures, c .if2 .left)
 
-again : (c : tie.Else2 Inv-loop μ-loop) → refuses (c .before .before .before) ≡ getD (turn (c .before .before .before) .loop .marks) (entry (c .before .before .before)) false
+again : (c : tie.Else2 Inv-loop μ-loop)
+    → refuses (c .before .before .before) ≡ getD (turn (c .before .before .before) .loop .marks) (entry (c .before .before .before)) false
 again c =
     let k = c .before .before .before in
     let g = gone-is k (c .before .before .if1 .left) in

@@ -1,4 +1,5 @@
--- The flags of the events passed are right, and the array says of each location whether a store before them is closing. Assumes nothing.
+-- The pass goes from the end: the array says of each location whether a store before the events passed is closing, and an event's flag is what the
+-- array says at its location when the event comes, so the flags of the events passed are right. Assumes nothing.
 use Prim.Native.Nat.{ℕ, _+_, _-_, _/_, _≤_, _<_}
 use mathlib.Core.Bool.{Bool, true, false}
 use mathlib.Core.List.{List, _∷_}
@@ -11,130 +12,109 @@ use Rattle.rules.specs.View.{view, isWall}
 use Rattle.rules.specs.Fault.{Item, fate, item}
 use Rattle.judge.specs.Pass.{closingAt, itemsFrom}
 use Rattle.judge.proofs.Closed.{Closed, closed-is, closed-plain, closed-start, closed-wall, flag-is, flags-next, items-before, items-end}
+use Rattle.judge.proofs.Passes.{plain}
 use Rattle.judge.proofs.Sight.{sees}
 use Rattle.judge.proofs.source.closing_flags.Statement.{statement}
 use Rattle.judge.proofs.source.closing_flags.Tie as tie
 
+-- the events from the index on are passed
+record Passed (source entries : List ℕ) (closing flags : List Bool) (i : ℕ) : Type 0 where
+  bound : i ≤ length source / 6
+  closing-size : length closing ≡ 256
+  flags-size : length flags ≡ 800
+  closed : Closed closing (itemsFrom source entries i)
+  flagged : (k : ℕ) → i ≤ k → k < length source / 6 → getD flags k false ≡ closingAt source entries k
+
 abbrev Inv-loop : tie.InvT-loop
-Inv-loop source entries closing₀ flags₀ i₀ closing flags i =
-    (i ≤ length source / 6) × ((length closing ≡ 256) × ((length flags ≡ 800) × (Closed closing (itemsFrom source entries i)
-    × ((k : ℕ) → i ≤ k → k < length source / 6 → getD flags k false ≡ closingAt source entries k))))
+Inv-loop source entries closing₀ flags₀ i₀ closing flags i = Passed source entries closing flags i
 
 abbrev μ-loop : tie.MeasureT-loop
 μ-loop source entries closing₀ flags₀ i₀ closing flags i = i
 
--- the loop's event, before the loop's index
-abbrev turn : tie.After-get Inv-loop μ-loop → tie.At-loop Inv-loop μ-loop
-turn c = c .before .before
+-- the event before the index
+module _ (c : tie.After-index-of Inv-loop μ-loop) where
+  abbrev turn : tie.At-loop Inv-loop μ-loop
+  turn = c .before .before .before
 
-abbrev begin : tie.After-get Inv-loop μ-loop → tie.Start Inv-loop μ-loop
-begin c = turn c .before .before .before
+  abbrev begin : tie.Start Inv-loop μ-loop
+  begin = turn .before .before .before
 
-abbrev room : tie.After-get Inv-loop μ-loop → List ℕ
-room c = begin c .args .source .now
+  abbrev room : List ℕ
+  room = begin .args .source .now
 
-abbrev entries : tie.After-get Inv-loop μ-loop → List ℕ
-entries c = begin c .args .entries .now
+  abbrev entries : List ℕ
+  entries = begin .args .entries .now
 
-abbrev index : tie.After-get Inv-loop μ-loop → ℕ
-index c = turn c .loop .i - 1
+  abbrev index : ℕ
+  index = turn .loop .i - 1
 
-place-in : (c : tie.After-index-of Inv-loop μ-loop) → c .index-of .result < 256
-place-in c =
-    let g = c .before in
-    let p : eventAt (room g) (index g) .place < 256 = begin g .pre .1 .0 (index g) (omega arith) in
-    let q : g .get .result .place ≡ eventAt (room g) (index g) .place = ap (λ (e : Event). e .place) (g .get .ensures) in
-    omega (arith, c .index-of .ensures)
-
--- what holds after it
-module _ (c : tie.After-is-wall Inv-loop μ-loop) where
-  abbrev at : tie.After-index-of Inv-loop μ-loop
-  at = c .before
-
-  abbrev get : tie.After-get Inv-loop μ-loop
-  get = at .before
+  abbrev event : Event
+  event = c .before .get .result
 
   abbrev entry : ℕ
-  entry = getD (entries get) (index get) 0
+  entry = getD entries index 0
 
   abbrev behind : List Item
-  behind = itemsFrom (room get) (entries get) (turn get .loop .i)
+  behind = itemsFrom room entries (turn .loop .i)
 
-  step : turn get .loop .i ≡ index get + 1
+  place-in : c .index-of .result < 256
+  place-in =
+      let p : eventAt room index .place < 256 = begin .pre .1 .0 index (omega arith) in
+      let q : event .place ≡ eventAt room index .place = ap (λ (e : Event). e .place) (c .before .get .ensures) in
+      omega (arith, c .index-of .ensures)
+
+  step : turn .loop .i ≡ index + 1
   step = omega arith
 
-  items-are : itemsFrom (room get) (entries get) (index get) ≡ item (view (get .get .result)) (fate entry) ∷ behind
-  items-are =
-      items-before (room get) (entries get) (begin get .pre .1 .1) (index get) (turn get .loop .i) (get .get .result) entry step (omega arith)
-      (get .get .ensures) refl
-
-  wall-is : {b : Bool} → c .is-wall .result ≡ b → isWall (view (get .get .result)) ≡ b
-  wall-is e = sym (c .is-wall .ensures) ∙ e
-
   abbrev was : Bool
-  was = getD (turn get .loop .closing) (at .index-of .result) false
+  was = getD (turn .loop .closing) (c .index-of .result) false
 
-  flags-are : (k : ℕ) → index get ≤ k → k < length (room get) / 6 → getD (set (turn get .loop .flags) (index get) was) k false
-      ≡ closingAt (room get) (entries get) k
+  flags-are : (k : ℕ) → index ≤ k → k < length room / 6 → getD (set (turn .loop .flags) index was) k false ≡ closingAt room entries k
   flags-are =
-      flags-next (turn get .loop .flags) (closingAt (room get) (entries get)) (index get) (length (room get) / 6) step (omega arith)
-      (flag-is (room get) (entries get) (index get) (get .get .result) step (get .get .ensures) (at .index-of .ensures)
-      (turn get .loop .inv .1 .1 .1 .0 (at .index-of .result) (place-in at)))
-      (turn get .loop .inv .1 .1 .1 .1)
+      flags-next (turn .loop .flags) (closingAt room entries) index (length room / 6) step (omega arith)
+      (flag-is room entries index event step (c .before .get .ensures) (c .index-of .ensures) (turn .loop .inv .closed (c .index-of .result) place-in))
+      (turn .loop .inv .flagged)
+
+  passed : (cells : List Bool) → length cells ≡ 256 → Closed cells (item (view event) (fate entry) ∷ behind)
+      → Passed room entries cells (set (turn .loop .flags) index was) index
+  passed cells size closed = record {
+    bound = omega arith;
+    closing-size = size;
+    flags-size = simp length-set (turn .loop .inv .flags-size);
+    closed =
+        let h = items-before room entries (begin .pre .1 .1) index (turn .loop .i) event entry step (omega arith) (c .before .get .ensures) refl in
+        closed-is cells h closed;
+    flagged = flags-are;
+  }
+
+wall-is : (c : tie.After-is-wall Inv-loop μ-loop) {b : Bool} → c .is-wall .result ≡ b → isWall (view (event (c .before))) ≡ b
+wall-is c e = sym (c .is-wall .ensures) ∙ e
 
 loop-holds : tie.Need-loop-holds Inv-loop μ-loop
 loop-holds c =
     let b = c .before .before in
-    let e : length (b .args .entries .now) ≡ length (b .args .source .now) / 6 = b .pre .1 .1 in (
-      omega arith,
-      (
-        refl,
-        (
-          refl,
-          (
-            closed-is (replicate 256 true) (items-end (b .args .source .now) (b .args .entries .now) e _ e) closed-start,
-            λ k h i. absurd (omega arith),
-          ),
-        ),
-      ),
-    )
+    let e : length (b .args .entries .now) ≡ length (b .args .source .now) / 6 = b .pre .1 .1 in
+    record {
+      bound = omega arith;
+      closing-size = refl;
+      flags-size = refl;
+      closed = closed-is (replicate 256 true) (items-end (b .args .source .now) (b .args .entries .now) e _ e) closed-start;
+      flagged = λ k h i. absurd (omega arith);
+    }
 
 loop-again : tie.Need-loop-again Inv-loop μ-loop
 loop-again c =
-    let w = c .before in (
-      omega arith,
-      (
-        refl,
-        (
-          simp length-set (turn (get w) .loop .inv .1 .1 .0),
-          (closed-is (replicate 256 true) (items-are w) (closed-wall _ (behind w) (sees (get w .get .result)) (wall-is w (c .if1 .taken))), flags-are w),
-        ),
-      ),
-    )
+    let a = c .before .before in
+    passed a (replicate 256 true) refl (closed-wall (view (event a)) (wall-is (c .before) (c .if1 .taken)) _ (behind a))
 
 loop-again-2 : tie.Need-loop-again-2 Inv-loop μ-loop
 loop-again-2 c =
     let w = c .before .before .before .before in
-    let size = turn (get w) .loop .inv .1 .0 in
-    let cells = turn (get w) .loop .closing in (
-      omega arith,
-      (
-        simp length-set size,
-        (
-          simp length-set (turn (get w) .loop .inv .1 .1 .0),
-          (
-            closed-is (set cells (at w .index-of .result) (c .closing-after .result)) (items-are w)
-                (closed-plain (entry w) (behind w) (sees (get w .get .result)) (wall-is w (c .before .before .before .if1 .left)) cells
-                (at w .index-of .ensures)
-                (place-in (at w)) size (turn (get w) .loop .inv .1 .1 .1 .0) (c .before .before .is-load .ensures) (c .closing-after .ensures)),
-            flags-are w,
-          ),
-        ),
-      ),
-    )
-
-returns : tie.Need-returns Inv-loop μ-loop
-returns c k h = c .before .loop .inv .1 .1 .1 .1 k (omega arith) h
+    let a = w .before in
+    let t = turn a .loop in
+    passed a _ (simp length-set (t .inv .closing-size))
+    (closed-plain (plain (sees (event a)) (wall-is w (c .before .before .before .if1 .left))) (entry a) (behind a) (t .closing) (a .index-of .ensures)
+    (place-in a) (t .inv .closing-size) (t .inv .closed) (c .before .before .is-load .ensures) (c .closing-after .ensures))
 
 pub closing-flags-spec : {M : Type 1} → statement M
 closing-flags-spec =
@@ -158,4 +138,4 @@ closing-flags-spec =
     (λ c. place-in (c .before .before .before .before .before))
     (λ c. omega arith)
     loop-again-2
-    returns)
+    (λ c k h. c .before .loop .inv .flagged k (omega arith) h))

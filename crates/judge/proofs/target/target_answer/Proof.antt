@@ -20,6 +20,7 @@ use Rattle.judge.proofs.Arrays.{Fresh, fresh-plain, fresh-start, fresh-
 use Rattle.judge.proofs.Cells.{unsupported-at}
 use Rattle.judge.proofs.Events.{onward-next}
 use Rattle.judge.proofs.Onward.{target-goes, target-stops}
+use Rattle.judge.proofs.Passes.{plain}
 use Rattle.judge.proofs.Sight.{sees}
 use Rattle.judge.proofs.target.target_answer.Statement.{statement}
 use Rattle.judge.proofs.target.target_answer.Tie as tie
@@ -136,7 +137,7 @@ loop-again c =
       bound = omega arith;
       size = refl;
       passed = λ ns m. goes-on f ns m (c .before .before .if1 .left)
-          (fresh-wall _ (before f ns m .behind) (sees (event (at f))) (wall-is (c .before) (c .if2 .taken)));
+          (fresh-wall (view (event (at f))) (wall-is (c .before) (c .if2 .taken)) _ (before f ns m .behind));
     }
 
 loop-again-2 : tie.Need-loop-again-2 Inv-loop μ-loop
@@ -147,7 +148,7 @@ loop-again-2 c =
       bound = omega arith;
       size = simp length-set (t .inv .size);
       passed = λ ns m. goes-on f ns m (c .before .before .if1 .left)
-          (fresh-plain _ (before f ns m .behind) (sees (event (at f))) (wall-is (c .before) (c .if2 .left)) (t .fresh) (at f .index-of .ensures)
+          (fresh-plain (plain (sees (event (at f))) (wall-is (c .before) (c .if2 .left))) _ (before f ns m .behind) (t .fresh) (at f .index-of .ensures)
           (place-in (at f)) (t .inv .size) (before f ns m .fresh-is));
     }
 
