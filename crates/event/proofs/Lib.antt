@@ -4,4 +4,5 @@ pub mod Lawful
 pub mod Wrap
 pub mod Table
 pub mod Has
+pub mod Unique
 pub mod Answers

@@ -1,0 +1,2 @@
+-- What the statements of every crate share. Assumes nothing.
+pub mod Unique
