@@ -10,9 +10,9 @@ use Rattle.text.specs.Word.{bytes, same}
 use Rattle.record.specs.Layout.{numberIn}
 use Rattle.record.specs.Record.{numberIf, orderIf, eventRest, initRest, recordOf}
 use Rattle.trace.specs.Fault.{uses, eventFault}
-use Rattle.trace.specs.Reading.{linesFault, initsFault, eventsIn, startIn, surveyInits, surveyParts, surveyOf, eventsOf, readOf}
+use Rattle.trace.specs.Reading.{startIn, faultOf, surveyOf, eventsOf, readOf}
 use Rattle.matching.specs.Entry.{keepRest, goneRest, entryOf}
-use Rattle.frame.specs.Reading.{headFault, linesFault as framedFault, textFault}
+use Rattle.frame.specs.Reading.{headFault, linesFault, textFault}
 use Rattle.matching.specs.Reading.{entriesOf, surveyOf as matchingSurvey, readOf as matchingRead}
 use Rattle.text.specs.Line.{saidIn}
 use Rattle.rules.specs.Verdict.{startAnswer, countAnswer, entryAnswer, sourceAnswer, targetAnswer, verdict}
@@ -22,8 +22,8 @@ use Rattle.checker.specs.Cases.{table, all-hold}
 
 pub P1-to-P12 : all-hold table ≡ true
 unfolding checkOf readingAnswer verdictOf verdict startAnswer countAnswer entryAnswer sourceAnswer targetAnswer readOf surveyOf
-    surveyParts surveyInits initsFault linesFault eventsIn startIn eventsOf eventFault uses recordOf eventRest initRest
-    numberIf orderIf numberIn matchingRead matchingSurvey textFault headFault framedFault saidIn entriesOf
+    faultOf textFault headFault linesFault saidIn startIn eventsOf eventFault uses recordOf eventRest initRest
+    numberIf orderIf numberIn matchingRead matchingSurvey entriesOf
     entryOf keepRest goneRest numberOf digitsOn valueOn allDigits cut same stepped after latest lawful takes row
 P1-to-P12 = refl
 

@@ -12,9 +12,11 @@ use Rattle.event.specs.Memory.{stepped}
 use Rattle.event.specs.declared.Answer.{Answer}
 use Rattle.event.specs.declared.Event.{Event}
 use Rattle.event.specs.declared.memory.Memory.{Memory}
-use Rattle.trace.specs.Fault.{clashes, eventFault}
+use Rattle.trace.specs.Fault.{eventFault}
 use Rattle.trace.specs.Reading.{eventsOf, surveyOf, readOf}
-use Rattle.trace.proofs.OneText.{text-whole, first-done}
+use Rattle.frame.proofs.Settled.{first-done}
+use Rattle.trace.proofs.Judged.{fault-parts}
+use Rattle.trace.proofs.OneText.{text-whole}
 use Rattle.trace.proofs.Readings.{read-passed}
 use Rattle.rules.specs.Run.{number}
 use Rattle.rules.specs.Demand.{right, final, Passed}
@@ -27,12 +29,10 @@ use Rattle.checker.specs.Check.{Lent, sourceRead, targetRead, readingAns
 
 -- no fault 6: every event is right
 right-of : (side k : ℕ) (m : Memory) (b es : List Event) → eventFault side k m b es .number ≡ 0 → T (right m es)
-unfolding eventFault
 right-of side k m b [] h = tt
 right-of side k m b (e ∷ es) h =
-    let p = not-first (λ (a : Answer). a .number) (clashes b e) (answer 5 side k) _ (λ z. omega arith) h in
-    let q = not-second (λ (a : Answer). a .number) (stepped m e .right) _ (answer 6 side k) (λ z. omega arith) (p .1) in
-    rw (q .0) (right-of side (k + 1) (stepped m e .memory) (e ∷ b) es (q .1))
+    let f = fault-parts side k m b e es h in
+    rw (f .0 .1) (right-of side (k + 1) (stepped m e .memory) (e ∷ b) es (f .1))
 
 module _ (side : ℕ) (t room : List ℕ) (z : readOf side t room .answer .number ≡ 0) where
   survey : surveyOf side t .answer .number ≡ 0

@@ -36,7 +36,7 @@ module _ (side : ℕ) (t room : List ℕ) (z : readOf side t room .answer .numbe
   fits = text-whole side t passed .fits
 
   counted : readOf side t room .events ≡ length (eventsOf t)
-  counted = rw (read-passed side t room z) (counts side t .passed passed)
+  counted = rw (read-passed side t room z) (counts side t passed)
 
   at-front : take (readOf side t room .events * 6) (front (eventsOf t) room) ≡ flat (eventsOf t)
   at-front = rw counted (take-at (flat (eventsOf t)) (drop (length (eventsOf t) * 6) room) (length (eventsOf t) * 6) (flat-length (eventsOf t)))

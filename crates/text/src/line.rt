@@ -27,9 +27,6 @@ pub fn line_end(text: &[u8], from: usize) -> usize
 pub fn next_line(text: &[u8], at: usize) -> LineStep
     ensures { λ r. ⌜ r ≡ lineAt (now (text .entry)) at ⌝ }
 {
-    if text.len() <= at {
-        return LineStep::TextEnd;
-    }
     let to = line_end(text, at);
     if text.len() <= to {
         return LineStep::TextEnd;

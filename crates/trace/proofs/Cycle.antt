@@ -17,15 +17,17 @@ use Rattle.event.specs.declared.Answer.{Answer}
 use Rattle.event.specs.declared.Event.{Event}
 use Rattle.event.specs.declared.memory.Memory.{Memory}
 use Rattle.event.proofs.Rooms.{flat-length, onward-flat}
-use Rattle.trace.specs.Fault.{clashes, eventFault}
-use Rattle.trace.specs.Reading.{eventLimit, surveyOf, eventsOf, roomAfter}
-use Rattle.trace.specs.Writing.{countOf, roomEvents, layoutFault, traceText, roomFault, bytesOf, inOut, writeOf, outAfter}
-use Rattle.trace.proofs.OneText.{first-done, text-whole, written-read}
+use Rattle.frame.proofs.Settled.{first-done}
 use Rattle.record.specs.Record.{lastValue}
 use Rattle.record.proofs.Layouts.{Fit}
+use Rattle.trace.specs.Fault.{eventFault}
+use Rattle.trace.specs.Reading.{eventLimit, readAs, surveyOf, eventsOf, roomAfter}
+use Rattle.trace.specs.Writing.{countOf, roomEvents, layoutFault, traceText, roomFault, bytesOf, inOut, writeOf, outAfter}
+use Rattle.trace.proofs.OneText.{text-whole, written-read}
 use Rattle.trace.proofs.Range.{places, Valued, Fits, onward-length, room-fits}
 use Rattle.trace.proofs.ReadBack.{read-written}
 use Rattle.trace.proofs.Readings.{counts, read-done}
+use Rattle.trace.proofs.Judged.{fault-parts}
 
 -- that no event is at fault does not hang on the side, nor on where the counting starts
 fault-none : (side side′ k k′ : ℕ) (m : Memory) (before es : List Event) → eventFault side k m before es .number ≡ 0
@@ -33,9 +35,8 @@ fault-none : (side side′ k k′ : ℕ) (m : Memory) (before es : List Event) �
 unfolding eventFault
 fault-none side side′ k k′ m before [] h = refl
 fault-none side side′ k k′ m before (e ∷ es) h =
-    let c = not-first (λ (x : Answer). x .number) (clashes before e) (answer 5 side k) _ (λ z. omega arith) h in
-    let r = not-second (λ (x : Answer). x .number) (stepped m e .right) _ (answer 6 side k) (λ z. omega arith) (c .1) in
-    rw (c .0, r .0) (fault-none side side′ (k + 1) (k′ + 1) (stepped m e .memory) (e ∷ before) es (r .1))
+    let f = fault-parts side k m before e es h in
+    rw (f .0 .0, f .0 .1) (fault-none side side′ (k + 1) (k′ + 1) (stepped m e .memory) (e ∷ before) es (f .1))
 
 -- 18 is not found where each event is lawful
 layout-done : (k : ℕ) (es : List Event) → Each Fit es → layoutFault k es ≡ done
@@ -63,7 +64,7 @@ module _ (m : Memory) (room out : List ℕ) (size : length (m .cells) ≡ places
   written-fits : Fits m (roomEvents room)
   written-fits = room-fits room (λ k. held-at room k held) m (countOf room) size values (no-fault .0) (no-fault .1 .0)
 
-  pub room-written : (side : ℕ) → (surveyOf side (traceText m (roomEvents room)) ≡ record { answer = done; events = countOf room; memory = m })
+  pub room-written : (side : ℕ) → (surveyOf side (traceText m (roomEvents room)) ≡ readAs (countOf room) m)
       × (eventsOf (traceText m (roomEvents room)) ≡ roomEvents room)
   room-written side =
       rw (onward-length room 0 (countOf room)) at
@@ -84,7 +85,7 @@ module _ (side : ℕ) (t room out : List ℕ) (h : surveyOf side t .answer .numb
 
   part : take (surveyOf side t .events * 6) (roomAfter side t room) ≡ flat (eventsOf t)
   part =
-      rw (read-done side t room h fits .1, counts side t .passed h)
+      rw (read-done side t room h fits .1, counts side t h)
       (take-at (flat (eventsOf t)) (drop (length (eventsOf t) * 6) room) (length (eventsOf t) * 6) (flat-length (eventsOf t)))
 
   no-refusal : roomFault start (flat (eventsOf t)) ≡ done

@@ -2,91 +2,89 @@
 -- Assumes nothing.
 use Prim.Native.Nat.{ℕ, _+_, _≤_, _<_}
 use mathlib.Core.Path.{_≡_, refl}
-use mathlib.Core.Bool.{Bool, true, false, cond}
+use mathlib.Core.Bool.{true, false}
 use mathlib.Core.List.{List, [], _∷_}
 use native.Mathlib.Omega.{arith}
-use lib.Dec.{eqb, leb}
+use lib.Dec.{eqb, leb, ltb}
 use lib.ListN.{length, set}
 use borrow.Author.Tests.{lt-ltb, le-ltb, eqb-true}
 use Rattle.laws.proofs.Cases.{cases, either}
-use Rattle.event.specs.Answer.{answer, done, first}
+use Rattle.event.specs.Answer.{answer, first}
 use Rattle.event.specs.declared.Answer.{Answer}
 use Rattle.event.specs.declared.Event.{Event}
 use Rattle.event.specs.declared.memory.Memory.{Memory}
+use Rattle.text.specs.Line.{saidIn}
+use Rattle.text.proofs.Walk.{Some}
+use Rattle.frame.specs.Reading.{linesFault, settle}
+use Rattle.frame.proofs.Lines.{lines-stop, lines-go, lines-pass}
 use Rattle.record.specs.Record.{recordOf}
-use Rattle.trace.specs.Fault.{eventFault}
-use Rattle.text.specs.Cut.{isEmpty}
-use Rattle.text.specs.Line.{}
-use Rattle.trace.specs.Reading.{linesFault, onEventLine, initsFault, eventsIn, onInit, startIn, startFrom, settle, refused, surveyInits}
-use Rattle.trace.specs.Survey.{surveyEvents}
 use Rattle.record.specs.declared.Record.{Record}
 use Rattle.record.specs.declared.Record.the-variants.{Init, Line, Refused}
-use Rattle.record.proofs.Records.{blank}
-use Rattle.text.proofs.Walk.{Some}
+use Rattle.record.proofs.Records.{blank, init-place}
+use Rattle.trace.specs.Fault.{eventFault}
+use Rattle.trace.specs.Reading.{Passed, lineFault, afterLine, traceKind, eventsIn, startIn, startFrom, readAs, refused}
+use Rattle.trace.specs.Survey.{closed, surveyInits, surveyEvents}
 
 -- where no line is refused, no line after the first event is a starting value
-quiet-last : (l : List ℕ) (side k : ℕ) (cells : List ℕ) → cond (isEmpty l) done (answer 2 side k) .number ≡ 0 → startIn cells (l ∷ []) ≡ cells
+abbrev Quiet : Passed → List (List ℕ) → Type 0
+Quiet s ls = s .low ≡ 256 → (cells : List ℕ) → startIn cells ls ≡ cells
+
+quiet-end : (s : Passed) → Quiet s ([] ∷ [])
 unfolding startIn
-quiet-last [] side k cells h = rw blank
-quiet-last (b ∷ l) side k cells h = absurd (omega arith)
+quiet-end s q cells = rw blank
 
-quiet-if : (b : Bool) (side k : ℕ) (a : Answer) → cond b (answer 3 side k) a .number ≡ 0 → a .number ≡ 0
-quiet-if true side k a h = absurd (omega arith)
-quiet-if false side k a h = h
+quiet-line : (s : Passed) (l : List ℕ) (ls : List (List ℕ)) (r : Record) → recordOf l ≡ r → lineFault s r ≡ 0 → Quiet (afterLine s r) ls → Quiet s (l ∷ ls)
+unfolding startIn
+quiet-line s l ls Refused e h g q cells = absurd (omega arith)
+quiet-line s l ls (Init p v) e h g q cells =
+    let b : p < s .low = omega (arith, init-place l p v e) in
+    absurd (let z : _≡_ {A = ℕ} 4 0 = rw (lt-ltb p (s .low) b) at h in omega arith)
+quiet-line s l ls (Line v) e h g q cells = rw (e, startIn) (g refl cells)
 
-quiet-line : (r : Record) (side k n : ℕ) (cells : List ℕ) (ls : List (List ℕ)) (a : Answer) → (a .number ≡ 0 → startIn cells ls ≡ cells)
-    → onEventLine side k n r a .number ≡ 0 → startIn (onInit r cells) ls ≡ cells
-quiet-line Refused side k n cells ls a g h = absurd (omega arith)
-quiet-line (Init p v) side k n cells ls a g h = absurd (omega arith)
-quiet-line (Line e) side k n cells ls a g h = g (quiet-if (leb 800 n) side k a h)
-
-pub quiet : (side k n : ℕ) (cells : List ℕ) (ls : List (List ℕ)) → linesFault side k n ls .number ≡ 0 → startIn cells ls ≡ cells
-unfolding linesFault startIn
-quiet side k n cells [] h = refl
-quiet side k n cells (l ∷ []) h = quiet-last l side k cells h
-quiet side k n cells (l ∷ q ∷ ls) h =
-    quiet-line (recordOf l) side k n cells (q ∷ ls) (linesFault side (k + 1) (n + 1) (q ∷ ls)) (quiet side (k + 1) (n + 1) cells (q ∷ ls)) h
+quiet : (side k : ℕ) (ls : List (List ℕ)) → Some ls → linesFault traceKind side k (closed 0) ls .number ≡ 0 → (cells : List ℕ) → startIn cells ls ≡ cells
+quiet side k ls o h =
+    lines-pass traceKind side Quiet quiet-end (λ s l ls. quiet-line s l ls (recordOf l) refl) k (closed 0) ls o h refl
 
 -- a refusal comes before what the memory says
-settle-same : (F : Answer) (E : Memory → Answer) (n : ℕ) (m m′ : Memory) → (F .number ≡ 0 → m′ ≡ m) → settle (first F (E m′)) n m′ ≡ settle (first F (E m)) n m
-settle-same F E n m m′ h =
-    cases (either (eqb (F .number) 0)) (λ e. rw (h (eqb-true (F .number) 0 e))) (λ e. rw (e, e))
+settle-same : (F : Answer) (E : Memory → Answer) (n : ℕ) (m m′ : Memory) → (F .number ≡ 0 → m′ ≡ m)
+    → settle refused (first F (E m′)) (readAs n m′) ≡ settle refused (first F (E m)) (readAs n m)
+settle-same F E n m m′ h = cases (either (eqb (F .number) 0)) (λ e. rw (h (eqb-true (F .number) 0 e))) (λ e. rw (e, e))
 
 start-same : (m : Memory) (ls : List (List ℕ)) → startIn (m .cells) ls ≡ m .cells → startFrom m ls ≡ m
 start-same m ls h = rw h
 
--- no starting value comes first
-pub inits-rest : (side k low : ℕ) (m : Memory) (ls : List (List ℕ)) → initsFault side k low ls ≡ linesFault side k 0 ls
-    → surveyInits side k low m ls ≡ surveyEvents side k m ls
-unfolding surveyInits surveyEvents
-inits-rest side k low m ls h =
-    rw h
-    (settle-same (linesFault side k 0 ls) (λ m′. eventFault side 1 m′ [] (eventsIn ls)) (length (eventsIn ls)) m (startFrom m ls)
-    (λ z. start-same m ls (quiet side k 0 (m .cells) ls z)))
+module _ (side k low : ℕ) (m : Memory) where
+  abbrev opened : Passed
+  opened = record { low = low; events = 0 }
 
-pub inits-last : (side k low : ℕ) (l : List ℕ) → initsFault side k low (l ∷ []) ≡ linesFault side k 0 (l ∷ [])
-unfolding initsFault
-inits-last side k low l = refl
+  inits-rest : (ls : List (List ℕ)) → Some ls → linesFault traceKind side k opened ls ≡ linesFault traceKind side k (closed 0) ls
+      → surveyInits side k low m ls ≡ surveyEvents side k m ls
+  unfolding surveyInits surveyEvents
+  inits-rest ls o h =
+      rw h
+      (settle-same (linesFault traceKind side k (closed 0) ls) (λ m′. eventFault side 1 m′ [] (eventsIn ls)) (length (eventsIn ls)) m (startFrom m ls)
+      (λ z. start-same m ls (quiet side k ls o z (m .cells))))
 
-module _ (side k low : ℕ) (m : Memory) (l : List ℕ) where
-  pub inits-refused : (ps : List (List ℕ)) → Some ps → recordOf l ≡ Refused → initsFault side k low (l ∷ ps) ≡ linesFault side k 0 (l ∷ ps)
-  unfolding initsFault
-  inits-refused [] s h = absurd s
-  inits-refused (q ∷ ps) s h = rw h
+  -- no starting value comes first: what stands after the last LF, or another line
+  pub inits-last : (l : List ℕ) → surveyInits side k low m (l ∷ []) ≡ surveyEvents side k m (l ∷ [])
+  unfolding linesFault
+  inits-last l = inits-rest (l ∷ []) tt refl
 
-  pub inits-event : (ps : List (List ℕ)) (e : Event) → Some ps → recordOf l ≡ Line e → initsFault side k low (l ∷ ps) ≡ linesFault side k 0 (l ∷ ps)
-  unfolding initsFault
-  inits-event [] e s h = absurd s
-  inits-event (q ∷ ps) e s h = rw h
+  module _ (l : List ℕ) (ps : List (List ℕ)) (s : Some ps) where
+    pub inits-refused : recordOf l ≡ Refused → surveyInits side k low m (l ∷ ps) ≡ surveyEvents side k m (l ∷ ps)
+    inits-refused h =
+        inits-rest (l ∷ ps) tt (rw (lines-stop traceKind side k opened l ps 2 s (rw h) refl, lines-stop traceKind side k (closed 0) l ps 2 s (rw h) refl))
 
-  pub inits-low : (ps : List (List ℕ)) (p v : ℕ) → Some ps → recordOf l ≡ Init p v → p < low
-      → surveyInits side k low m (l ∷ ps) ≡ refused (answer 4 side k)
-  unfolding surveyInits initsFault
-  inits-low [] p v s h o = absurd s
-  inits-low (q ∷ ps) p v s h o = rw (h, lt-ltb p low o)
+    pub inits-event : (e : Event) → recordOf l ≡ Line e → surveyInits side k low m (l ∷ ps) ≡ surveyEvents side k m (l ∷ ps)
+    inits-event e h =
+        inits-rest (l ∷ ps) tt (rw (lines-go traceKind side k opened l ps s (rw h), lines-go traceKind side k (closed 0) l ps s (rw h), h))
 
-  pub inits-go : (ps : List (List ℕ)) (p v : ℕ) → Some ps → recordOf l ≡ Init p v → low ≤ p
-      → surveyInits side k low m (l ∷ ps) ≡ surveyInits side (k + 1) (p + 1) (record { cells = set (m .cells) p v }) ps
-  unfolding surveyInits initsFault eventsIn startIn
-  inits-go [] p v s h o = absurd s
-  inits-go (q ∷ ps) p v s h o = rw (h, le-ltb p low o)
+    -- a starting value
+    pub inits-low : (p v : ℕ) → recordOf l ≡ Init p v → p < low → surveyInits side k low m (l ∷ ps) ≡ refused (answer 4 side k)
+    unfolding surveyInits
+    inits-low p v h o = rw (lines-stop traceKind side k opened l ps 4 s (rw (h, lt-ltb p low o)) refl)
+
+    pub inits-go : (p v : ℕ) → recordOf l ≡ Init p v → low ≤ p
+        → surveyInits side k low m (l ∷ ps) ≡ surveyInits side (k + 1) (p + 1) (record { cells = set (m .cells) p v }) ps
+    unfolding surveyInits saidIn startIn
+    inits-go p v h o = rw (lines-go traceKind side k opened l ps s (rw (h, le-ltb p low o)), h)

@@ -1,17 +1,21 @@
 -- The events of a room one by one: the first of those that are left, what 18 says of it, and what 5 and 6 say of it. Assumes nothing.
 use Prim.Native.Nat.{ℕ, suc, _+_, _-_, _≤_, _<_}
-use mathlib.Core.Bool.{true, false}
+use mathlib.Core.Bool.{Bool, true, false}
 use mathlib.Core.Path.{_≡_, refl}
 use mathlib.Core.List.{List, [], _∷_}
 use native.Mathlib.Omega.{arith}
+use lib.Dec.{eqb}
+use borrow.Author.Tests.{eqb-true}
 use Rattle.laws.proofs.Cases.{cases, either}
-use Rattle.event.specs.Answer.{answer, done}
+use Rattle.event.specs.Answer.{answer, done, first}
 use Rattle.event.specs.Kind.{lawful}
 use Rattle.event.specs.Memory.{stepped}
 use Rattle.event.specs.Room.{eventAt, onward}
+use Rattle.event.specs.declared.Answer.{Answer}
 use Rattle.event.specs.declared.Event.{Event}
 use Rattle.event.specs.declared.memory.Memory.{Memory}
-use Rattle.trace.specs.Fault.{clashes, eventFault}
+use Rattle.frame.proofs.Settled.{first-done}
+use Rattle.trace.specs.Fault.{clashes, faultAt, eventFault}
 use Rattle.trace.specs.Writing.{layoutFault}
 
 module _ (room : List ℕ) (i n : ℕ) where
@@ -47,12 +51,38 @@ pub layout-end : (k : ℕ) → layoutFault k [] ≡ done
 unfolding layoutFault
 layout-end k = refl
 
--- the first event neither clashes nor has another value than the latest
-pub fault-go : (side k : ℕ) (m : Memory) (before : List Event) (e : Event) (es : List Event) → clashes before e ≡ false
-    → stepped m e .right ≡ true → eventFault side k m before (e ∷ es) ≡ eventFault side (k + 1) (stepped m e .memory) (e ∷ before) es
-unfolding eventFault
-fault-go side k m before e es q r = rw (q, r)
+-- what 5 and 6 say, by what they say of the first event
+module _ (side k : ℕ) (m : Memory) (before : List Event) (e : Event) (es : List Event) where
+  abbrev pub its-fault : Answer
+  its-fault = faultAt side k (clashes before e) (stepped m e .right)
+
+  abbrev pub others-fault : Answer
+  others-fault = eventFault side (k + 1) (stepped m e .memory) (e ∷ before) es
+
+  pub fault-next : eventFault side k m before (e ∷ es) ≡ first its-fault others-fault
+  unfolding eventFault
+  fault-next = refl
+
+-- an event without 5 or 6 neither clashes nor has another value than the latest
+pub fault-free : (side k : ℕ) (clash right : Bool) → faultAt side k clash right .number ≡ 0 → (clash ≡ false) × (right ≡ true)
+fault-free side k true right h = absurd (omega arith)
+fault-free side k false true h = (refl, refl)
+fault-free side k false false h = absurd (omega arith)
+
+-- where no event is at fault, the first neither clashes nor has another value than the latest, and no other is at fault
+pub fault-parts : (side k : ℕ) (m : Memory) (before : List Event) (e : Event) (es : List Event) → eventFault side k m before (e ∷ es) .number ≡ 0
+    → ((clashes before e ≡ false) × (stepped m e .right ≡ true)) × (others-fault side k m before e es .number ≡ 0)
+fault-parts side k m before e es h =
+    let d = first-done (its-fault side k m before e es) (others-fault side k m before e es) (rw (fault-next side k m before e es) at h) in
+    (fault-free side k (clashes before e) (stepped m e .right) (d .0), d .1)
 
 pub fault-end : (side k : ℕ) (m : Memory) (before : List Event) → eventFault side k m before [] ≡ done
 unfolding eventFault
 fault-end side k m before = refl
+
+-- the first of three answers that refuses, and the first of two by the one alone
+pub first-assoc : (a b c : Answer) → first a (first b c) ≡ first (first a b) c
+first-assoc a b c = cases (either (eqb (a .number) 0)) (λ e. rw e) (λ e. rw (e, e))
+
+pub first-same : (a b c : Answer) → (a .number ≡ 0 → b ≡ c) → first a b ≡ first a c
+first-same a b c h = cases (either (eqb (a .number) 0)) (λ e. rw e (h (eqb-true (a .number) 0 e))) (λ e. rw e)

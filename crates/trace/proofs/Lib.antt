@@ -1,9 +1,7 @@
 -- Laws that belong to no one function. Assumes nothing.
-pub mod Lines
 pub mod Surveys
 pub mod Ways
 pub mod Inits
-pub mod Heads
 pub mod Readings
 pub mod Stores
 pub mod Range

@@ -7,7 +7,7 @@ use native.Mathlib.Omega.{arith}
 use lib.Dec.{eqb}
 use lib.ListN.{length, set, replicate, length-append}
 use lib.Seq.{append-snoc, set-append-seam}
-use borrow.Author.Tests.{eqb-true, eqb-false, le-ltb}
+use borrow.Author.Tests.{eqb-true, eqb-false, le-ltb, lt-leb}
 use Rattle.laws.proofs.Cases.{cases, either}
 use Rattle.laws.proofs.Lists.{Each, Free, each-append}
 use Rattle.event.specs.Answer.{done}
@@ -15,20 +15,19 @@ use Rattle.event.specs.Memory.{empty}
 use Rattle.event.specs.declared.Event.{Event}
 use Rattle.event.specs.declared.memory.Memory.{Memory}
 use Rattle.text.specs.Cut.{cut}
-use Rattle.text.specs.Line.{split}
+use Rattle.text.specs.Line.{split, saidIn}
 use Rattle.text.proofs.Parts.{cut-part}
 use Rattle.text.proofs.Walk.{Some}
-use Rattle.text.proofs.Words.{same-self}
 use Rattle.record.specs.Layout.{header, eventLine, initLine}
 use Rattle.record.specs.Record.{recordOf}
 use Rattle.trace.specs.Fault.{eventFault}
-use Rattle.trace.specs.Reading.{linesFault, initsFault, eventsIn, startIn, surveyInits, surveyOf, eventsOf, readOf, front, roomAfter}
+use Rattle.frame.specs.Reading.{linesFault}
+use Rattle.frame.proofs.Heads.{by-lines}
+use Rattle.frame.proofs.Lines.{lines-end, lines-go}
+use Rattle.trace.specs.Reading.{Passed, traceKind, eventsIn, startIn, readAs, faultOf, surveyOf, eventsOf, readOf, front, roomAfter}
 use Rattle.trace.specs.Writing.{textOf, initLines, traceText}
 use Rattle.record.specs.declared.Record.the-variants.{Init, Line}
-use Rattle.trace.proofs.Heads.{parts-right}
-use Rattle.trace.proofs.Inits.{inits-event, inits-last}
 use Rattle.record.proofs.Layouts.{Fit, event-read, init-read}
-use Rattle.trace.proofs.Lines.{lines-go, lines-end}
 use Rattle.record.proofs.Prints.{event-no-lf, init-no-lf}
 use Rattle.trace.proofs.Range.{Valued, Fits, text-length}
 use Rattle.trace.proofs.Readings.{read-done}
@@ -50,14 +49,15 @@ fit-read : (e : Event) → Fit e → recordOf (eventLine e) ≡ Line e
 fit-read e h = event-read e h
 
 -- the lines of events are read without refusal, as the events, and leave the cells alone
-tail-lines : (side k n : ℕ) (es : List Event) → n + length es ≤ 800 → Each Fit es → linesFault side k n (tail es) ≡ done
-tail-lines side k n [] b h = lines-end side k n
-tail-lines side k n (e ∷ es) b h =
-    lines-go side k n (eventLine e) (tail es) e (some-end (map eventLine es)) (fit-read e (h .0)) (omega arith)
-    ∙ tail-lines side (k + 1) (n + 1) es (omega arith) (h .1)
+tail-lines : (side k : ℕ) (s : Passed) (es : List Event) → s .events + length es ≤ 800 → Each Fit es → linesFault traceKind side k s (tail es) ≡ done
+tail-lines side k s [] b h = lines-end traceKind side k s [] refl
+tail-lines side k s (e ∷ es) b h =
+    let q = fit-read e (h .0) in
+    lines-go traceKind side k s (eventLine e) (tail es) (some-end (map eventLine es)) (rw (q, lt-leb 800 (s .events) (omega arith)))
+    ∙ rw q (tail-lines side (k + 1) (record { low = 256; events = s .events + 1 }) es (omega arith) (h .1))
 
 tail-events : (es : List Event) → Each Fit es → eventsIn (tail es) ≡ es
-unfolding eventsIn
+unfolding saidIn
 tail-events [] h = rw blank
 tail-events (e ∷ es) h = rw (fit-read e (h .0), tail-events es (h .1))
 
@@ -66,37 +66,30 @@ unfolding startIn
 tail-start cells [] h = rw blank
 tail-start cells (e ∷ es) h = rw (fit-read e (h .0), startIn) (tail-start cells es (h .1))
 
-tail-inits : (side k low : ℕ) (es : List Event) → length es ≤ 800 → Each Fit es → initsFault side k low (tail es) ≡ done
-tail-inits side k low [] b h = inits-last side k low [] ∙ tail-lines side k 0 [] b h
-tail-inits side k low (e ∷ es) b h =
-    inits-event side k low empty (eventLine e) (tail es) e (some-end (map eventLine es)) (fit-read e (h .0)) ∙ tail-lines side k 0 (e ∷ es) (omega arith) h
-
--- a line of a starting value, where one may come
-init-go : (side k low p v : ℕ) (ps : List (List ℕ)) → Some ps → recordOf (initLine p v) ≡ Init p v → low ≤ p
-    → initsFault side k low (initLine p v ∷ ps) ≡ initsFault side (k + 1) (p + 1) ps
-unfolding initsFault
-init-go side k low p v [] s h o = absurd s
-init-go side k low p v (q ∷ ps) s h o = rw (h, le-ltb p low o)
-
 pub start-init : (cells l : List ℕ) (ls : List (List ℕ)) (p v : ℕ) → recordOf l ≡ Init p v → startIn cells (l ∷ ls) ≡ startIn (set cells p v) ls
 unfolding startIn
 start-init cells l ls p v h = rw (h, startIn)
 
+pub start-event : (cells l : List ℕ) (ls : List (List ℕ)) (e : Event) → recordOf l ≡ Line e → startIn cells (l ∷ ls) ≡ startIn cells ls
+unfolding startIn
+start-event cells l ls e h = rw (h, startIn)
+
 -- lines of starting values before other lines ts: none is refused, none is an event, and they fill cells that are 0
 module _ (ts : List (List ℕ)) where
-  inits-lines : (side : ℕ) → Some ts → ((k low : ℕ) → initsFault side k low ts ≡ done) → (k low l : ℕ) (vs : List ℕ) → low ≤ l
-      → l + length vs ≤ 256 → Valued vs → initsFault side k low (initLines l vs ++ ts) ≡ done
+  inits-lines : (side : ℕ) → Some ts → ((k low : ℕ) → linesFault traceKind side k (record { low = low; events = 0 }) ts ≡ done) → (k low l : ℕ) (vs : List ℕ)
+      → low ≤ l → l + length vs ≤ 256 → Valued vs → linesFault traceKind side k (record { low = low; events = 0 }) (initLines l vs ++ ts) ≡ done
   unfolding initLines
   inits-lines side s g k low l [] o b h = g k low
   inits-lines side s g k low l (v ∷ vs) o b h =
       cases (either (eqb v 0)) (λ e. rw e (inits-lines side s g k low (l + 1) vs (omega arith) (omega arith) (h .1)))
-      (λ e. rw e
-      (init-go side k low l v (initLines (l + 1) vs ++ ts) (some-after (initLines (l + 1) vs) ts s)
-      (init-read l v (omega arith) (h .0) (eqb-false v 0 e)) o
-      ∙ inits-lines side s g (k + 1) (l + 1) (l + 1) vs (omega arith) (omega arith) (h .1)))
+      (λ e. let q = init-read l v (omega arith) (h .0) (eqb-false v 0 e) in
+      rw e
+      (lines-go traceKind side k (record { low = low; events = 0 }) (initLine l v) (initLines (l + 1) vs ++ ts) (some-after (initLines (l + 1) vs) ts s)
+      (rw (q, le-ltb l low o))
+      ∙ rw q (inits-lines side s g (k + 1) (l + 1) (l + 1) vs (omega arith) (omega arith) (h .1))))
 
   inits-events : (l : ℕ) (vs : List ℕ) → l + length vs ≤ 256 → Valued vs → eventsIn (initLines l vs ++ ts) ≡ eventsIn ts
-  unfolding initLines eventsIn
+  unfolding initLines saidIn
   inits-events l [] b h = refl
   inits-events l (v ∷ vs) b h =
       let i = inits-events (l + 1) vs (omega arith) (h .1) in
@@ -156,28 +149,26 @@ module _ (side : ℕ) (m : Memory) (es : List Event) (f : Fits m es) where
   the-start =
       rw (f .size) at (inits-start (tail es) [] (m .cells) (omega arith) (f .values) (λ cells. tail-start cells es (f .events)))
 
-  the-lines : initsFault side 2 0 (initLines 0 (m .cells) ++ tail es) ≡ done
+  the-lines : linesFault traceKind side 2 (traceKind .start) (initLines 0 (m .cells) ++ tail es) ≡ done
   the-lines =
-      inits-lines (tail es) side (some-end (map eventLine es)) (λ k low. tail-inits side k low es (f .few) (f .events)) 2 0 0 (m .cells) (omega arith)
-      (omega arith) (f .values)
+      inits-lines (tail es) side (some-end (map eventLine es))
+      (λ k low. tail-lines side k (record { low = low; events = 0 }) es (omega (arith, f .few)) (f .events)) 2 0 0 (m .cells) (omega arith) (omega arith) (f .values)
 
   -- Document 01, "Lent room": "The writer makes the `init` lines from that memory and fills exactly the bytes that it counts." What is
   -- written so is read back as that memory and those events, without refusal.
   pub read-written : eventFault side 1 m [] es ≡ done
-      → (surveyOf side (traceText m es) ≡ record { answer = done; events = length es; memory = m }) × (eventsOf (traceText m es) ≡ es)
-  unfolding surveyOf surveyInits eventsOf
+      → (surveyOf side (traceText m es) ≡ readAs (length es) m) × (eventsOf (traceText m es) ≡ es)
+  unfolding surveyOf faultOf eventsOf
   read-written h =
-      let short : length (traceText m es) ≤ 32400 = omega (arith, text-length m es f) in (
-        rw (le-ltb 32400 (length (traceText m es)) short, text-parts m es)
-            (parts-right side header (initLines 0 (m .cells) ++ tail es) (some-after (initLines 0 (m .cells)) (tail es) (some-end (map eventLine es)))
-            (same-self header)
-            ∙ rw (the-lines, the-start, the-events, h)),
-        rw (text-parts m es) the-events,
-      )
+      let short : length (traceText m es) ≤ 32400 = omega (arith, text-length m es f) in
+      let p = text-parts m es in
+      let ls : List (List ℕ) = initLines 0 (m .cells) ++ tail es in
+      let t = by-lines traceKind side (traceText m es) ls short p (some-after (initLines 0 (m .cells)) (tail es) (some-end (map eventLine es))) in
+      (rw (t, the-lines, p, the-start, the-events, h), rw p the-events)
 
   -- so a room that holds the events has them at its front
   pub read-into : (room : List ℕ) → eventFault side 1 m [] es ≡ done → length es ≤ length room / 6
-      → (readOf side (traceText m es) room ≡ record { answer = done; events = length es; memory = m })
+      → (readOf side (traceText m es) room ≡ readAs (length es) m)
       × (roomAfter side (traceText m es) room ≡ front es room)
   read-into room h k =
       let w = read-written h in

@@ -1,80 +1,44 @@
--- What a reading counts: a refusal counts no event, and else the count is that of the text's events.
--- Assumes nothing.
+-- What a reading that does not refuse counts, and that it has room for it. Assumes nothing.
 use Prim.Native.Nat.{ℕ, _*_, _/_, _≤_}
-use mathlib.Core.Path.{_≡_, refl}
-use mathlib.Core.Bool.{Bool, true, false, cond}
-use mathlib.Core.List.{List, [], _∷_}
+use mathlib.Core.Path.{_≡_, refl, ap}
+use mathlib.Core.List.{List}
 use native.Mathlib.Omega.{arith}
-use lib.Dec.{eqb, leb, ltb}
 use lib.ListN.{length}
-use borrow.Author.Tests.{eqb-false, leb-true, le-leb}
-use Rattle.laws.proofs.Cases.{cases, either}
-use Rattle.event.specs.Answer.{answer, first}
-use Rattle.event.specs.Memory.{empty}
-use Rattle.event.specs.declared.Answer.{Answer}
-use Rattle.event.specs.declared.memory.Memory.{Memory}
-use Rattle.text.specs.Line.{split, textLimit}
-use Rattle.text.specs.Word.{same}
-use Rattle.record.specs.Layout.{header}
-use Rattle.trace.specs.Fault.{eventFault}
-use Rattle.trace.specs.Reading.{initsFault, eventsIn, startFrom, refused, settle, surveyInits, surveyParts, surveyOf, body, eventsOf, readOf, front, roomAfter}
+use borrow.Author.Tests.{le-leb}
+use Rattle.frame.proofs.Settled.{settled, fits}
+use Rattle.trace.specs.Reading.{faultOf, refused, readAs, startOf, surveyOf, eventsOf, readOf, front, roomAfter}
 use Rattle.trace.specs.declared.reading.TraceRead.{TraceRead}
 
--- what a survey counts: n events where it does not refuse, none where it does
-pub record Counts (n : ℕ) (r : TraceRead) : Type 0 where
-  pub passed : r .answer .number ≡ 0 → r .events ≡ n
-  pub refuses : (r .answer .number ≡ 0 → ⊥) → r .events ≡ 0
+abbrev number : TraceRead → ℕ
+number r = r .answer .number
 
-counts-refused : (n : ℕ) (a : Answer) → (a .number ≡ 0 → ⊥) → Counts n (refused a)
-counts-refused n a h = record { passed = λ z. absurd (h z); refuses = λ _. refl }
+module _ (side : ℕ) (t : List ℕ) where
+  pub survey-done : surveyOf side t .answer .number ≡ 0
+      → (faultOf side t .number ≡ 0) × (surveyOf side t ≡ readAs (length (eventsOf t)) (startOf t))
+  unfolding surveyOf
+  survey-done h = settled refused number (λ a. refl) (faultOf side t) (readAs (length (eventsOf t)) (startOf t)) h
 
-counts-settle : (a : Answer) (n : ℕ) (m : Memory) → Counts n (settle a n m)
-counts-settle a n m =
-    cases (either (eqb (a .number) 0)) (λ e. rw e (record { passed = λ _. refl; refuses = λ h. absurd (h refl) }))
-    (λ e. rw e (counts-refused n a (eqb-false (a .number) 0 e)))
+  pub counts : surveyOf side t .answer .number ≡ 0 → surveyOf side t .events ≡ length (eventsOf t)
+  counts h = ap (λ (r : TraceRead). r .events) (survey-done h .1)
 
-counts-if : (b : Bool) (n : ℕ) (r s : TraceRead) → Counts n r → Counts n s → Counts n (cond b r s)
-counts-if true n r s p q = p
-counts-if false n r s p q = q
+  module _ (room : List ℕ) where
+    module _ (h : readOf side t room .answer .number ≡ 0) where
+      room-told : (surveyOf side t .events ≤ length room / 6) × (readOf side t room ≡ surveyOf side t)
+      unfolding readOf
+      room-told = fits refused number (λ a. refl) side (surveyOf side t .events) (length room / 6) (surveyOf side t) h
 
-counts-inits : (side k low : ℕ) (m : Memory) (ls : List (List ℕ)) → Counts (length (eventsIn ls)) (surveyInits side k low m ls)
-unfolding surveyInits
-counts-inits side k low m ls =
-    counts-settle (first (initsFault side k low ls) (eventFault side 1 (startFrom m ls) [] (eventsIn ls))) (length (eventsIn ls)) (startFrom m ls)
+      -- a reading that does not refuse is its survey
+      pub read-passed : readOf side t room ≡ surveyOf side t
+      read-passed = room-told .1
 
-counts-parts : (side : ℕ) (ls : List (List ℕ)) → Counts (length (eventsIn (body ls))) (surveyParts side ls)
-unfolding surveyParts
-counts-parts side [] = counts-refused _ (answer 2 side 1) (λ z. omega arith)
-counts-parts side (l ∷ []) = counts-refused _ (answer 2 side 1) (λ z. omega arith)
-counts-parts side (l ∷ m ∷ ls) =
-    counts-if (same l header) _ _ _ (counts-inits side 2 0 empty (m ∷ ls)) (counts-refused _ (answer 2 side 1) (λ z. omega arith))
+      -- and has room for the events
+      pub read-fits : length (eventsOf t) * 6 ≤ length room
+      read-fits = omega (arith, room-told .0, counts (rw read-passed at h))
 
-pub counts : (side : ℕ) (t : List ℕ) → Counts (length (eventsOf t)) (surveyOf side t)
-unfolding surveyOf eventsOf
-counts side t = counts-if (ltb textLimit (length t)) _ _ _ (counts-refused _ (answer 1 side 0) (λ z. omega arith)) (counts-parts side (split t))
-
--- a reading that does not refuse has room for the events
-fits-if : (b : Bool) (side n : ℕ) (r : TraceRead) → Counts n r → cond b r (refused (answer 17 side (r .events))) .answer .number ≡ 0
-    → (b ≡ true) × (r .events ≡ n)
-fits-if true side n r c z = (refl, c .passed z)
-fits-if false side n r c z = absurd (omega arith)
-
-pub read-fits : (side : ℕ) (t room : List ℕ) → readOf side t room .answer .number ≡ 0 → length (eventsOf t) * 6 ≤ length room
-unfolding readOf
-read-fits side t room z =
-    let f = fits-if (leb (surveyOf side t .events) (length room / 6)) side (length (eventsOf t)) (surveyOf side t) (counts side t) z in
-    omega (arith, f .1, leb-true (surveyOf side t .events) (length room / 6) (f .0))
-
--- and is its survey
-pub read-passed : (side : ℕ) (t room : List ℕ) → readOf side t room .answer .number ≡ 0 → readOf side t room ≡ surveyOf side t
-unfolding readOf
-read-passed side t room z =
-    let f = fits-if (leb (surveyOf side t .events) (length room / 6)) side (length (eventsOf t)) (surveyOf side t) (counts side t) z in
-    rw (f .0)
-
--- a survey that does not refuse and has room is the reading
-pub read-done : (side : ℕ) (t room : List ℕ) → surveyOf side t .answer .number ≡ 0 → surveyOf side t .events ≤ length room / 6
-    → (readOf side t room ≡ surveyOf side t) × (roomAfter side t room ≡ front (eventsOf t) room)
-unfolding readOf roomAfter
-read-done side t room z h =
-    (rw (le-leb (surveyOf side t .events) (length room / 6) h), rw (le-leb (surveyOf side t .events) (length room / 6) h, z))
+    -- a survey that does not refuse and has room is the reading
+    pub read-done : surveyOf side t .answer .number ≡ 0 → surveyOf side t .events ≤ length room / 6
+        → (readOf side t room ≡ surveyOf side t) × (roomAfter side t room ≡ front (eventsOf t) room)
+    unfolding readOf roomAfter
+    read-done z h =
+        let f = le-leb (surveyOf side t .events) (length room / 6) h in
+        (rw f, rw (f, z))

@@ -1,72 +1,87 @@
 -- A reading in the midst of its events, one line at a time: what is refused, what goes on, what ends. Assumes nothing.
-use Prim.Native.Nat.{ℕ, suc, _+_, _<_}
-use mathlib.Core.Path.{_≡_}
-use mathlib.Core.Bool.{true, false}
+use Prim.Native.Nat.{ℕ, suc, _+_, _≤_, _<_}
+use mathlib.Core.Path.{_≡_, refl, sym, _∙_, ap}
+use mathlib.Core.Bool.{Bool, true, false}
 use mathlib.Core.List.{List, [], _∷_}
 use native.Mathlib.Omega.{arith}
 use lib.Dec.{eqb}
 use lib.ListN.{length}
-use Rattle.laws.proofs.Cases.{cases, either}
+use borrow.Author.Tests.{le-leb, lt-leb, lt-ltb}
 use Rattle.event.specs.Answer.{answer, done, first}
 use Rattle.event.specs.Memory.{stepped}
 use Rattle.event.specs.declared.Answer.{Answer}
 use Rattle.event.specs.declared.Event.{Event}
 use Rattle.event.specs.declared.memory.Memory.{Memory}
-use Rattle.record.specs.Record.{recordOf}
-use Rattle.trace.specs.Fault.{clashes, eventFault}
-use Rattle.trace.specs.Reading.{linesFault, eventsIn, settle, refused}
-use Rattle.trace.specs.Survey.{surveyEvents}
-use Rattle.record.specs.declared.Record.the-variants.{Line}
-use Rattle.trace.specs.declared.reading.TraceRead.{TraceRead}
-use Rattle.record.proofs.Records.{blank}
+use Rattle.text.specs.Cut.{isEmpty}
+use Rattle.text.specs.Line.{saidIn}
 use Rattle.text.proofs.Walk.{Some}
-use Rattle.trace.proofs.Lines.{lines-go, lines-end}
+use Rattle.frame.specs.Reading.{linesFault, settle}
+use Rattle.frame.proofs.Lines.{lines-open, lines-end, lines-stop, lines-go}
+use Rattle.record.specs.Record.{recordOf}
+use Rattle.record.specs.declared.Record.the-variants.{Init, Line, Refused}
+use Rattle.record.proofs.Records.{blank, init-place}
+use Rattle.trace.specs.Fault.{clashes, faultAt, eventFault}
+use Rattle.trace.specs.Reading.{traceKind, eventsIn, refused, readAs}
+use Rattle.trace.specs.Survey.{closed, surveyEvents}
+use Rattle.trace.specs.declared.reading.TraceRead.{TraceRead}
+use Rattle.trace.proofs.Judged.{fault-next, fault-end, first-assoc, first-same, others-fault}
 
--- the lines from line k on, after n events, which left the memory m and are `before`, nearest first
-unfoldable pub surveyOn : ℕ → ℕ → ℕ → Memory → List Event → Memory → List (List ℕ) → TraceRead
-surveyOn side k n m before start ls =
-    settle (first (linesFault side k n ls) (eventFault side (n + 1) m before (eventsIn ls))) (n + length (eventsIn ls)) start
+-- the lines from line k on, after n events, which left the memory m, are `before`, nearest first, and had the fault `found`, if any
+unfoldable pub surveyOn : ℕ → ℕ → ℕ → Memory → List Event → Answer → Memory → List (List ℕ) → TraceRead
+surveyOn side k n m before found start ls =
+    settle refused
+    (first (linesFault traceKind side k (closed n) ls) (first found (eventFault side (n + 1) m before (eventsIn ls))))
+    (readAs (n + length (eventsIn ls)) start)
 
-pub on-start : (side k : ℕ) (m : Memory) (ls : List (List ℕ)) → surveyEvents side k m ls ≡ surveyOn side k 0 m [] m ls
+pub on-start : (side k : ℕ) (m : Memory) (ls : List (List ℕ)) → surveyEvents side k m ls ≡ surveyOn side k 0 m [] done m ls
 unfolding surveyEvents surveyOn
 on-start side k m ls = let z : 0 + length (eventsIn ls) ≡ length (eventsIn ls) = omega arith in rw z
 
--- a refusal x of the lines, or else one y found in the events
-pub settle-first : (x y : Answer) (n : ℕ) (m : Memory) → eqb (y .number) 0 ≡ false → settle (first x y) n m ≡ refused (first x y)
-settle-first x y n m h = cases (either (eqb (x .number) 0)) (λ e. rw (e, h)) (λ e. rw (e, e))
+module _ (side k n : ℕ) (m : Memory) (before : List Event) (found : Answer) (start : Memory) (l : List ℕ) where
+  abbrev here : List (List ℕ) → TraceRead
+  here ls = surveyOn side k n m before found start ls
 
--- the first event clashes with an earlier one
-pub fault-five : (side n : ℕ) (m : Memory) (before : List Event) (e : Event) (es : List Event) → clashes before e ≡ true
-    → eventFault side n m before (e ∷ es) ≡ answer 5 side n
-unfolding eventFault
-fault-five side n m before e es q = rw q
-
--- the first event's value is not the latest
-pub fault-six : (side n : ℕ) (m : Memory) (before : List Event) (e : Event) (es : List Event) → clashes before e ≡ false
-    → stepped m e .right ≡ false → eventFault side n m before (e ∷ es) ≡ answer 6 side n
-unfolding eventFault
-fault-six side n m before e es q r = rw (q, r)
-
-module _ (side k n : ℕ) (m : Memory) (before : List Event) (start : Memory) where
-  pub on-refused : (ls : List (List ℕ)) (x : ℕ) → eqb x 0 ≡ false → linesFault side k n ls ≡ answer x side k
-      → surveyOn side k n m before start ls ≡ refused (answer x side k)
+  on-refused : (ls : List (List ℕ)) (x : ℕ) → eqb x 0 ≡ false → linesFault traceKind side k (closed n) ls ≡ answer x side k → here ls ≡ refused (answer x side k)
   unfolding surveyOn
   on-refused ls x z h = rw (h, z, z)
 
-  pub on-end : surveyOn side k n m before start ([] ∷ []) ≡ record { answer = done; events = n; memory = start }
-  unfolding surveyOn eventsIn eventFault
-  on-end = let z : n + 0 ≡ n = omega arith in rw (lines-end side k n, blank, z)
+  -- what stands after the last LF: something, or nothing
+  pub on-open : isEmpty l ≡ false → here (l ∷ []) ≡ refused (answer 2 side k)
+  on-open h = on-refused (l ∷ []) 2 refl (lines-open traceKind side k (closed n) l h)
 
-  module _ (l : List ℕ) (ls : List (List ℕ)) (e : Event) (s : Some ls) (h : recordOf l ≡ Line e) (f : n < 800) where
-    -- its event clashes, or its value is not the latest
-    pub on-fault : (x : ℕ) → eqb x 0 ≡ false → eventFault side (n + 1) m before (e ∷ eventsIn ls) ≡ answer x side (n + 1)
-        → surveyOn side k n m before start (l ∷ ls) ≡ refused (first (linesFault side (k + 1) (n + 1) ls) (answer x side (n + 1)))
-    unfolding surveyOn eventsIn
-    on-fault x z q = rw (lines-go side k n l ls e s h f, h, q) (settle-first (linesFault side (k + 1) (n + 1) ls) (answer x side (n + 1)) _ start z)
+  module _ (h : isEmpty l ≡ true) (e : l ≡ []) where
+    at-end : here (l ∷ []) ≡ settle refused (first found done) (readAs (n + 0) start)
+    unfolding surveyOn saidIn
+    at-end = rw (lines-end traceKind side k (closed n) l h, e, blank, fault-end side (n + 1) m before)
 
-    pub on-go : clashes before e ≡ false → stepped m e .right ≡ true
-        → surveyOn side k n m before start (l ∷ ls) ≡ surveyOn side (k + 1) (n + 1) (stepped m e .memory) (e ∷ before) start ls
-    unfolding surveyOn eventsIn eventFault
-    on-go q r =
-        let c : n + suc (length (eventsIn ls)) ≡ n + 1 + length (eventsIn ls) = omega arith in
-        rw (lines-go side k n l ls e s h f, h, q, r, c)
+    pub on-found : eqb (found .number) 0 ≡ false → here (l ∷ []) ≡ refused found
+    on-found z = at-end ∙ rw (z, z)
+
+    pub on-end : found .number ≡ 0 → here (l ∷ []) ≡ readAs n start
+    on-end z = let o : n + 0 ≡ n = omega arith in at-end ∙ rw (z, o)
+
+  module _ (ps : List (List ℕ)) (s : Some ps) where
+    pub on-bad : recordOf l ≡ Refused → here (l ∷ ps) ≡ refused (answer 2 side k)
+    on-bad h = on-refused (l ∷ ps) 2 refl (lines-stop traceKind side k (closed n) l ps 2 s (rw h) refl)
+
+    pub on-init : (p v : ℕ) → recordOf l ≡ Init p v → here (l ∷ ps) ≡ refused (answer 4 side k)
+    on-init p v h =
+        let b : p < 256 = omega (arith, init-place l p v h) in
+        on-refused (l ∷ ps) 4 refl (lines-stop traceKind side k (closed n) l ps 4 s (rw (h, lt-ltb p 256 b)) refl)
+
+    module _ (e : Event) (h : recordOf l ≡ Line e) where
+      pub on-full : 800 ≤ n → here (l ∷ ps) ≡ refused (answer 3 side k)
+      on-full f = on-refused (l ∷ ps) 3 refl (lines-stop traceKind side k (closed n) l ps 3 s (rw (h, le-leb 800 n f)) refl)
+
+      -- an event, whether it clashes and whether its value is the latest being asked only where nothing was found before
+      pub on-go : n < 800 → (clash : Bool) → (found .number ≡ 0 → clash ≡ clashes before e)
+          → here (l ∷ ps)
+          ≡ surveyOn side (k + 1) (n + 1) (stepped m e .memory) (e ∷ before) (first found (faultAt side (n + 1) clash (stepped m e .right))) start ps
+      unfolding surveyOn saidIn
+      on-go f clash q =
+          let c : n + suc (length (eventsIn ps)) ≡ n + 1 + length (eventsIn ps) = omega arith in
+          let a : Answer = faultAt side (n + 1) clash (stepped m e .right) in
+          let b : Answer = faultAt side (n + 1) (clashes before e) (stepped m e .right) in
+          let w : first found a ≡ first found b = first-same found a b (λ z. rw (q z)) in
+          let o : Answer = others-fault side (n + 1) m before e (eventsIn ps) in
+          rw (lines-go traceKind side k (closed n) l ps s (rw (h, lt-leb 800 n f)), h, c, fault-next side (n + 1) m before e (eventsIn ps), first-assoc found b o, w)

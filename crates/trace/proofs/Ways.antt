@@ -13,7 +13,7 @@ use Rattle.laws.proofs.Cases.{cases, either}
 use Rattle.event.specs.Kind.{row, isLocation, plain, atomic}
 use Rattle.event.specs.declared.Event.{Event}
 use Rattle.trace.specs.Fault.{uses, clashes}
-use Rattle.trace.specs.Way.{wayOf, opposed, joined}
+use Rattle.trace.specs.Way.{wayOf, opposed, joined, clashing, waysAfter}
 
 -- the array says how the events used each location
 abbrev pub Marks : List ℕ → List Event → Type 0
@@ -23,6 +23,9 @@ Marks ways before =
 pub marks-start : Marks (replicate 256 0) []
 unfolding uses
 marks-start l h = (rw (getD-replicate {A = ℕ} 256 l 0 0 h), rw (getD-replicate {A = ℕ} 256 l 0 0 h))
+
+pub marks-told : (es : List Event) {ways ways′ : List ℕ} → ways ≡ ways′ → Marks ways′ es → Marks ways es
+marks-told es p m = rw p m
 
 -- how an event of a class uses its location: whether the kind has one, and whether it synchronises
 abbrev way : Bool → Bool → ℕ
@@ -46,16 +49,18 @@ module _ (ways : List ℕ) (before : List Event) (e : Event) (inside : e .place 
   abbrev was : ℕ
   was = getD ways (e .place) 0
 
-  pub clash : clashes before e ≡ opposed was (wayOf (e .kind))
+  abbrev way-now : ℕ
+  way-now = joined was (wayOf (e .kind))
+
+  pub clash : clashes before e ≡ clashing ways e
   unfolding wayOf
   clash =
       clash-at (isLocation (row (e .kind) .place)) (row (e .kind) .sync) (uses plain (e .place) before) (uses atomic (e .place) before) was
       (marks (e .place) inside .0)
       (marks (e .place) inside .1)
 
-  module _ (size : length ways ≡ 256) (free : opposed was (wayOf (e .kind)) ≡ false) where
-    here : (l : ℕ) → l < 256 → e .place ≡ l
-        → (uses plain l (e ∷ before) ≡ eqb (joined was (wayOf (e .kind))) 1) × (uses atomic l (e ∷ before) ≡ eqb (joined was (wayOf (e .kind))) 2)
+  module _ (size : length ways ≡ 256) (free : clashing ways e ≡ false) where
+    here : (l : ℕ) → l < 256 → e .place ≡ l → (uses plain l (e ∷ before) ≡ eqb way-now 1) × (uses atomic l (e ∷ before) ≡ eqb way-now 2)
     unfolding uses wayOf
     here l h i =
         rw (← i, eq-eqb (e .place) (e .place) refl)
@@ -64,23 +69,14 @@ module _ (ways : List ℕ) (before : List Event) (e : Event) (inside : e .place 
         (marks (e .place) inside .1)
         free)
 
-    pub marks-next : Marks (set ways (e .place) (joined was (wayOf (e .kind)))) (e ∷ before)
+    pub marks-next : Marks (waysAfter ways e) (e ∷ before)
     unfolding uses
     marks-next l h =
         let k : e .place < length ways = omega arith in
         cases (either (eqb (e .place) l))
         (λ i. let j : e .place ≡ l = eqb-true (e .place) l i in
-        let g : getD (set ways (e .place) (joined was (wayOf (e .kind)))) l 0 ≡ joined was (wayOf (e .kind)) =
-        rw (← j) (getD-set-same ways (e .place) (joined was (wayOf (e .kind))) 0 k) in
+        let g : getD (waysAfter ways e) l 0 ≡ way-now = rw (← j) (getD-set-same ways (e .place) way-now 0 k) in
         rw g (here l h j))
-        (λ i. let g : getD (set ways (e .place) (joined was (wayOf (e .kind)))) l 0 ≡ getD ways l 0 =
-        getD-set-other ways (e .place) l (joined was (wayOf (e .kind))) 0 (λ y. eqb-false (e .place) l i (sym y)) in
+        (λ i. let g : getD (waysAfter ways e) l 0 ≡ getD ways l 0 =
+        getD-set-other ways (e .place) l way-now 0 (λ y. eqb-false (e .place) l i (sym y)) in
         rw g (rw (i, and-false, and-false) (marks l h)))
-
--- what the calls of a turn tell: how the location i was used, and the way v of this event
-pub opposed-told : (l : List ℕ) {i j v w : ℕ} {r : Bool} → i ≡ j → v ≡ w → r ≡ opposed (getD l i 0) v → opposed (getD l j 0) w ≡ r
-opposed-told l p q h = rw (← p, ← q) (sym h)
-
-pub marks-told : (l : List ℕ) (es : List Event) {i j v w r : ℕ} → i ≡ j → v ≡ w → r ≡ joined (getD l i 0) v
-    → Marks (set l j (joined (getD l j 0) w)) es → Marks (set l i r) es
-marks-told l es p q h m = rw (h, p, q) m

@@ -1,73 +1,76 @@
--- Lines that are read without refusal are the prints of what they are read as. The starting values ascend and are not 0, so that the lines
--- written of the memory that they make are those very lines. Assumes nothing.
+-- What lines that are read without refusal are: within bounds, all of them, and the prints of what they are read as. The starting values ascend
+-- and are not 0, so that the lines written of the memory that they make are those very lines. Assumes nothing.
 use Prim.Native.Nat.{ℕ, zero, suc, _+_, _-_, _≤_, _<_}
 use mathlib.Core.Path.{_≡_, refl, sym, _∙_, ap}
-use mathlib.Core.Bool.{cond}
 use mathlib.Core.List.{List, [], _∷_, _++_, append-assoc, append-nil}
 use native.Mathlib.Omega.{arith}
 use lib.Dec.{leb, ltb}
-use lib.ListN.{length, set, replicate, length-append, length-replicate, replicate-append-replicate}
+use lib.ListN.{length, set, replicate, length-append, length-replicate, length-set, replicate-append-replicate}
 use lib.Seq.{append-snoc, set-at}
 use borrow.Author.Tests.{ne-eqb, leb-false, ltb-false}
 use Rattle.laws.proofs.Cases.{not-first}
 use Rattle.laws.proofs.Lists.{Each, each-append}
-use Rattle.event.specs.Answer.{answer, done}
-use Rattle.event.specs.declared.Answer.{Answer}
-use Rattle.text.specs.Cut.{isEmpty}
-use Rattle.text.specs.Line.{}
+use Rattle.event.specs.declared.Event.{Event}
+use Rattle.text.specs.Line.{saidIn}
 use Rattle.text.proofs.Walk.{Some}
+use Rattle.frame.specs.Reading.{linesFault}
+use Rattle.frame.proofs.Lines.{lines-pass}
 use Rattle.record.specs.Record.{recordOf}
-use Rattle.trace.specs.Reading.{onEventLine, linesFault, onInitLine, initsFault, eventsIn, startIn}
-use Rattle.trace.specs.Writing.{initLines}
 use Rattle.record.specs.declared.Record.{Record}
 use Rattle.record.specs.declared.Record.the-variants.{Init, Line, Refused}
-use Rattle.trace.proofs.Inits.{quiet}
 use Rattle.record.proofs.Layouts.{Fit, line-says, init-back}
-use Rattle.trace.proofs.Range.{Valued}
-use Rattle.trace.proofs.ReadBack.{tail, start-init}
 use Rattle.record.proofs.Records.{blank}
+use Rattle.trace.specs.Reading.{Passed, lineFault, afterLine, traceKind, eventsIn, startIn}
+use Rattle.trace.specs.Writing.{initLines}
+use Rattle.trace.proofs.Range.{Valued}
+use Rattle.trace.proofs.ReadBack.{tail, start-init, start-event}
 
--- after n events, lines that are the lines of their events, with nothing after the last LF
-pub record Printed (n : ℕ) (ls : List (List ℕ)) : Type 0 where
-  pub lines : ls ≡ tail (eventsIn ls)
+-- what is so of every text that is read: cells and events within bounds
+pub record Bounded (n : ℕ) (cells : List ℕ) (ls : List (List ℕ)) : Type 0 where
+  pub size : length (startIn cells ls) ≡ 256
+  pub values : Valued (startIn cells ls)
   pub events : Each Fit (eventsIn ls)
   pub few : n + length (eventsIn ls) ≤ 800
 
-last-back : (side k n : ℕ) (l : List ℕ) → n ≤ 800 → cond (isEmpty l) done (answer 2 side k) .number ≡ 0 → Printed n (l ∷ [])
-unfolding eventsIn
-last-back side k n [] b h = record { lines = rw blank; events = rw blank tt; few = rw blank (omega arith) }
-last-back side k n (c ∷ l) b h = absurd (omega arith)
+abbrev Bounds : Passed → List (List ℕ) → Type 0
+Bounds s ls = (cells : List ℕ) → length cells ≡ 256 → Valued cells → s .events ≤ 800 → Bounded (s .events) cells ls
 
-line-printed : (side k n : ℕ) (l : List ℕ) (ls : List (List ℕ)) (a : Answer) (r : Record) → recordOf l ≡ r
-    → (n < 800 → a .number ≡ 0 → Printed (n + 1) ls) → onEventLine side k n r a .number ≡ 0 → Printed n (l ∷ ls)
-unfolding eventsIn
-line-printed side k n l ls a Refused e g h = absurd (omega arith)
-line-printed side k n l ls a (Init p v) e g h = absurd (omega arith)
-line-printed side k n l ls a (Line v) e g h =
-    let c = not-first (λ (x : Answer). x .number) (leb 800 n) (answer 3 side k) a (λ z. omega arith) h in
-    let b = g (leb-false 800 n (c .0)) (c .1) in
-    let s = line-says l v e in
-    record { lines = rw (e, ← s .0, ← b .lines); events = rw e (s .1, b .events); few = rw e (omega (arith, b .few)) }
+bounds-end : (s : Passed) → Bounds s ([] ∷ [])
+unfolding saidIn startIn
+bounds-end s cells q h b = record { size = rw blank q; values = rw blank h; events = rw blank tt; few = rw blank (omega arith) }
 
-lines-back : (side k n : ℕ) (ls : List (List ℕ)) → Some ls → n ≤ 800 → linesFault side k n ls .number ≡ 0 → Printed n ls
-unfolding linesFault
-lines-back side k n [] s b h = absurd s
-lines-back side k n (l ∷ []) s b h = last-back side k n l b h
-lines-back side k n (l ∷ q ∷ ls) s b h =
-    line-printed side k n l (q ∷ ls) (linesFault side (k + 1) (n + 1) (q ∷ ls)) (recordOf l) refl
-    (λ f. lines-back side (k + 1) (n + 1) (q ∷ ls) tt (omega arith)) h
+set-valued : (cells : List ℕ) (p v : ℕ) → Valued cells → v ≤ 4294967295 → Valued (set cells p v)
+set-valued [] p v h k = tt
+set-valued (c ∷ cells) zero v h k = (k, h .1)
+set-valued (c ∷ cells) (suc p) v h k = (h .0, set-valued cells p v (h .1) k)
+
+bounds-line : (s : Passed) (l : List ℕ) (ls : List (List ℕ)) (r : Record) → recordOf l ≡ r → lineFault s r ≡ 0 → Bounds (afterLine s r) ls → Bounds s (l ∷ ls)
+unfolding saidIn
+bounds-line s l ls Refused e h g cells q v b = absurd (omega arith)
+bounds-line s l ls (Init p x) e h g cells q v b =
+    let i = init-back l p x e in
+    let d = g (set cells p x) (simp length-set q) (set-valued cells p x v (i .1 .1 .0)) b in
+    let w = start-init cells l ls p x e in
+    record { size = rw w (d .size); values = rw w (d .values); events = rw e (d .events); few = rw e (d .few) }
+bounds-line s l ls (Line x) e h g cells q v b =
+    let f = leb-false 800 (s .events) (not-first (λ (y : ℕ). y) (leb 800 (s .events)) 3 0 (λ z. omega arith) h .0) in
+    let d = g cells q v (omega (arith, f)) in
+    let w = start-event cells l ls x e in
+    record { size = rw w (d .size); values = rw w (d .values); events = rw e (line-says l x e .1, d .events); few = rw e (omega (arith, d .few)) }
+
+pub bounded : (side k : ℕ) (ls : List (List ℕ)) → Some ls → linesFault traceKind side k (traceKind .start) ls .number ≡ 0
+    → (cells : List ℕ) → length cells ≡ 256 → Valued cells → Bounded 0 cells ls
+bounded side k ls o h cells q v =
+    lines-pass traceKind side Bounds bounds-end (λ s l ls. bounds-line s l ls (recordOf l) refl) k (traceKind .start) ls o h cells q v (omega arith)
 
 -- after cells w that are settled, with n more that are 0 so far: lines that are those of the cells that they make, and of their events
 pub record Started (w : List ℕ) (n : ℕ) (ls : List (List ℕ)) : Type 0 where
   pub cells : List ℕ
   pub start : startIn (w ++ replicate n 0) ls ≡ w ++ cells
   pub size : length cells ≡ n
-  pub values : Valued cells
   pub lines : ls ≡ initLines (length w) cells ++ tail (eventsIn ls)
-  pub events : Each Fit (eventsIn ls)
-  pub few : length (eventsIn ls) ≤ 800
 
-zeros : (n : ℕ) → Valued (replicate n 0)
+pub zeros : (n : ℕ) → Valued (replicate n 0)
 zeros zero = tt
 zeros (suc n) = (omega arith, zeros n)
 
@@ -81,16 +84,24 @@ no-inits : (l n : ℕ) → initLines l (replicate n 0) ≡ []
 unfolding initLines
 no-inits l n = ap (initLines l) (sym (append-nil (replicate n 0))) ∙ pass l n []
 
-start-events : (w : List ℕ) (n : ℕ) (ls : List (List ℕ)) → startIn (w ++ replicate n 0) ls ≡ w ++ replicate n 0 → Printed 0 ls → Started w n ls
-start-events w n ls q b = record {
-  cells = replicate n 0;
-  start = q;
-  size = length-replicate n 0;
-  values = zeros n;
-  lines = rw (no-inits (length w) n) (b .lines);
-  events = b .events;
-  few = omega (arith, b .few);
-}
+-- no line is left, and a line that is an event, after which all cells are settled
+start-end : (w : List ℕ) (n : ℕ) → Started w n ([] ∷ [])
+unfolding saidIn startIn
+start-end w n = record { cells = replicate n 0; start = rw blank; size = length-replicate n 0; lines = rw (no-inits (length w) n, blank) }
+
+none-left : (l : List ℕ) → length l ≡ 0 → l ≡ []
+none-left [] h = refl
+none-left (x ∷ l) h = absurd (omega arith)
+
+start-first : (w : List ℕ) (n : ℕ) (l : List ℕ) (ls : List (List ℕ)) (e : Event) → recordOf l ≡ Line e → Started (w ++ replicate n 0) 0 ls → Started w n (l ∷ ls)
+unfolding saidIn initLines
+start-first w n l ls e q b =
+    let z = none-left (b .cells) (b .size) in record {
+      cells = replicate n 0;
+      start = start-event (w ++ replicate n 0) l ls e q ∙ (simp append-nil at (rw z at (b .start)));
+      size = length-replicate n 0;
+      lines = rw (no-inits (length w) n, q, ← line-says l e q .0) (ap (λ (ps : List (List ℕ)). l ∷ ps) (rw z at (b .lines)));
+    }
 
 -- one starting value, after j cells that are 0 and with m cells after it
 module _ (w : List ℕ) (j m v : ℕ) where
@@ -106,7 +117,7 @@ module _ (w : List ℕ) (j m v : ℕ) where
       rw (← replicate-append-replicate {A = ℕ} j (suc m) 0, ← append-assoc, set-at (w ++ replicate j 0) 0 (replicate m 0) v (length w + j) n, append-snoc)
 
   start-more : (l : List ℕ) (ls : List (List ℕ)) → recordOf l ≡ Init (length w + j) v → Started next m ls → Started w (j + suc m) (l ∷ ls)
-  unfolding eventsIn initLines
+  unfolding saidIn initLines
   start-more l ls e b =
       let i = init-back l (length w + j) v e in record {
         cells = replicate j 0 ++ v ∷ b .cells;
@@ -114,41 +125,30 @@ module _ (w : List ℕ) (j m v : ℕ) where
             start-init (w ++ replicate (j + suc m) 0) l ls (length w + j) v e
             ∙ rw next-cells (b .start ∙ simp append-assoc);
         size = length-append (replicate j 0) (v ∷ b .cells) ∙ simp (length-replicate, b .size);
-        values = each-append _ (replicate j 0) (v ∷ b .cells) (zeros j) (i .1 .1 .0, b .values);
         lines =
             rw (pass (length w) j (v ∷ b .cells), ne-eqb v 0 (i .1 .1 .1), e, ← i .0, ← next-length)
             (ap (λ (ps : List (List ℕ)). l ∷ ps) (b .lines));
-        events = rw e (b .events);
-        few = rw e (b .few);
       }
 
 -- where no line is refused
-init-printed : (side k : ℕ) (w : List ℕ) (n : ℕ) (l : List ℕ) (ls : List (List ℕ)) (events : Answer) (rest : ℕ → Answer) (r : Record) → recordOf l ≡ r
-    → length w + n ≡ 256 → (events .number ≡ 0 → Started w n (l ∷ ls))
-    → ((next : List ℕ) (m : ℕ) → length next + m ≡ 256 → rest (length next) .number ≡ 0 → Started next m ls)
-    → onInitLine side k (length w) r events rest .number ≡ 0 → Started w n (l ∷ ls)
-init-printed side k w n l ls events rest Refused e q f g h = f h
-init-printed side k w n l ls events rest (Line v) e q f g h = f h
-init-printed side k w n l ls events rest (Init p v) e q f g h =
-    let c = not-first (λ (x : Answer). x .number) (ltb p (length w)) (answer 4 side k) (rest (p + 1)) (λ z. omega arith) h in
-    let o : length w ≤ p = ltb-false p (length w) (c .0) in
+abbrev Prints : Passed → List (List ℕ) → Type 0
+Prints s ls = (w : List ℕ) (n : ℕ) → length w ≡ s .low → length w + n ≡ 256 → Started w n ls
+
+prints-line : (s : Passed) (l : List ℕ) (ls : List (List ℕ)) (r : Record) → recordOf l ≡ r → lineFault s r ≡ 0 → Prints (afterLine s r) ls → Prints s (l ∷ ls)
+prints-line s l ls Refused e h g w n q b = absurd (omega arith)
+prints-line s l ls (Line v) e h g w n q b =
+    let k : length (w ++ replicate n 0) ≡ 256 = simp (length-append, length-replicate) b in
+    start-first w n l ls v e (g (w ++ replicate n 0) 0 k (omega arith))
+prints-line s l ls (Init p v) e h g w n q b =
+    let o : s .low ≤ p = ltb-false p (s .low) (not-first (λ (y : ℕ). y) (ltb p (s .low)) 4 0 (λ z. omega arith) h .0) in
     let i = init-back l p v e in
     let j : ℕ = p - length w in
     let m : ℕ = 255 - p in
     let a : n ≡ j + suc m = omega (arith, i .1 .0) in
-    let b : p ≡ length w + j = omega arith in
-    let d : length (next w j m v) ≡ p + 1 = next-length w j m v ∙ rw (← b) in
-    rw a (start-more w j m v l ls (rw b at e) (g (next w j m v) m (omega (arith, d, i .1 .0)) (rw d (c .1))))
+    let c : p ≡ length w + j = omega arith in
+    let d : length (next w j m v) ≡ p + 1 = next-length w j m v ∙ rw (← c) in
+    rw a (start-more w j m v l ls (rw c at e) (g (next w j m v) m d (omega (arith, d, i .1 .0))))
 
-pub inits-back : (side k : ℕ) (w : List ℕ) (n : ℕ) (ls : List (List ℕ)) → Some ls → length w + n ≡ 256
-    → initsFault side k (length w) ls .number ≡ 0 → Started w n ls
-unfolding initsFault
-inits-back side k w n [] s q h = absurd s
-inits-back side k w n (l ∷ []) s q h =
-    start-events w n (l ∷ []) (quiet side k 0 (w ++ replicate n 0) (l ∷ []) h) (lines-back side k 0 (l ∷ []) tt (omega arith) h)
-inits-back side k w n (l ∷ p ∷ ls) s q h =
-    init-printed side k w n l (p ∷ ls) (linesFault side k 0 (l ∷ p ∷ ls)) (λ low. initsFault side (k + 1) low (p ∷ ls)) (recordOf l) refl q
-    (λ z.
-    start-events w n (l ∷ p ∷ ls) (quiet side k 0 (w ++ replicate n 0) (l ∷ p ∷ ls) z) (lines-back side k 0 (l ∷ p ∷ ls) tt (omega arith) z))
-    (λ next m. inits-back side (k + 1) next m (p ∷ ls) tt)
-    h
+pub printed : (side k : ℕ) (ls : List (List ℕ)) → Some ls → linesFault traceKind side k (traceKind .start) ls .number ≡ 0 → Started [] 256 ls
+printed side k ls o h =
+    lines-pass traceKind side Prints (λ s w n q b. start-end w n) (λ s l ls. prints-line s l ls (recordOf l) refl) k (traceKind .start) ls o h [] 256 refl refl

@@ -3,7 +3,7 @@ use Prim.Native.Nat.{ℕ, _+_}
 use mathlib.Core.Bool.{Bool, false, cond, _&&_, _||_}
 use mathlib.Core.List.{List, [], _∷_}
 use lib.Dec.{eqb}
-use Rattle.event.specs.Answer.{answer, done}
+use Rattle.event.specs.Answer.{answer, done, first}
 use Rattle.event.specs.Kind.{plain, atomic}
 use Rattle.event.specs.Memory.{stepped}
 use Rattle.event.specs.declared.Answer.{Answer}
@@ -19,11 +19,13 @@ uses class l (e ∷ es) = (class e && eqb (e .place) l) || uses class l es
 abbrev pub clashes : List Event → Event → Bool
 clashes before e = (plain e && uses atomic (e .place) before) || (atomic e && uses plain (e .place) before)
 
+-- 5 or 6 of the event of number k, by whether it clashes and whether its value is the latest.
+abbrev pub faultAt : ℕ → ℕ → Bool → Bool → Answer
+faultAt side k clash right = cond clash (answer 5 side k) (cond right done (answer 6 side k))
+
 -- The first fault 5 or 6 of the events es, the first of which has the number k: behind the events `before`, nearest first, with
 -- the memory as they left it.
 unfoldable pub eventFault : ℕ → ℕ → Memory → List Event → List Event → Answer
 eventFault side k m before [] = done
 eventFault side k m before (e ∷ es) =
-    cond (clashes before e) (answer 5 side k)
-    (cond (stepped m e .right) (eventFault side (k + 1) (stepped m e .memory) (e ∷ before) es)
-    (answer 6 side k))
+    first (faultAt side k (clashes before e) (stepped m e .right)) (eventFault side (k + 1) (stepped m e .memory) (e ∷ before) es)

@@ -1,8 +1,8 @@
--- What the contracts of this crate say, by page: how a location is used, answers 5 and 6, the reading of a whole
--- text and of its lines, bytes that are put, the writing of a whole text. Assumes nothing.
-pub mod Way
+-- What a reader has to believe, by page: answers 5 and 6, the reading of a whole text, the writing of a whole text.
 pub mod Fault
 pub mod Reading
+pub mod Writing
+-- Inner: how a location is used, as a number; the steps of a reading; bytes that are put. Assumes nothing.
+pub mod Way
 pub mod Survey
 pub mod Put
-pub mod Writing

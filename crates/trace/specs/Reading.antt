@@ -4,15 +4,14 @@ use mathlib.Core.Bool.{cond}
 use mathlib.Core.List.{List, [], _∷_, _++_}
 use lib.Dec.{eqb, leb, ltb}
 use lib.ListN.{length, drop, set}
-use Rattle.event.specs.Answer.{answer, done, first}
+use Rattle.event.specs.Answer.{done, first}
 use Rattle.event.specs.Memory.{empty}
 use Rattle.event.specs.Room.{flat}
 use Rattle.event.specs.declared.Answer.{Answer}
 use Rattle.event.specs.declared.Event.{Event}
 use Rattle.event.specs.declared.memory.Memory.{Memory}
-use Rattle.text.specs.Cut.{isEmpty}
-use Rattle.text.specs.Line.{split, textLimit}
-use Rattle.text.specs.Word.{same}
+use Rattle.text.specs.Line.{split, body, saidIn, textLimit}
+use Rattle.frame.specs.Reading.{Kind, textFault, settle, fitted}
 use Rattle.record.specs.Layout.{header}
 use Rattle.record.specs.Record.{recordOf}
 use Rattle.trace.specs.Fault.{eventFault}
@@ -24,40 +23,45 @@ use Rattle.trace.specs.declared.reading.TraceRead.{TraceRead}
 abbrev pub eventLimit : ℕ
 eventLimit = 800
 
--- The parts of a text, split at its LFs, are its lines and last what stands after the last LF, where nothing may stand.
+-- What is known of the lines so far: the lowest location that an `init` line may have, 256 (which none has) once an event has come; and the
+-- number of events.
+pub record Passed : Type 0 where
+  pub low : ℕ
+  pub events : ℕ
 
--- The first refusal among lines that are to be events, the first of which is line k, after n events: 2, 4 or 3.
-abbrev pub onEventLine : ℕ → ℕ → ℕ → Record → Answer → Answer
-onEventLine side k n Refused rest = answer 2 side k
-onEventLine side k n (Init p v) rest = answer 4 side k
-onEventLine side k n (Line e) rest = cond (leb eventLimit n) (answer 3 side k) rest
+-- The refusal of a line, 2, 4 or 3; 0 for none.
+abbrev pub lineFault : Passed → Record → ℕ
+lineFault s Refused = 2
+lineFault s (Init p v) = cond (ltb p (s .low)) 4 0
+lineFault s (Line e) = cond (leb eventLimit (s .events)) 3 0
 
-unfoldable pub linesFault : ℕ → ℕ → ℕ → List (List ℕ) → Answer
-linesFault side k n [] = done
-linesFault side k n (l ∷ []) = cond (isEmpty l) done (answer 2 side k)
-linesFault side k n (l ∷ m ∷ ls) = onEventLine side k n (recordOf l) (linesFault side (k + 1) (n + 1) (m ∷ ls))
+-- What is known after it.
+abbrev pub afterLine : Passed → Record → Passed
+afterLine s Refused = s
+afterLine s (Init p v) = record { low = p + 1; events = s .events }
+afterLine s (Line e) = record { low = 256; events = s .events + 1 }
 
--- The same from line k on, where `init` lines of location `low` and above may come first.
-abbrev pub onInitLine : ℕ → ℕ → ℕ → Record → Answer → (ℕ → Answer) → Answer
-onInitLine side k low Refused events rest = events
-onInitLine side k low (Init p v) events rest = cond (ltb p low) (answer 4 side k) (rest (p + 1))
-onInitLine side k low (Line e) events rest = events
+-- The kind of text.
+abbrev pub traceKind : Kind Passed
+traceKind = record {
+  limit = textLimit;
+  header = header;
+  start = record { low = 0; events = 0 };
+  fault = λ s l. lineFault s (recordOf l);
+  next = λ s l. afterLine s (recordOf l);
+}
 
-unfoldable pub initsFault : ℕ → ℕ → ℕ → List (List ℕ) → Answer
-initsFault side k low [] = done
-initsFault side k low (l ∷ []) = linesFault side k 0 (l ∷ [])
-initsFault side k low (l ∷ m ∷ ls) =
-    onInitLine side k low (recordOf l) (linesFault side k 0 (l ∷ m ∷ ls)) (λ next. initsFault side (k + 1) next (m ∷ ls))
+-- The events of a text: those of the lines after line 1.
+abbrev pub eventsOn : Record → List Event
+eventsOn Refused = []
+eventsOn (Init p v) = []
+eventsOn (Line e) = e ∷ []
 
--- The events of the lines.
-abbrev pub onEvent : Record → List Event → List Event
-onEvent Refused es = es
-onEvent (Init p v) es = es
-onEvent (Line e) es = e ∷ es
+abbrev pub eventsIn : List (List ℕ) → List Event
+eventsIn ls = saidIn (λ l. eventsOn (recordOf l)) ls
 
-unfoldable pub eventsIn : List (List ℕ) → List Event
-eventsIn [] = []
-eventsIn (l ∷ ls) = onEvent (recordOf l) (eventsIn ls)
+unfoldable pub eventsOf : List ℕ → List Event
+eventsOf t = eventsIn (body (split t))
 
 -- The memory after the lines' starting values.
 abbrev pub onInit : Record → List ℕ → List ℕ
@@ -72,46 +76,32 @@ startIn cells (l ∷ ls) = startIn (onInit (recordOf l) cells) ls
 abbrev pub startFrom : Memory → List (List ℕ) → Memory
 startFrom m ls = record { cells = startIn (m .cells) ls }
 
--- What a refusal hands back: no event and an empty memory.
+-- A text's starting memory.
+abbrev pub startOf : List ℕ → Memory
+startOf t = startFrom empty (body (split t))
+
+-- The first refusal of a text: 1, then line by line 2, 4, 3, then event by event 5, 6.
+unfoldable pub faultOf : ℕ → List ℕ → Answer
+faultOf side t = first (textFault traceKind side t) (eventFault side 1 (startOf t) [] (eventsOf t))
+
+-- What a refusal hands back, no event and an empty memory; and what a reading of n events does.
 abbrev pub refused : Answer → TraceRead
 refused a = record { answer = a; events = 0; memory = empty }
 
--- What a reading hands back, by its first refusal, its number of events and its starting memory.
-abbrev pub settle : Answer → ℕ → Memory → TraceRead
-settle a n m = cond (eqb (a .number) 0) (record { answer = done; events = n; memory = m }) (refused a)
-
--- Lines from line k on, before any event: line by line 2, 4, 3, then event by event 5, 6.
-unfoldable pub surveyInits : ℕ → ℕ → ℕ → Memory → List (List ℕ) → TraceRead
-surveyInits side k low m ls =
-    settle (first (initsFault side k low ls) (eventFault side 1 (startFrom m ls) [] (eventsIn ls)))
-    (length (eventsIn ls))
-    (startFrom m ls)
-
--- Line 1 is the header, and has a LF.
-unfoldable pub surveyParts : ℕ → List (List ℕ) → TraceRead
-surveyParts side [] = refused (answer 2 side 1)
-surveyParts side (l ∷ []) = refused (answer 2 side 1)
-surveyParts side (l ∷ m ∷ ls) = cond (same l header) (surveyInits side 2 0 empty (m ∷ ls)) (refused (answer 2 side 1))
+abbrev pub readAs : ℕ → Memory → TraceRead
+readAs n m = record { answer = done; events = n; memory = m }
 
 -- Answers 1 to 6 of a text, with its number of events and its starting memory.
 unfoldable pub surveyOf : ℕ → List ℕ → TraceRead
-surveyOf side t = cond (ltb textLimit (length t)) (refused (answer 1 side 0)) (surveyParts side (split t))
-
--- The events of a text: those of the lines after line 1.
-abbrev pub body : List (List ℕ) → List (List ℕ)
-body [] = []
-body (l ∷ ls) = ls
-
-unfoldable pub eventsOf : List ℕ → List Event
-eventsOf t = eventsIn (body (split t))
+surveyOf side t = settle refused (faultOf side t) (readAs (length (eventsOf t)) (startOf t))
 
 -- 17, after the others: a room of so many words does not hold the events.
-abbrev pub inRoom : ℕ → ℕ → TraceRead → TraceRead
-inRoom side words r = cond (leb (r .events) (words / 6)) r (refused (answer 17 side (r .events)))
+abbrev pub roomFor : ℕ → ℕ → TraceRead → TraceRead
+roomFor side words r = fitted refused side (r .events) (words / 6) r
 
 -- A reading, by its text and the room lent.
 unfoldable pub readOf : ℕ → List ℕ → List ℕ → TraceRead
-readOf side t room = inRoom side (length room) (surveyOf side t)
+readOf side t room = roomFor side (length room) (surveyOf side t)
 
 -- A room with events at its front.
 abbrev pub front : List Event → List ℕ → List ℕ

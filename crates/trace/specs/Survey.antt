@@ -1,28 +1,26 @@
--- The steps of a reading: lines that are to be events, and a line's event put in a room. Assumes nothing.
-use Prim.Native.Nat.{ℕ, _+_}
+-- The steps of a reading: the lines from some line on. Assumes nothing.
+use Prim.Native.Nat.{ℕ}
 use mathlib.Core.List.{List, []}
 use lib.ListN.{length}
 use Rattle.event.specs.Answer.{first}
-use Rattle.event.specs.Room.{putAt}
 use Rattle.event.specs.declared.memory.Memory.{Memory}
+use Rattle.frame.specs.Reading.{linesFault, settle}
 use Rattle.trace.specs.Fault.{eventFault}
-use Rattle.trace.specs.Reading.{linesFault, eventsIn, settle}
-use Rattle.record.specs.declared.Record.{Record}
-use Rattle.record.specs.declared.Record.the-variants.{Init, Line, Refused}
+use Rattle.trace.specs.Reading.{Passed, traceKind, eventsIn, startFrom, refused, readAs}
 use Rattle.trace.specs.declared.reading.TraceRead.{TraceRead}
 
--- Lines from line k on, all of which are to be events: line by line 2, 4, 3, then event by event 5, 6.
+-- Lines from line k on, before any event, where an `init` line may have the location `low` or above, and those before made the memory m.
+unfoldable pub surveyInits : ℕ → ℕ → ℕ → Memory → List (List ℕ) → TraceRead
+surveyInits side k low m ls =
+    settle refused
+    (first (linesFault traceKind side k (record { low = low; events = 0 }) ls) (eventFault side 1 (startFrom m ls) [] (eventsIn ls)))
+    (readAs (length (eventsIn ls)) (startFrom m ls))
+
+-- Where no `init` line may come after n events.
+abbrev pub closed : ℕ → Passed
+closed n = record { low = 256; events = n }
+
+-- Lines from line k on, all of which are to be events.
 unfoldable pub surveyEvents : ℕ → ℕ → Memory → List (List ℕ) → TraceRead
-surveyEvents side k m ls = settle (first (linesFault side k 0 ls) (eventFault side 1 m [] (eventsIn ls))) (length (eventsIn ls)) m
-
--- A room with a line's event at an index.
-abbrev pub placed : List ℕ → ℕ → Record → List ℕ
-placed room i (Line e) = putAt room i e
-placed room i (Init p v) = room
-placed room i Refused = room
-
--- The index after a line.
-abbrev pub nextIndex : ℕ → Record → ℕ
-nextIndex i (Line e) = i + 1
-nextIndex i (Init p v) = i
-nextIndex i Refused = i
+surveyEvents side k m ls =
+    settle refused (first (linesFault traceKind side k (closed 0) ls) (eventFault side 1 m [] (eventsIn ls))) (readAs (length (eventsIn ls)) m)

@@ -1,7 +1,10 @@
 -- Document 01, answer 5: how a location is used, as one number. Assumes nothing.
 use Prim.Native.Nat.{ℕ}
 use mathlib.Core.Bool.{Bool, cond, _&&_, _||_}
+use mathlib.Core.List.{List}
 use lib.Dec.{eqb}
+use lib.ListN.{getD, set}
+use Rattle.event.specs.declared.Event.{Event}
 use Rattle.event.specs.Kind.{row, isLocation}
 
 -- 0 not at all, 1 by a plain event, 2 by an atomic one.
@@ -15,3 +18,10 @@ opposed was way = (eqb was 1 && eqb way 2) || (eqb was 2 && eqb way 1)
 -- The way after one event more.
 unfoldable pub joined : ℕ → ℕ → ℕ
 joined was way = cond (eqb way 0) was way
+
+-- By the ways in which the locations were used: whether an event clashes, and the ways after it.
+abbrev pub clashing : List ℕ → Event → Bool
+clashing ways e = opposed (getD ways (e .place) 0) (wayOf (e .kind))
+
+abbrev pub waysAfter : List ℕ → Event → List ℕ
+waysAfter ways e = set ways (e .place) (joined (getD ways (e .place) 0) (wayOf (e .kind)))

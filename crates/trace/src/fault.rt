@@ -1,7 +1,14 @@
-// Answer 5: how a location is used, and what one event more brings.
+// Answers 5 and 6 of one event: how its location was used, and whether its value is the latest.
 ghost use mathlib.Core.Path.{_≡_};
-ghost use Rattle.trace.specs.Way.{wayOf, opposed, joined};
+ghost use Prim.Native.Nat.{_<_};
+ghost use Rattle.event.specs.Answer.{first};
+ghost use Rattle.trace.specs.Fault.{faultAt};
+ghost use Rattle.trace.specs.Way.{wayOf, opposed, joined, clashing, waysAfter};
+use event::Answer;
+use event::Event;
+use event::Number;
 use event::Word;
+use event::index_of;
 use event::kind::Place;
 use event::kind::row_of;
 
@@ -50,4 +57,32 @@ pub(crate) fn joined_way(was: Way, way: Way) -> Way
         return was;
     }
     way
+}
+
+// Whether an event clashes with an earlier one, by how its location was used so far; the ways are those after it.
+pub(crate) fn use_place(ways: &mut [Way; 256], e: Event) -> bool
+    requires { ⌜ e .place < 256 ⌝ }
+    ensures { λ r. ⌜ (r ≡ clashing (now (ways .entry)) e) × (now (ways .exit) ≡ waysAfter (now (ways .entry)) e) ⌝ }
+{
+    let place = index_of(e.place);
+    let way = way_of(e.kind);
+    let was = ways[place];
+    ways[place] = joined_way(was, way);
+    are_opposed(was, way)
+}
+
+// 5 or 6 of the event of a number, by whether it clashes and whether its value is the latest, unless something was found before.
+pub(crate) fn fault_at(found: Answer, clash: bool, right: bool, side: Number, k: usize) -> Answer
+    ensures { λ r. ⌜ r ≡ first found (faultAt side k clash right) ⌝ }
+{
+    if found.number != 0 {
+        return found;
+    }
+    if clash {
+        return Answer::new(5, side, k);
+    }
+    if right {
+        return Answer::new(0, 0, 0);
+    }
+    Answer::new(6, side, k)
 }

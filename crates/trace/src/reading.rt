@@ -1,16 +1,17 @@
 // The reading of a trace text: judged in one pass, stored in a second, so that a refusal stores nothing.
 ghost use mathlib.Core.Path.{_≡_};
-ghost use Prim.Native.Nat.{_*_, _≤_, _<_};
+ghost use Prim.Native.Nat.{_+_, _*_, _≤_, _<_};
 ghost use lib.ListN.{length};
-ghost use Rattle.event.specs.Answer.{answer, first};
 ghost use Rattle.event.specs.Memory.{empty as emptyMemory};
+ghost use Rattle.event.specs.Room.{putAt};
 ghost use Rattle.text.specs.Line.{splitFrom};
-ghost use Rattle.trace.specs.Reading.{linesFault, surveyInits, surveyOf, refused, inRoom, eventsOf, front};
-ghost use Rattle.trace.specs.Survey.{surveyEvents, placed, nextIndex};
+ghost use Rattle.frame.specs.Store.{placed};
+ghost use Rattle.trace.specs.Reading.{surveyOf, refused, roomFor, eventsOn, eventsOf, front};
+ghost use Rattle.trace.specs.Survey.{surveyInits, surveyEvents};
+use crate::fault::UNTOUCHED;
 use crate::fault::Way;
-use crate::fault::are_opposed;
-use crate::fault::joined_way;
-use crate::fault::way_of;
+use crate::fault::fault_at;
+use crate::fault::use_place;
 use event::Answer;
 use event::Number;
 use event::WORDS;
@@ -19,11 +20,14 @@ use event::index_of;
 use event::memory::Memory;
 use event::memory::Stepped;
 use event::room::put;
+use frame::head_fault;
 use record::Record;
 use record::record_of;
+use text::line::LineStep;
 use text::line::TEXT_LIMIT;
 use text::line::line_end;
-use text::word::same_bytes;
+use text::line::line_two;
+use text::line::next_line;
 
 // The most events.
 pub const EVENT_LIMIT: usize = 800;
@@ -46,42 +50,7 @@ fn refusal(answer: Answer) -> TraceRead
     }
 }
 
-// 2, 4 or 3 from line `line` on, `n` events having passed, or else the 5 or 6 that was found before that line.
-fn after_fault(text: &[u8], from: usize, line: usize, n: usize, found: Answer) -> Answer
-    requires { ⌜ from ≤ length (now text) ⌝ }
-    requires { ⌜ line ≤ from ⌝ }
-    requires { ⌜ n < from ⌝ }
-    ensures { λ r. ⌜ r ≡ first (linesFault (found .side) line n (splitFrom (now (text .entry)) from)) found ⌝ }
-{
-    let side = found.side;
-    let mut at = from;
-    let mut k = line;
-    let mut events = n;
-    while at < text.len() {
-        let end = line_end(text, at);
-        if text.len() <= end {
-            return Answer::new(2, side, k);
-        }
-        match record_of(&text[at..end]) {
-            Record::Refused => {
-                return Answer::new(2, side, k);
-            }
-            Record::Init { place: _, value: _ } => {
-                return Answer::new(4, side, k);
-            }
-            Record::Line(_) => {}
-        }
-        if EVENT_LIMIT <= events {
-            return Answer::new(3, side, k);
-        }
-        events += 1;
-        k += 1;
-        at = end + 1;
-    }
-    found
-}
-
-// The lines from line `line` on, which are to be events: each is tried for 2, 4, 3, and then its event for 5, 6.
+// The lines from line `line` on, which are to be events: each is tried for 2, 4, 3, and its event for 5, 6, which come after all lines.
 fn survey_events(text: &[u8], from: usize, line: usize, side: Number, start: Memory) -> TraceRead
     requires { ⌜ from ≤ length (now text) ⌝ }
     requires { ⌜ line ≤ from ⌝ }
@@ -92,16 +61,16 @@ fn survey_events(text: &[u8], from: usize, line: usize, side: Number, start: Mem
         memory: start,
         right: true,
     };
-    let mut ways: [Way; 256] = [0; 256];
+    let mut ways: [Way; 256] = [UNTOUCHED; 256];
+    let mut found = Answer::new(0, 0, 0);
     let mut at = from;
     let mut k = line;
     let mut n: usize = 0;
-    while at < text.len() {
-        let end = line_end(text, at);
-        if text.len() <= end {
-            return refusal(Answer::new(2, side, k));
-        }
-        let e = match record_of(&text[at..end]) {
+    loop {
+        let LineStep::Line { to } = next_line(text, at) else {
+            break;
+        };
+        let e = match record_of(&text[at..to]) {
             Record::Refused => {
                 return refusal(Answer::new(2, side, k));
             }
@@ -113,20 +82,18 @@ fn survey_events(text: &[u8], from: usize, line: usize, side: Number, start: Mem
         if EVENT_LIMIT <= n {
             return refusal(Answer::new(3, side, k));
         }
-        let place = index_of(e.place);
-        let way = way_of(e.kind);
-        let was = ways[place];
-        if are_opposed(was, way) {
-            return refusal(after_fault(text, end + 1, k + 1, n + 1, Answer::new(5, side, n + 1)));
-        }
-        ways[place] = joined_way(was, way);
-        last = last.memory.step(e);
-        if !last.right {
-            return refusal(after_fault(text, end + 1, k + 1, n + 1, Answer::new(6, side, n + 1)));
-        }
         n += 1;
+        let clash = use_place(&mut ways, e);
+        last = last.memory.step(e);
+        found = fault_at(found, clash, last.right, side, n);
         k += 1;
-        at = end + 1;
+        at = to + 1;
+    }
+    if at < text.len() {
+        return refusal(Answer::new(2, side, k));
+    }
+    if found.number != 0 {
+        return refusal(found);
     }
     TraceRead {
         answer: Answer::new(0, 0, 0),
@@ -145,12 +112,11 @@ fn survey_lines(text: &[u8], from: usize, side: Number) -> TraceRead
     let mut at = from;
     let mut k: usize = 2;
     let mut low: Word = 0;
-    while at < text.len() {
-        let end = line_end(text, at);
-        if text.len() <= end {
+    loop {
+        let LineStep::Line { to } = next_line(text, at) else {
             return survey_events(text, at, k, side, start);
-        }
-        match record_of(&text[at..end]) {
+        };
+        match record_of(&text[at..to]) {
             Record::Refused => {
                 return survey_events(text, at, k, side, start);
             }
@@ -167,31 +133,24 @@ fn survey_lines(text: &[u8], from: usize, side: Number) -> TraceRead
             }
         }
         k += 1;
-        at = end + 1;
+        at = to + 1;
     }
-    survey_events(text, at, k, side, start)
 }
 
 // Answers 1 to 6 of a text, with its number of events and its starting memory.
 fn survey(text: &[u8], side: Number) -> TraceRead
     ensures { λ r. ⌜ r ≡ surveyOf side (now (text .entry)) ⌝ }
 {
-    if TEXT_LIMIT < text.len() {
-        return refusal(Answer::new(1, side, 0));
+    let found = head_fault(text, side, TEXT_LIMIT, b"trace\t1");
+    if found.number != 0 {
+        return refusal(found);
     }
-    let end = line_end(text, 0);
-    if text.len() <= end {
-        return refusal(Answer::new(2, side, 1));
-    }
-    if !same_bytes(&text[0..end], b"trace\t1") {
-        return refusal(Answer::new(2, side, 1));
-    }
-    survey_lines(text, end + 1, side)
+    survey_lines(text, line_two(text), side)
 }
 
 // Answers 1 to 6 and 17, for a room of so many words.
 pub fn survey_in(text: &[u8], side: Number, words: usize) -> TraceRead
-    ensures { λ r. ⌜ r ≡ inRoom side words (surveyOf side (now (text .entry))) ⌝ }
+    ensures { λ r. ⌜ r ≡ roomFor side words (surveyOf side (now (text .entry))) ⌝ }
 {
     let surveyed = survey(text, side);
     let events = surveyed.events;
@@ -204,7 +163,7 @@ pub fn survey_in(text: &[u8], side: Number, words: usize) -> TraceRead
 // The room with a line's event at an index; what comes back is the next index.
 fn put_record(room: &mut [Word], i: usize, line: Record) -> usize
     requires { ⌜ i < 18446744073709551615 ⌝ }
-    ensures { λ r. ⌜ (r ≡ nextIndex i line) × (now (room .exit) ≡ placed (now (room .entry)) i line) ⌝ }
+    ensures { λ r. ⌜ (r ≡ i + length (eventsOn line)) × (now (room .exit) ≡ placed putAt (now (room .entry)) i (eventsOn line)) ⌝ }
 {
     match line {
         Record::Line(e) => {
@@ -221,7 +180,7 @@ pub fn store(text: &[u8], room: &mut [Word])
     requires { ⌜ length (eventsOf (now text)) * 6 ≤ length (now room) ⌝ }
     ensures { λ _. ⌜ now (room .exit) ≡ front (eventsOf (now (text .entry))) (now (room .entry)) ⌝ }
 {
-    let mut at = line_end(text, 0) + 1;
+    let mut at = line_two(text);
     let mut i: usize = 0;
     while at < text.len() {
         let end = line_end(text, at);

@@ -12,10 +12,10 @@ ghost use Rattle.record.specs.Table.{wordIn};
 ghost use Rattle.trace.specs.Fault.{eventFault};
 ghost use Rattle.trace.specs.Put.{Put, Small, tabIf, initPart};
 ghost use Rattle.trace.specs.Writing.{countOf, layoutFault, textOf, initLines, traceText, roomFault};
+use crate::fault::UNTOUCHED;
 use crate::fault::Way;
-use crate::fault::are_opposed;
-use crate::fault::joined_way;
-use crate::fault::way_of;
+use crate::fault::fault_at;
+use crate::fault::use_place;
 use crate::reading::EVENT_LIMIT;
 use event::Answer;
 use event::Event;
@@ -69,24 +69,20 @@ fn event_fault(start: Memory, room: &[Word], n: usize) -> Answer
         memory: start,
         right: true,
     };
-    let mut ways: [Way; 256] = [0; 256];
+    let mut ways: [Way; 256] = [UNTOUCHED; 256];
+    let none = Answer::new(0, 0, 0);
     let mut i: usize = 0;
     while i < n {
         let e = get(room, i);
-        let place = index_of(e.place);
-        let way = way_of(e.kind);
-        let was = ways[place];
-        if are_opposed(was, way) {
-            return Answer::new(5, 0, i + 1);
-        }
-        ways[place] = joined_way(was, way);
+        let clash = use_place(&mut ways, e);
         last = last.memory.step(e);
-        if !last.right {
-            return Answer::new(6, 0, i + 1);
+        let found = fault_at(none, clash, last.right, 0, i + 1);
+        if found.number != 0 {
+            return found;
         }
         i += 1;
     }
-    Answer::new(0, 0, 0)
+    none
 }
 
 // Answers 3, 18, 5 and 6, in this order.

@@ -1,79 +1,53 @@
--- The size, then line 1, then the lines after it. Assumes nothing.
-use mathlib.Core.Path.{sym, _∙_, ap}
+-- The size and line 1, then the lines after it. Assumes nothing.
+use Prim.Native.Nat.{ℕ}
+use mathlib.Core.Path.{_≡_, sym, _∙_}
+use mathlib.Core.List.{List}
 use native.Mathlib.Omega.{arith}
-use borrow.Author.Tests.{lt-ltb, le-ltb, not-true, not-false}
-use Prim.Native.Nat.{_≤_}
-use lib.ListN.{length}
-use lib.Seq.{length-take-le}
-use Rattle.text.proofs.Words.{same-eq}
-use Rattle.trace.specs.Reading.{refused, surveyOf}
-use Rattle.trace.proofs.Heads.{head-open, head-other, head-right}
 use borrow.Author.Needs.{needs}
+use borrow.Author.Tests.{ne-eqb}
+use Rattle.text.proofs.Walk.{body-from}
+use Rattle.frame.specs.Reading.{headFault}
+use Rattle.frame.proofs.Heads.{head-refuses, head-passes, head-length, line-two-in}
+use Rattle.trace.specs.Reading.{traceKind, faultOf, surveyOf, eventsOf}
+use Rattle.trace.specs.Survey.{surveyInits}
 use Rattle.trace.proofs.reading.survey.Statement.{statement}
 use Rattle.trace.proofs.reading.survey.Tie as tie
 
 returns : tie.Need-returns
-unfolding surveyOf
-returns c = rw (lt-ltb _ _ (c .before .before .if1 .taken)) (c .refusal .ensures ∙ ap refused (c .before .new .ensures))
-
-returns-2 : tie.Need-returns-2
-unfolding surveyOf
-returns-2 c =
-    let l = c .before .before .before in
-    rw (le-ltb _ _ (l .before .if1 .left), head-open _ _ (l .line-end .result) (l .line-end .ensures) (c .before .before .if2 .taken))
-    (c .refusal2 .ensures ∙ ap refused (c .before .new2 .ensures))
-
-returns-3 : tie.Need-returns-3
-unfolding surveyOf
-returns-3 c =
+unfolding surveyOf faultOf
+returns c =
     let h = c .before .before .before in
-    let l = h .before .before .before .before in
-    rw (
-      le-ltb _ _ (l .before .if1 .left),
-      head-other _ _ (l .line-end .result) (l .line-end .ensures) (sym (h .same-bytes .ensures)
-          ∙ not-true _ (c .before .before .if3 .taken)),
-    )
-    (c .refusal3 .ensures ∙ ap refused (c .before .new3 .ensures))
+    let a = h .before .before .before .args in
+    let f = h .head-fault .ensures in
+    let z = ne-eqb _ _ (c .before .if1 .taken) in
+    rw (head-refuses traceKind (a .side) (a .text .now) (rw (← f) z), ← f, z, z) (c .refusal .ensures)
+
+-- line 1 is right
+module _ (c : tie.After-line-two) where
+  abbrev h : tie.After-head-fault
+  h = c .before .before .before
+
+  abbrev side : ℕ
+  side = h .before .before .before .args .side
+
+  abbrev t : List ℕ
+  t = h .before .before .before .args .text .now
+
+  right : headFault side (traceKind .limit) (traceKind .header) t .number ≡ 0
+  right = rw (h .head-fault .ensures) at (c .before .if1 .left)
 
 survey-lines-requires : tie.Need-survey-lines-requires
 survey-lines-requires c κs =
-    let h = c .before in
-    let l = h .before .before .before .before in
-    let q = ap length (same-eq _ _ (sym (h .same-bytes .ensures) ∙ not-false _ (c .if3 .left))) in
-    let e : l .line-end .result ≤ length (l .before .before .before .args .text .now) = omega (arith, h .before .before .before .if2 .left) in
-    (omega (arith, h .before .before .before .if2 .left), omega (arith, q, length-take-le (l .line-end .result) (l .before .before .before .args .text .now) e))
-
-returns-4 : tie.Need-returns-4
-unfolding surveyOf
-returns-4 c =
-    let h = c .before .before in
-    let l = h .before .before .before .before in
-    rw (
-      le-ltb _ _ (l .before .if1 .left),
-      head-right _ _ (l .line-end .result) (l .line-end .ensures) (h .before .before .before .if2 .left) (sym
-          (h .same-bytes .ensures) ∙ not-false _ (c .before .if3 .left)),
+    let r = right c in (
+      omega (arith, line-two-in traceKind (side c) (t c) r, c .line-two .ensures),
+      omega (arith, head-length traceKind (side c) (t c) r, c .line-two .ensures),
     )
-    (c .survey-lines .ensures)
+
+returns-2 : tie.Need-returns-2
+unfolding surveyOf faultOf surveyInits eventsOf
+returns-2 c =
+    let p = c .before in
+    rw (head-passes traceKind (side p) (t p) (right p), body-from (t p)) (rw (p .line-two .ensures) at (c .survey-lines .ensures))
 
 pub survey-spec : {M : Type 1} → statement M
-survey-spec =
-    tie.close
-    (tie.spec
-    (search needs)
-    (search needs)
-    returns
-    (search needs)
-    (search needs)
-    (search needs)
-    returns-2
-    (search needs)
-    (search needs)
-    (search needs)
-    (search needs)
-    (search needs)
-    (search needs)
-    (search needs)
-    returns-3
-    (search needs)
-    survey-lines-requires
-    returns-4)
+survey-spec = tie.close (tie.spec (search needs) (search needs) (search needs) returns (search needs) survey-lines-requires returns-2)

@@ -1,239 +1,175 @@
 -- The reading from each starting value on is that from the next line on, with the value in its cell; at the first line that is none it is
 -- the reading of events. Assumes nothing.
 use Prim.Native.Nat.{ℕ, _+_, _-_, _≤_, _<_}
-use mathlib.Core.List.{List, _∷_}
+use mathlib.Core.List.{List, [], _∷_}
 use mathlib.Core.Path.{_≡_, sym, _∙_, ap}
 use native.Mathlib.Omega.{arith}
 use borrow.Author.Needs.{needs}
-use lib.ListN.{length, set, length-set}
+use lib.ListN.{length, take, drop, set, length-set}
 use Rattle.event.specs.Memory.{empty}
+use Rattle.event.specs.declared.memory.Memory.{Memory}
 use Rattle.text.specs.Line.{splitFrom}
+use Rattle.text.proofs.Walk.{Next, next, last}
 use Rattle.record.specs.Record.{recordOf}
-use Rattle.trace.specs.Reading.{refused, surveyInits, initsFault, linesFault}
-use Rattle.trace.specs.Survey.{surveyEvents}
 use Rattle.record.specs.declared.Record.{Record}
 use Rattle.record.specs.declared.Record.the-variants.{Init}
-use Rattle.trace.specs.declared.reading.TraceRead.{TraceRead}
-use Rattle.text.proofs.Walk.{Some, line, parts-line, parts-open, parts-end, parts-some, line-in}
 use Rattle.record.proofs.Records.{init-place}
-use Rattle.trace.proofs.Inits.{inits-rest, inits-last, inits-refused, inits-event, inits-low, inits-go}
+use Rattle.trace.specs.Reading.{refused}
+use Rattle.trace.specs.Survey.{surveyInits, surveyEvents}
+use Rattle.trace.specs.declared.reading.TraceRead.{TraceRead}
+use Rattle.trace.proofs.Inits.{inits-last, inits-refused, inits-event, inits-low, inits-go}
 use Rattle.trace.proofs.reading.survey_lines.Statement.{statement}
 use Rattle.trace.proofs.reading.survey_lines.Tie as tie
 
+record Inv (text : List ℕ) (from side : ℕ) (start : Memory) (at k low : ℕ) : Type 0 where
+  within : at ≤ length text
+  second : 2 ≤ k
+  lined : k ≤ at
+  lowest : low ≤ 256
+  size : length (start .cells) ≡ 256
+  same : surveyInits side 2 0 empty (splitFrom text from) ≡ surveyInits side k low start (splitFrom text at)
+
 abbrev Inv-loop : tie.InvT-loop
-Inv-loop text from side start₀ at₀ k₀ low₀ start at k low =
-    (at ≤ length text) × ((2 ≤ k) × ((k ≤ at) × ((low ≤ 256) × ((length (start .cells) ≡ 256)
-    × (surveyInits side 2 0 empty (splitFrom text from) ≡ surveyInits side k low start (splitFrom text at))))))
+Inv-loop text from side start₀ at₀ k₀ low₀ start at k low = Inv text from side start at k low
 
 abbrev μ-loop : tie.MeasureT-loop
 μ-loop text from side start₀ at₀ k₀ low₀ start at k low = length text - at
 
--- the text and the loop's place in it
-abbrev begin : tie.After-line-end Inv-loop μ-loop → tie.Start Inv-loop μ-loop
-begin c = c .before .before .before .before .before
+-- a turn's place
+module _ (c : tie.After-next-line Inv-loop μ-loop) where
+  abbrev begin : tie.Start Inv-loop μ-loop
+  begin = c .before .before .before .before
 
-abbrev text : tie.After-line-end Inv-loop μ-loop → List ℕ
-text c = begin c .args .text .now
+  abbrev text : List ℕ
+  text = begin .args .text .now
 
-abbrev at : tie.After-line-end Inv-loop μ-loop → ℕ
-at c = c .before .before .loop .at
+  abbrev at : ℕ
+  at = c .before .loop .at
 
-ends : (c : tie.After-line-end Inv-loop μ-loop) → (at c ≤ c .line-end .result) × (c .line-end .result ≤ length (text c))
-ends c = line-in (text c) (at c) (c .line-end .result) (c .line-end .ensures) (omega arith)
+  abbrev k : ℕ
+  k = c .before .loop .k
 
--- the reading from the loop's place on, and so the whole
-abbrev on : tie.After-line-end Inv-loop μ-loop → List (List ℕ) → TraceRead
-on c ls = surveyInits (begin c .args .side) (c .before .before .loop .k) (c .before .before .loop .low) (c .before .before .loop .start) ls
+  abbrev start : Memory
+  start = c .before .loop .start
 
-abbrev whole : tie.After-line-end Inv-loop μ-loop → TraceRead
-whole c = surveyInits (begin c .args .side) 2 0 empty (splitFrom (text c) (begin c .args .from))
+  abbrev whole : TraceRead
+  whole = surveyInits (begin .args .side) 2 0 empty (splitFrom text (begin .args .from))
 
-from-here : (c : tie.After-line-end Inv-loop μ-loop) (r : TraceRead) → on c (splitFrom (text c) (at c)) ≡ r → whole c ≡ r
-from-here c r e = c .before .before .loop .inv .1 .1 .1 .1 .1 ∙ e
+  inv : Inv text (begin .args .from) (begin .args .side) start at k (c .before .loop .low)
+  inv = c .before .loop .inv
 
--- no starting value stands here: the reading of events
-rest : (c : tie.After-line-end Inv-loop μ-loop) (r : TraceRead)
-    → initsFault (begin c .args .side) (c .before .before .loop .k) (c .before .before .loop .low) (splitFrom (text c) (at c))
-    ≡ linesFault (begin c .args .side) (c .before .before .loop .k) 0 (splitFrom (text c) (at c))
-    → r ≡ surveyEvents (begin c .args .side) (c .before .before .loop .k) (c .before .before .loop .start) (splitFrom (text c) (at c))
-    → r ≡ whole c
-rest c r e q = q ∙ sym (from-here c _ (inits-rest _ _ _ _ _ e))
+  -- no starting value stands there: the reading of events
+  rest : {r : TraceRead} {ls : List (List ℕ)} → splitFrom text at ≡ ls
+      → surveyInits (begin .args .side) k (c .before .loop .low) start ls ≡ surveyEvents (begin .args .side) k start ls
+      → r ≡ surveyEvents (begin .args .side) k start (splitFrom text at) → r ≡ whole
+  rest p e q = (rw p at q) ∙ sym ((rw p at (inv .same)) ∙ e)
 
--- the line has a LF, and lines follow it
-abbrev end : tie.After-record-of Inv-loop μ-loop → tie.After-line-end Inv-loop μ-loop
-end c = c .before .before .before
+-- its line has a LF
+module _ (c : tie.After-to Inv-loop μ-loop) where
+  abbrev l : tie.After-next-line Inv-loop μ-loop
+  l = c .before .before
 
-abbrev this : tie.After-record-of Inv-loop μ-loop → List ℕ
-this c = line (text (end c)) (at (end c)) (end c .line-end .result) (end c .line-end .ensures)
+  abbrev to : ℕ
+  to = c .to .given .0 .0
 
-abbrev others : tie.After-record-of Inv-loop μ-loop → List (List ℕ)
-others c = splitFrom (text (end c)) (end c .line-end .result + 1)
+  line : Next (text l) (at l) to
+  line = next _ _ _ (sym (l .next-line .ensures) ∙ c .to .given .1)
 
-parts : (c : tie.After-record-of Inv-loop μ-loop) → splitFrom (text (end c)) (at (end c)) ≡ this c ∷ others c
-parts c = parts-line (text (end c)) (at (end c)) (end c .line-end .result) (end c .line-end .ensures) (omega arith)
+-- and is read
+module _ (c : tie.After-record-of Inv-loop μ-loop) where
+  abbrev t : tie.After-to Inv-loop μ-loop
+  t = c .before .before .before
 
-some : (c : tie.After-record-of Inv-loop μ-loop) → Some (others c)
-some c = parts-some (text (end c)) (end c .line-end .result + 1) (omega arith)
+  abbrev this : List ℕ
+  this = take (to t - at (l t)) (drop (at (l t)) (text (l t)))
 
-is : (c : tie.After-record-of Inv-loop μ-loop) {r : Record} → c .record-of .result ≡ r → recordOf (this c) ≡ r
-is c e = sym (c .record-of .ensures) ∙ e
+  is : {r : Record} → c .record-of .result ≡ r → recordOf this ≡ r
+  is e = sym (c .record-of .ensures) ∙ e
 
-by-line : (c : tie.After-record-of Inv-loop μ-loop) (r : TraceRead) → on (end c) (this c ∷ others c) ≡ r → whole (end c) ≡ r
-by-line c r e = from-here (end c) r (rw (parts c) e)
+-- it is a starting value
+module _ (c : tie.After-place Inv-loop μ-loop) where
+  abbrev r : tie.After-record-of Inv-loop μ-loop
+  r = c .before .before
 
--- a starting value
-abbrev rec : tie.After-place Inv-loop μ-loop → tie.After-record-of Inv-loop μ-loop
-rec c = c .before .before
+  abbrev cell : ℕ
+  cell = c .place .given .0 .0
 
-abbrev cell : tie.After-place Inv-loop μ-loop → ℕ
-cell c = c .place .given .0 .0
+  abbrev value : ℕ
+  value = c .place .given .0 .1 .0
 
-abbrev put : tie.After-place Inv-loop μ-loop → ℕ
-put c = c .place .given .0 .1 .0
+  its : recordOf (this r) ≡ Init cell value
+  its = is r (c .place .given .1)
 
-its : (c : tie.After-place Inv-loop μ-loop) → recordOf (this (rec c)) ≡ Init (cell c) (put c)
-its c = is (rec c) (c .place .given .1)
+  inside : cell ≤ 255
+  inside = init-place _ _ _ its
 
-inside : (c : tie.After-place Inv-loop μ-loop) → cell c ≤ 255
-inside c = init-place _ _ _ (its c)
+  by-line : {w : TraceRead}
+      → surveyInits (begin (l (t r)) .args .side) (k (l (t r))) (l (t r) .before .loop .low) (start (l (t r))) (this r ∷ splitFrom (text (l (t r))) (to (t r) + 1)) ≡ w
+      → whole (l (t r)) ≡ w
+  by-line e = inv (l (t r)) .same ∙ rw (line (t r) .parts) e
 
-goes-on : (c : tie.After-place Inv-loop μ-loop) (i : ℕ) → i ≡ cell c → end (rec c) .before .before .loop .low ≤ cell c
-    → whole (end (rec c)) ≡ surveyInits (begin (end (rec c)) .args .side) (end (rec c) .before .before .loop .k + 1) (cell c + 1)
-    (record { cells = set (end (rec c) .before .before .loop .start .cells) i (put c) }) (others (rec c))
-goes-on c i e o =
-    rw e
-    (by-line (rec c) _
-    (inits-go (begin (end (rec c)) .args .side) (end (rec c) .before .before .loop .k) (end (rec c) .before .before .loop .low)
-    (end (rec c) .before .before .loop .start) (this (rec c)) (others (rec c)) (cell c) (put c) (some (rec c)) (its c) o))
-
--- where the numbers of this turn lie
-bounds : (c : tie.After-record-of Inv-loop μ-loop) → ((2 ≤ end c .before .before .loop .k) × (end c .before .before .loop .k ≤ at (end c)))
-    × ((at (end c) ≤ end c .line-end .result) × (end c .line-end .result < length (text (end c))))
-bounds c = ((omega arith, omega arith), (omega (arith, ends (end c)), c .before .before .if1 .left))
-
-empty-requires : tie.Need-empty-requires Inv-loop μ-loop
-empty-requires c κs = tt
+  goes-on : (i : ℕ) → i ≡ cell → l (t r) .before .loop .low ≤ cell
+      → whole (l (t r)) ≡ surveyInits (begin (l (t r)) .args .side) (k (l (t r)) + 1) (cell + 1) (record { cells = set (start (l (t r)) .cells) i value })
+      (splitFrom (text (l (t r))) (to (t r) + 1))
+  goes-on i e o = rw e (by-line (inits-go _ _ _ _ _ _ (line (t r) .some) cell value its o))
 
 loop-holds : tie.Need-loop-holds Inv-loop μ-loop
-loop-holds c = (omega arith, (omega arith, (omega arith, (omega arith, (rw (c .empty .ensures), rw (c .empty .ensures))))))
+loop-holds c = record {
+  within = omega arith;
+  second = omega arith;
+  lined = omega arith;
+  lowest = omega arith;
+  size = rw (c .empty .ensures);
+  same = rw (c .empty .ensures);
+}
 
-line-end-requires : tie.Need-line-end-requires Inv-loop μ-loop
-line-end-requires c κs = tt
-
-survey-events-requires : tie.Need-survey-events-requires Inv-loop μ-loop
-survey-events-requires c κs = (omega arith, (omega arith, omega arith))
+-- the places that the reading of events is handed
+handed : (c : tie.After-next-line Inv-loop μ-loop) → (at c ≤ length (text c)) × ((k c ≤ at c) × (0 < at c))
+handed c = (inv c .within, (inv c .lined, omega (arith, inv c)))
 
 returns : tie.Need-returns Inv-loop μ-loop
 returns c =
-    let e : tie.After-line-end Inv-loop μ-loop = c .before .before in
-    let o = parts-open (text e) (at e) (e .line-end .result) (e .line-end .ensures) (omega arith) (omega arith) in
-    rest e _ (rw (o .0) (inits-last _ _ _ _)) (c .survey-events .ensures)
-
-sub-record-of : tie.Need-sub-record-of Inv-loop μ-loop
-sub-record-of c = omega (arith, ends (c .before))
-
-part-record-of-start : tie.Need-part-record-of-start Inv-loop μ-loop
-part-record-of-start c = omega (arith, ends (c .before))
-
-part-record-of-end : tie.Need-part-record-of-end Inv-loop μ-loop
-part-record-of-end c = omega (arith, ends (c .before))
-
-record-of-requires : tie.Need-record-of-requires Inv-loop μ-loop
-record-of-requires c κs = tt
-
-survey-events-requires-2 : tie.Need-survey-events-requires-2 Inv-loop μ-loop
-survey-events-requires-2 c κs = let e = end (c .before .before) in (
-  omega (arith, e .before .before .loop .inv),
-  (
-    omega
-        (arith, e .before .before .loop .inv),
-    omega (arith, e .before .before .loop .inv),
-  ),
-)
+    let o = c .before .before .before in
+    rest o (last (text o) (at o) (inv o .within) (sym (o .next-line .ensures) ∙ c .before .enum-told .given .1)) (inits-last _ _ _ _ _) (c .survey-events .ensures)
 
 returns-2 : tie.Need-returns-2 Inv-loop μ-loop
 returns-2 c =
-    let p : tie.After-record-of Inv-loop μ-loop = c .before .before .before in
-    rest (end p) _ (rw (parts p) (inits-refused _ _ _ (end p .before .before .loop .start) _ _ (some p) (is p (c .before .enum-told .given .1))))
-    (c .survey-events2 .ensures)
-
-survey-events-requires-3 : tie.Need-survey-events-requires-3 Inv-loop μ-loop
-survey-events-requires-3 c κs = let e = end (c .before .before) in (
-  omega (arith, e .before .before .loop .inv),
-  (
-    omega
-        (arith, e .before .before .loop .inv),
-    omega (arith, e .before .before .loop .inv),
-  ),
-)
+    let q = c .before .before .before in
+    rest (l (t q)) (line (t q) .parts) (inits-refused _ _ _ _ _ _ (line (t q) .some) (is q (c .before .enum-told2 .given .1))) (c .survey-events2 .ensures)
 
 returns-3 : tie.Need-returns-3 Inv-loop μ-loop
 returns-3 c =
-    let p : tie.After-record-of Inv-loop μ-loop = c .before .before .before in
-    rest (end p) _ (rw (parts p) (inits-event _ _ _ (end p .before .before .loop .start) _ _ _ (some p) (is p (c .before .enum-told2 .given .1))))
-    (c .survey-events3 .ensures)
-
-new-requires : tie.Need-new-requires Inv-loop μ-loop
-new-requires c κs = tt
-
-refusal-requires : tie.Need-refusal-requires Inv-loop μ-loop
-refusal-requires c κs = tt
+    let q = c .before .before .before in
+    rest (l (t q)) (line (t q) .parts) (inits-event _ _ _ _ _ _ (line (t q) .some) _ (is q (c .before .enum-told3 .given .1))) (c .survey-events3 .ensures)
 
 returns-4 : tie.Need-returns-4 Inv-loop μ-loop
 returns-4 c =
-    let q : tie.After-place Inv-loop μ-loop = c .before .before .before .before in
-    c .refusal .ensures ∙ (ap refused (c .before .new .ensures)
-    ∙ sym (by-line (rec q) _ (inits-low _ _ _ _ _ _ _ _ (some (rec q)) (its q) (c .before .before .if2 .taken))))
+    let q = c .before .before .before .before in
+    c .refusal .ensures
+    ∙ (ap refused (c .before .new .ensures) ∙ sym (by-line q (inits-low _ _ _ _ _ _ (line (t (r q)) .some) _ _ (its q) (c .before .before .if1 .taken))))
 
-index-of-requires : tie.Need-index-of-requires Inv-loop μ-loop
-index-of-requires c κs = tt
+-- what is known of a turn's numbers
+module _ (c : tie.After-index-of Inv-loop μ-loop) where
+  abbrev q : tie.After-place Inv-loop μ-loop
+  q = c .before .before .before
 
-mul-start : tie.Need-mul-start Inv-loop μ-loop
-mul-start c = omega (arith, inside (c .before .before .before), c .index-of .ensures)
+  abbrev o : tie.After-next-line Inv-loop μ-loop
+  o = l (t (r q))
 
-element-write-start : tie.Need-element-write-start Inv-loop μ-loop
-element-write-start c = omega (arith, inside (c .before .before .before), c .index-of .ensures)
-
-add-low : tie.Need-add-low Inv-loop μ-loop
-add-low c = omega (arith, inside (c .before .before .before))
-
-add-k : tie.Need-add-k Inv-loop μ-loop
-add-k c = omega (arith, bounds (rec (c .before .before .before)), begin (end (rec (c .before .before .before))) .good)
-
-add-at : tie.Need-add-at Inv-loop μ-loop
-add-at c = omega (arith, bounds (rec (c .before .before .before)), begin (end (rec (c .before .before .before))) .good)
-
-loop-less : tie.Need-loop-less Inv-loop μ-loop
-loop-less c = omega (arith, bounds (rec (c .before .before .before)), begin (end (rec (c .before .before .before))) .good)
+  index : c .index-of .result < 256
+  index = omega (arith, inside q, c .index-of .ensures)
 
 loop-again : tie.Need-loop-again Inv-loop μ-loop
 loop-again c =
-    let q : tie.After-place Inv-loop μ-loop = c .before .before .before in
-    let b = bounds (rec q) in (
-      omega (arith, b),
-      (
-        omega (arith, b),
-        (
-          omega (arith, b),
-          (
-            omega (arith, inside q),
-            (
-              simp length-set (end (rec q) .before .before .loop .inv .1 .1 .1 .1 .0),
-              goes-on q _ (c .index-of .ensures) (c .before .if2 .left),
-            ),
-          ),
-        ),
-      ),
-    )
-
-survey-events-requires-4 : tie.Need-survey-events-requires-4 Inv-loop μ-loop
-survey-events-requires-4 c κs = (omega arith, (omega arith, omega arith))
-
-returns-5 : tie.Need-returns-5 Inv-loop μ-loop
-returns-5 c =
-    let e : c .before .before .loop .at ≡ length (c .before .before .before .before .before .args .text .now) = omega arith in
-    c .survey-events4 .ensures
-    ∙ sym (c .before .before .loop .inv .1 .1 .1 .1 .1 ∙ inits-rest _ _ _ _ _ (rw (parts-end _ _ e) (inits-last _ _ _ _)))
+    let n = line (t (r (q c))) in
+    record {
+      within = omega (arith, n);
+      second = omega (arith, inv (o c));
+      lined = omega (arith, n, inv (o c));
+      lowest = omega (arith, inside (q c));
+      size = simp length-set (inv (o c) .size);
+      same = goes-on (q c) _ (c .index-of .ensures) (c .before .if1 .left);
+    }
 
 pub survey-lines-spec : {M : Type 1} → statement M
 survey-lines-spec =
@@ -241,32 +177,32 @@ survey-lines-spec =
     (tie.spec
     Inv-loop
     μ-loop
-    empty-requires
-    loop-holds
-    line-end-requires
-    survey-events-requires
-    returns
-    sub-record-of
-    part-record-of-start
-    part-record-of-end
-    record-of-requires
     (search needs)
-    survey-events-requires-2
+    loop-holds
+    (search needs)
+    (search needs)
+    (search needs)
+    (λ c κs. handed (c .before .before))
+    returns
+    (λ c. omega (arith, line (c .before)))
+    (λ c. omega (arith, line (c .before)))
+    (λ c. omega (arith, line (c .before)))
+    (search needs)
+    (search needs)
+    (λ c κs. handed (l (t (c .before .before))))
     returns-2
     (search needs)
-    survey-events-requires-3
+    (λ c κs. handed (l (t (c .before .before))))
     returns-3
     (search needs)
-    new-requires
-    refusal-requires
+    (search needs)
+    (search needs)
     returns-4
-    index-of-requires
-    mul-start
-    element-write-start
-    add-low
-    add-k
-    add-at
-    loop-less
-    loop-again
-    survey-events-requires-4
-    returns-5)
+    (search needs)
+    (λ c. omega (arith, index c))
+    (λ c. omega (arith, index c))
+    (λ c. omega (arith, inside (q c)))
+    (λ c. omega (arith, line (t (r (q c))), inv (o c), begin (o c) .good))
+    (λ c. omega (arith, line (t (r (q c))), begin (o c) .good))
+    (λ c. omega (arith, line (t (r (q c))), begin (o c) .good))
+    loop-again)
