@@ -1,8 +1,8 @@
--- The fixed order of the removals: the last gone item that may be removed, as long as there is one. To remove the last makes no fault, and where
--- nothing may be removed and no location's word shows a fault 11, 13 or 14, nothing is gone. Assumes nothing.
-use mathlib.Core.Path.{_≡_, refl, sym, _∙_, ap, subst}
+-- The fixed order of the removals: the last gone item that may be removed, as long as there is one. Each location's word says that to remove the
+-- last makes no fault, and that where nothing may be removed nothing is gone; so it goes on until nothing is. Assumes nothing.
+use mathlib.Core.Path.{_≡_, refl, ap, subst}
 use mathlib.Core.Logic.{_⊎_, inl, inr}
-use mathlib.Core.Bool.{Bool, true, false, cond}
+use mathlib.Core.Bool.{Bool, true, false}
 use mathlib.Core.Option.{Option, none, some}
 use mathlib.Core.List.{List, [], _∷_}
 use Prim.Native.Nat.{ℕ, zero, suc}
@@ -12,12 +12,10 @@ use borrow.Author.Tests.{eqb-true}
 use Rattle.rules.proofs.Item.{View, wall, load, store, gone, stays, Item, item, valueOf, near, Holds, Stores, Removable, one, Move, remove, keep}
 use Rattle.rules.proofs.Item.{Sound, Gone, may}
 use Rattle.rules.proofs.Fixed.{Still as StillOf, Last as LastOf, Lasts as LastsOf, out, under, end, more}
-use Rattle.rules.proofs.Word.{Letter, far, keptLoad, keptStore, goneLoad, goneStore, nearLetter}
-use Rattle.rules.proofs.Word.{storesWord, witnessLetter, fits, Agree, first-unused, Ok}
-use Rattle.rules.proofs.Word.{ok-of-fine, some≢none}
-use Rattle.rules.proofs.WordMoves.{ok-unload, ok-stores, ok-stay, agree-step, fresh, Stays, AllStay}
-use Rattle.rules.proofs.Place.{letter, word, nearAt, witnessAt, by-place, at-own, word-holds}
-use Rattle.rules.proofs.Place.{holds-of-word, stores-of-word, word-stores, step-of, fine-of-sound, Agrees}
+use Rattle.rules.proofs.Word.{Letter, keptLoad, keptStore, goneLoad, goneStore, Agree, Ok, ok-of-fine}
+use Rattle.rules.proofs.WordMoves.{AllStay, Cut, Stays, Stuck, Stuck₁, agree-step, all-stay, ok-last-cut}
+use Rattle.rules.proofs.Place.{letter, word, nearAt, witnessAt, by-place, at-own, cut-of, holds-of-word, stores-of-word, step-of, fine-of-sound}
+use Rattle.rules.proofs.Place.{Agrees}
 
 abbrev Still : List Item → List Item → Type 0
 Still b s = StillOf may Gone b s
@@ -28,110 +26,39 @@ Last b s t = LastOf may Gone b s t
 abbrev Lasts : List Item → List Item → Type 0
 Lasts s t = LastsOf may Gone s t
 
--- ---- where nothing may be removed, nothing is gone
+-- ---- as a place sees it
 
-load-out : (b : List Item) (q v : ℕ) (u : Bool) (a : List Item) (n : Option ℕ) → nearAt q b ≡ n → fits n v → first-unused n u
-    → Removable b (item (load q v u) gone) a
-load-out b q v false a n e f g = tt
-load-out b q v true a none e f g = absurd g
-load-out b q v true a (some m) e f g = holds-of-word q b v (e ∙ ap some f)
+-- a letter that may be removed is an item that may
+uncut-load : (q : ℕ) (b : List Item) (v : ℕ) (u : Bool) (a : List Item) → Cut (word q b) (goneLoad v u) (word q a) → Removable b (item (load q v u) gone) a
+uncut-load q b v true a c = holds-of-word q b v c
+uncut-load q b v false a c = tt
 
--- a load of another place does not matter, and one of this place could be removed
-still-load : (p : ℕ) (b a : List Item) (q v : ℕ) (u : Bool) → p ≡ q → (Gone (item (load q v u) gone) → Removable b (item (load q v u) gone) a → ⊥)
-    → fits (nearAt p b) v → first-unused (nearAt p b) u → ⊥
-still-load p b a q v u i r f g = r tt (load-out b q v u a (nearAt p b) (rw i) f g)
+uncut-store : (q : ℕ) (b : List Item) (v : ℕ) (a : List Item) → Cut (word q b) (goneStore v) (word q a) → Removable b (item (store q v) gone) a
+uncut-store q b v a (inl e) = inl (holds-of-word q b v e)
+uncut-store q b v a (inr o) = inr (stores-of-word q a o)
 
--- what the walk over the items after a gone store shows, if the next letter is y
-abbrev Settled : ℕ → Option ℕ → Option ℕ → List Letter → Letter → Type 0
-Settled v n k w y = Agree n (y ∷ w) → Ok n k (y ∷ w)
-    → (nearLetter y n ≡ some v → Agree (nearLetter y n) w → Ok (nearLetter y n) k w → (k ≡ some v) ⊎ T (storesWord w))
-    → (k ≡ some v) ⊎ T (storesWord (y ∷ w))
+stuck₁ : (l : ℕ) (b : List Item) (e : Item) (a : List Item) → (Gone e → Removable b e a → ⊥) → Stuck₁ (word l b) (letter l e) (word l a)
+stuck₁ l b (item wall gone) a h = tt
+stuck₁ l b (item wall (stays w n)) a h = tt
+stuck₁ l b (item (load q v u) gone) a h =
+    by-place (λ x. Stuck₁ (word l b) x (word l a)) l q (goneLoad v u) tt (λ i c. h tt (uncut-load q b v u a (rw i at c)))
+stuck₁ l b (item (load q v u) (stays w n)) a h = by-place (λ x. Stuck₁ (word l b) x (word l a)) l q (keptLoad v) tt (λ i. tt)
+stuck₁ l b (item (store q v) gone) a h =
+    by-place (λ x. Stuck₁ (word l b) x (word l a)) l q (goneStore v) tt (λ i c. h tt (uncut-store q b v a (rw i at c)))
+stuck₁ l b (item (store q v) (stays w n)) a h = by-place (λ x. Stuck₁ (word l b) x (word l a)) l q (keptStore v) tt (λ i. tt)
 
-still-store : (p v : ℕ) (k : Option ℕ) (b a : List Item) → nearAt p b ≡ some v → Still b a → Agree (nearAt p b) (word p a) → Ok (nearAt p b) k (word p a)
-    → (k ≡ some v) ⊎ T (storesWord (word p a))
-still-store p v k b [] e r g h = inl (h ∙ e)
-still-store p v k b (item wall gone ∷ a) e r g h = inl (h .0 .1 ∙ e)
-still-store p v k b (item wall (stays w n) ∷ a) e r g h = inl (h .0 .1 ∙ e)
-still-store p v k b (item (load q x u) gone ∷ a) e r g h =
-    by-place (Settled v (nearAt p b) k (word p a)) p q (goneLoad x u) (λ g h ih. ih e (g .1) (h .1))
-    (λ i g h ih. absurd (still-load p b a q x u i (r .0) (g .0) (h .0)))
-    g h (λ e. still-store p v k (item (load q x u) gone ∷ b) a e (r .1))
-still-store p v k b (item (load q x u) (stays w n) ∷ a) e r g h =
-    by-place (Settled v (nearAt p b) k (word p a)) p q (keptLoad x) (λ g h ih. ih e (g .1) (h .1)) (λ i g h ih. inl (h .0 ∙ e))
-    g h (λ e. still-store p v k (item (load q x u) (stays w n) ∷ b) a e (r .1))
-still-store p v k b (item (store q x) gone ∷ a) e r g h =
-    by-place (Settled v (nearAt p b) k (word p a)) p q (goneStore x) (λ g h ih. ih e (g .1) (h .1)) (λ i g h ih. inr tt)
-    g h (λ e. still-store p v k (item (store q x) gone ∷ b) a e (r .1))
-still-store p v k b (item (store q x) (stays w n) ∷ a) e r g h =
-    by-place (Settled v (nearAt p b) k (word p a)) p q (keptStore x) (λ g h ih. ih e (g .1) (h .1)) (λ i g h ih. inr tt)
-    g h (λ e. still-store p v k (item (store q x) (stays w n) ∷ b) a e (r .1))
-
-store-out : (p : ℕ) (b a : List Item) (q v : ℕ) → p ≡ q → witnessAt p b ≡ nearAt p b → (witnessAt p b ≡ some v) ⊎ T (storesWord (word p a))
-    → Removable b (item (store q v) gone) a
-store-out p b a q v i c (inl e) = inl (holds-of-word q b v (rw (← i) (sym c ∙ e)))
-store-out p b a q v i c (inr o) = inr (stores-of-word q a (rw (← i) o))
-
-own-letter : (p q : ℕ) (x : Letter) → p ≡ q → cond (eqb p q) x far ≡ x
-own-letter p q x i = rw i (at-own (λ y. cond (eqb q q) x far ≡ y) q refl)
-
-abbrev Cleared : Option ℕ → Option ℕ → List Letter → Letter → Type 0
-Cleared n k w y = Agree n (y ∷ w) → Ok n k (y ∷ w)
-    → (witnessLetter y n k ≡ nearLetter y n → Agree (nearLetter y n) w → Ok (nearLetter y n) (witnessLetter y n k) w → AllStay w)
-    → AllStay (y ∷ w)
-
-still : (p : ℕ) (b a : List Item) → witnessAt p b ≡ nearAt p b → Still b a → Agree (nearAt p b) (word p a)
-    → Ok (nearAt p b) (witnessAt p b) (word p a) → AllStay (word p a)
-still p b [] c r g h = tt
-still p b (item wall gone ∷ a) c r g h = absurd (h .0 .0)
-still p b (item wall (stays w n) ∷ a) c r g h = (tt, still p (item wall (stays w n) ∷ b) a refl (r .1) (g .1) (h .1))
-still p b (item (load q v u) gone ∷ a) c r g h =
-    by-place (Cleared (nearAt p b) (witnessAt p b) (word p a)) p q (goneLoad v u) (λ g h ih. (tt, ih c (g .1) (h .1)))
-    (λ i g h ih. absurd (still-load p b a q v u i (r .0) (g .0) (h .0)))
-    g h (λ c. still p (item (load q v u) gone ∷ b) a c (r .1))
-still p b (item (load q v u) (stays w n) ∷ a) c r g h =
-    by-place (Cleared (nearAt p b) (witnessAt p b) (word p a)) p q (keptLoad v) (λ g h ih. (tt, ih c (g .1) (h .1))) (λ i g h ih. (tt, ih refl (g .1) (h .1)))
-    g h (λ c. still p (item (load q v u) (stays w n) ∷ b) a c (r .1))
-still p b (item (store q v) gone ∷ a) c r g h =
-    by-place (Cleared (nearAt p b) (witnessAt p b) (word p a)) p q (goneStore v) (λ g h ih. (tt, ih c (g .1) (h .1)))
-    (λ i g h ih. absurd (r .0 tt (store-out p b a q v i c
-    (let e : nearAt p (item (store q v) gone ∷ b) ≡ some v = ap (λ y. nearLetter y (nearAt p b)) (own-letter p q (goneStore v) i) in
-    still-store p v (witnessAt p b) (item (store q v) gone ∷ b) a e (r .1) (rw e (g .1)) (rw e (h .1))))))
-    g h (λ c. still p (item (store q v) gone ∷ b) a c (r .1))
-still p b (item (store q v) (stays w n) ∷ a) c r g h =
-    by-place (Cleared (nearAt p b) (witnessAt p b) (word p a)) p q (keptStore v) (λ g h ih. (tt, ih c (g .1) (h .1))) (λ i g h ih. (tt, ih refl (g .1) (h .1)))
-    g h (λ c. still p (item (store q v) (stays w n) ∷ b) a c (r .1))
-
--- ---- to remove the last makes no fault
+stuck : (l : ℕ) (b s : List Item) → Still b s → Stuck (word l b) (word l s)
+stuck l b [] r = tt
+stuck l b (e ∷ s) r = (stuck₁ l b e s (r .0), stuck l (e ∷ b) s (r .1))
 
 agree-last : (l : ℕ) {b s t : List Item} → Last b s t → Agree (nearAt l b) (word l s) → Agree (nearAt l b) (word l t)
 agree-last l (out {b = b} {a = a} {e = e} r g m) c = let k : Move one b (e ∷ a) a = remove m in agree-step (step-of l k g) c
 agree-last l (under q) c = (c .0, agree-last l q (c .1))
 
--- the first of a group is left when nothing else of it is gone
-first-out : (n k : Option ℕ) (v : ℕ) (u : Bool) (w : List Letter) → (n ≡ none → k ≡ none) → (n ≡ none → AllStay w) → Agree n (goneLoad v u ∷ w)
-    → Ok n k (goneLoad v u ∷ w) → Ok n k w
-first-out none k v u w f c g h = rw (f refl) (ok-stay none w (c refl))
-first-out (some m) k v u w f c g h = ok-unload (some m) k v u w (λ e. some≢none e) (g .0) h
-
-abbrev Spared : Option ℕ → Option ℕ → List Letter → Letter → Type 0
-Spared n k w y = Agree n (y ∷ w) → Ok n k (y ∷ w) → Ok n k w
-
-ok-out : (l : ℕ) (b : List Item) (e : Item) (a : List Item) → Still (e ∷ b) a → Gone e → Removable b e a
-    → Spared (nearAt l b) (witnessAt l b) (word l a) (letter l e)
-ok-out l b (item v (stays w n)) a r g m = absurd g
-ok-out l b (item wall gone) a r g m = absurd m
-ok-out l b (item (load q v u) gone) a r g m = by-place (Spared (nearAt l b) (witnessAt l b) (word l a)) l q (goneLoad v u) (λ g h. h .1)
-    (λ i g h. first-out (nearAt l b) (witnessAt l b) v u (word l a) (fresh (word l b))
-    (λ e. let o : letter l (item (load q v u) gone) ≡ goneLoad v u = own-letter l q (goneLoad v u) i in
-    still l (item (load q v u) gone ∷ b) a (rw o (rw e)) r (rw o (g .1)) (rw o (h .1))) g h)
-ok-out l b (item (store q v) gone) a r g (inl m) = by-place (Spared (nearAt l b) (witnessAt l b) (word l a)) l q (goneStore v) (λ g h. h .1)
-    (λ i g h. let e : nearAt l b ≡ some v = rw i (word-holds q b v m) in rw e (h .1))
-ok-out l b (item (store q v) gone) a r g (inr m) = by-place (Spared (nearAt l b) (witnessAt l b) (word l a)) l q (goneStore v) (λ g h. h .1)
-    (λ i g h. ok-stores (some v) (nearAt l b) (witnessAt l b) (word l a) (rw i (word-stores q a m)) (h .1))
-
 ok-last : (l : ℕ) {b s t : List Item} → Last b s t → Agree (nearAt l b) (word l s) → Ok (nearAt l b) (witnessAt l b) (word l s)
     → Ok (nearAt l b) (witnessAt l b) (word l t)
-ok-last l (out {b = b} {a = a} {e = e} r g m) c h = ok-out l b e a r g m c h
+ok-last l (out {b = b} {a = a} {e = e} r g m) c h =
+    ok-last-cut (word l b) (letter l e) (word l a) (cut-of l b e a g m) (stuck l (e ∷ b) a r) c h
 ok-last l (under q) c h = (h .0, ok-last l q (c .1) (h .1))
 
 -- ---- so it goes on until nothing is gone
@@ -212,7 +139,7 @@ lasts-go : (s : List Item) → ((l : ℕ) → Agree none (word l s)) → ((l : �
     → ((t : List Item) → Last [] s t → Lasts t (keep t)) → Lasts s (keep s)
 unfolding Found
 lasts-go s g h (inl q) ih = rw (keep-last (q .1)) (more (q .1) (ih (q .0) (q .1)))
-lasts-go s g h (inr r) ih = rw (keep-all s (λ l. still l [] s refl r (g l) (h l))) (end r)
+lasts-go s g h (inr r) ih = rw (keep-all s (λ l. all-stay [] (word l s) refl (stuck l [] s r) (g l) (h l))) (end r)
 
 lasts : (n : ℕ) (s : List Item) → count s ≡ n → ((l : ℕ) → Agree none (word l s)) → ((l : ℕ) → Ok none none (word l s)) → Lasts s (keep s)
 lasts zero s c g h = lasts-go s g h (find [] s) (λ t q. let k = count-last q in absurd (omega arith))

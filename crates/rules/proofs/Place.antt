@@ -215,7 +215,7 @@ sound-of-fine b (e ∷ s) h = (sound₁ b e s (λ l. h l .0), sound-of-fine (e �
 
 -- ---- a move, as a place sees it
 
-cut-of : (l : ℕ) (b : List Item) (e : Item) (a : List Item) → Gone e → Removable b e a → Cut (word l b) (letter l e) (word l a)
+pub cut-of : (l : ℕ) (b : List Item) (e : Item) (a : List Item) → Gone e → Removable b e a → Cut (word l b) (letter l e) (word l a)
 cut-of l b (item v (stays w n)) a g r = absurd g
 cut-of l b (item wall gone) a g r = absurd r
 cut-of l b (item (load p v true) gone) a g r =

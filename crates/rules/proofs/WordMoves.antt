@@ -1,6 +1,6 @@
 -- What moves do to a word: they keep its loads in agreement, a word is accepted if what a move makes of it is, and a word with nothing gone
--- is accepted. Assumes nothing.
-use mathlib.Core.Path.{_≡_, refl, sym, _∙_}
+-- is accepted. Where nothing may be removed from an accepted word nothing is gone, and to remove the last makes no fault. Assumes nothing.
+use mathlib.Core.Path.{_≡_, refl, sym, _∙_, ap}
 use mathlib.Core.Logic.{_⊎_, inl, inr, _≢_}
 use mathlib.Core.Bool.{Bool, true, false, not}
 use mathlib.Core.Option.{Option, none, some}
@@ -8,7 +8,7 @@ use mathlib.Core.List.{List, [], _∷_}
 use Prim.Native.Nat.{ℕ}
 use lib.Dec.{T}
 use Rattle.rules.proofs.Word.{Letter, far, aWall, keptLoad, keptStore, goneLoad, goneStore, nearWord}
-use Rattle.rules.proofs.Word.{storesWord, witnessWord, fits, Agree, Ok, some≢none}
+use Rattle.rules.proofs.Word.{storesWord, witnessWord, fits, Agree, Ok, first-unused, some≢none}
 use Rattle.rules.proofs.Word.{none≢some}
 
 -- ---- moves of words
@@ -54,7 +54,7 @@ agree-stores n m (goneLoad v u ∷ s) o g = absurd o
 agree-stores n m (goneStore v ∷ s) o g = g
 
 -- a load with a value before it says nothing new
-pub agree-load : (n : Option ℕ) (v : ℕ) (s : List Letter) → fits n v → Agree (some v) s → Agree n s
+agree-load : (n : Option ℕ) (v : ℕ) (s : List Letter) → fits n v → Agree (some v) s → Agree n s
 agree-load none v s f g = agree-none v s g
 agree-load (some m) v s f g = rw f g
 
@@ -94,7 +94,7 @@ ok-first v (keptStore u ∷ s) g h = h
 ok-first v (goneLoad u d ∷ s) g h = (tt, rw (g .0) (h .1))
 ok-first v (goneStore u ∷ s) g h = (tt, ok-more u (some v) s (h .1))
 
-pub ok-stores : (n m k : Option ℕ) (s : List Letter) → T (storesWord s) → Ok n k s → Ok m k s
+ok-stores : (n m k : Option ℕ) (s : List Letter) → T (storesWord s) → Ok n k s → Ok m k s
 ok-stores n m k [] o h = absurd o
 ok-stores n m k (far ∷ s) o h = (tt, ok-stores n m k s o (h .1))
 ok-stores n m k (aWall d ∷ s) o h = absurd o
@@ -103,7 +103,7 @@ ok-stores n m k (keptStore v ∷ s) o h = h
 ok-stores n m k (goneLoad v u ∷ s) o h = absurd o
 ok-stores n m k (goneStore v ∷ s) o h = h
 
-pub fresh : (b : List Letter) → nearWord b ≡ none → witnessWord b ≡ none
+fresh : (b : List Letter) → nearWord b ≡ none → witnessWord b ≡ none
 fresh [] e = refl
 fresh (far ∷ b) e = fresh b e
 fresh (aWall d ∷ b) e = refl
@@ -117,11 +117,6 @@ ok-load : (n k : Option ℕ) (v : ℕ) (u : Bool) (a : List Letter) → (n ≡ n
 ok-load none k v true a e c f g h = absurd (c tt refl)
 ok-load none k v false a e c f g h = (tt, ok-first v a g (rw (e refl) at h))
 ok-load (some m) k v u a e c f g h = (tt, rw f at h)
-
--- and back: a gone load that is not the first says nothing
-pub ok-unload : (n k : Option ℕ) (v : ℕ) (u : Bool) (s : List Letter) → n ≢ none → fits n v → Ok n k (goneLoad v u ∷ s) → Ok n k s
-ok-unload none k v u s ne f h = absurd (ne refl)
-ok-unload (some m) k v u s ne f h = rw f (h .1)
 
 ok-cut : (b : List Letter) (x : Letter) (a : List Letter) → Cut b x a → Agree (nearWord b) (x ∷ a) → Ok (nearWord b) (witnessWord b) a
     → Ok (nearWord b) (witnessWord b) (x ∷ a)
@@ -161,3 +156,67 @@ ok-stay n (keptLoad v ∷ s) h = (refl, ok-stay (some v) s (h .1))
 ok-stay n (keptStore v ∷ s) h = (tt, ok-stay (some v) s (h .1))
 ok-stay n (goneLoad v u ∷ s) h = absurd (h .0)
 ok-stay n (goneStore v ∷ s) h = absurd (h .0)
+
+-- ---- where no gone letter may be removed, none is gone
+
+abbrev pub Stuck₁ : List Letter → Letter → List Letter → Type 0
+Stuck₁ b far a = Unit {0}
+Stuck₁ b (aWall d) a = Unit {0}
+Stuck₁ b (keptLoad v) a = Unit {0}
+Stuck₁ b (keptStore v) a = Unit {0}
+Stuck₁ b (goneLoad v u) a = Cut b (goneLoad v u) a → ⊥
+Stuck₁ b (goneStore v) a = Cut b (goneStore v) a → ⊥
+
+abbrev pub Stuck : List Letter → List Letter → Type 0
+Stuck b [] = Unit {0}
+Stuck b (x ∷ a) = Stuck₁ b x a × Stuck (x ∷ b) a
+
+load-cut : (b : List Letter) (v : ℕ) (u : Bool) (a : List Letter) → fits (nearWord b) v → first-unused (nearWord b) u → Cut b (goneLoad v u) a
+load-cut b v false a f g = tt
+load-cut b v true a f g = go (nearWord b) f g
+  where
+    go : (n : Option ℕ) → fits n v → first-unused n true → n ≡ some v
+    go none f g = absurd g
+    go (some m) f g = ap some f
+
+-- after a store of v either the witness has its value or the next access is a store
+settled : (v : ℕ) (k : Option ℕ) (b a : List Letter) → nearWord b ≡ some v → Stuck b a → Agree (nearWord b) a → Ok (nearWord b) k a
+    → (k ≡ some v) ⊎ T (storesWord a)
+settled v k b [] e r g h = inl (h ∙ e)
+settled v k b (far ∷ a) e r g h = settled v k (far ∷ b) a e (r .1) (g .1) (h .1)
+settled v k b (aWall d ∷ a) e r g h = inl (h .0 .1 ∙ e)
+settled v k b (keptLoad x ∷ a) e r g h = inl (h .0 ∙ e)
+settled v k b (keptStore x ∷ a) e r g h = inr tt
+settled v k b (goneLoad x u ∷ a) e r g h = absurd (r .0 (load-cut b x u a (g .0) (h .0)))
+settled v k b (goneStore x ∷ a) e r g h = inr tt
+
+pub all-stay : (b a : List Letter) → witnessWord b ≡ nearWord b → Stuck b a → Agree (nearWord b) a → Ok (nearWord b) (witnessWord b) a → AllStay a
+all-stay b [] c r g h = tt
+all-stay b (far ∷ a) c r g h = (tt, all-stay (far ∷ b) a c (r .1) (g .1) (h .1))
+all-stay b (aWall d ∷ a) c r g h = (h .0 .0, all-stay (aWall d ∷ b) a refl (r .1) (g .1) (h .1))
+all-stay b (keptLoad v ∷ a) c r g h = (tt, all-stay (keptLoad v ∷ b) a refl (r .1) (g .1) (h .1))
+all-stay b (keptStore v ∷ a) c r g h = (tt, all-stay (keptStore v ∷ b) a refl (r .1) (g .1) (h .1))
+all-stay b (goneLoad v u ∷ a) c r g h = absurd (r .0 (load-cut b v u a (g .0) (h .0)))
+all-stay b (goneStore v ∷ a) c r g h = absurd (r .0 (go (settled v (witnessWord b) (goneStore v ∷ b) a refl (r .1) (g .1) (h .1))))
+  where
+    go : (witnessWord b ≡ some v) ⊎ T (storesWord a) → (nearWord b ≡ some v) ⊎ T (storesWord a)
+    go (inl e) = inl (sym c ∙ e)
+    go (inr o) = inr o
+
+-- the first of a group is left when nothing else of it is gone
+first-out : (n k : Option ℕ) (v : ℕ) (u : Bool) (a : List Letter) → (n ≡ none → k ≡ none) → (n ≡ none → AllStay a) → Agree n (goneLoad v u ∷ a)
+    → Ok n k (goneLoad v u ∷ a) → Ok n k a
+first-out none k v u a f c g h = rw (f refl) (ok-stay none a (c refl))
+first-out (some m) k v u a f c g h = rw (g .0) (h .1)
+
+-- to remove the last makes no fault
+pub ok-last-cut : (b : List Letter) (x : Letter) (a : List Letter) → Cut b x a → Stuck (x ∷ b) a → Agree (nearWord b) (x ∷ a)
+    → Ok (nearWord b) (witnessWord b) (x ∷ a) → Ok (nearWord b) (witnessWord b) a
+ok-last-cut b far a c r g h = h .1
+ok-last-cut b (aWall d) a c r g h = absurd c
+ok-last-cut b (keptLoad v) a c r g h = absurd c
+ok-last-cut b (keptStore v) a c r g h = absurd c
+ok-last-cut b (goneLoad v u) a c r g h =
+    first-out (nearWord b) (witnessWord b) v u a (fresh b) (λ e. all-stay (goneLoad v u ∷ b) a (rw e) r (g .1) (h .1)) g h
+ok-last-cut b (goneStore v) a (inl e) r g h = rw e (h .1)
+ok-last-cut b (goneStore v) a (inr o) r g h = ok-stores (some v) (nearWord b) (witnessWord b) a o (h .1)
