@@ -4,12 +4,12 @@ use Prim.Native.Nat.{ℕ, _≤_}
 use mathlib.Core.Bool.{Bool, true, false, not, cond, _&&_, false≢true}
 use mathlib.Core.List.{List, [], _∷_}
 use mathlib.Core.Logic.{_⊎_, inl, inr}
-use mathlib.Core.Path.{_≡_, refl}
+use mathlib.Core.Path.{_≡_, refl, sym, _∙_}
 use lib.Dec.{eqb}
 use lib.ListN.{getD}
 use borrow.Author.Tests.{eqb-false, le-leb, not-true}
 use Rattle.laws.proofs.Bools.{and-left, and-right}
-use Rattle.laws.proofs.Cases.{cases, either}
+use Rattle.laws.proofs.Cases.{by-cond, cases, either}
 use Rattle.laws.proofs.Lists.{every}
 use Rattle.event.specs.Kind.{has}
 use Rattle.event.proofs.Has.{has-every}
@@ -40,8 +40,7 @@ pub data Given (ns : List ℕ) (side : ℕ) : Answer → Type 0 where
 module _ (ns : List ℕ) (side : ℕ) where
   -- one of two
   pub given-cond : (c : Bool) {a b : Answer} → Given ns side a → Given ns side b → Given ns side (cond c a b)
-  given-cond true h k = h
-  given-cond false h k = k
+  given-cond c h k = by-cond (Given ns side) c h k
 
   pub given-first : {a b : Answer} → Given ns side a → Given ns side b → Given ns side (first a b)
   given-first {a} {b} h k = given-cond (eqb (a .number) 0) k h
@@ -51,11 +50,6 @@ module _ (ns : List ℕ) (side : ℕ) where
   given-fault n p {a} z h k =
       cases (either (eqb n 0)) (λ e. rw e k)
       (λ e. cases z (λ (i : n ≡ 0). absurd (eqb-false n 0 e i)) (λ (i : has n ns ≡ true). rw e (one i h)))
-
-  -- its number is none of some others, if none of these is
-  pub given-not : (os : List ℕ) {a : Answer} → has 0 os ≡ false → every (λ n. not (has n os)) ns ≡ true → Given ns side a → has (a .number) os ≡ false
-  given-not os z d none = z
-  given-not os z d (one {n = n} h p) = not-true _ (has-every (λ k. not (has k os)) ns d n h)
 
   -- it is in the table, if the table has each of these numbers with this side and a place from 1 on
   pub given-in : {a : Answer} → every (ranked side) ns ≡ true → Given ns side a → InTable a
@@ -68,8 +62,43 @@ module _ (ns : List ℕ) (side : ℕ) where
       rw (i, j) (le-leb 1 p q)
 
 pub in-cond : (c : Bool) (a b : Answer) → InTable a → InTable b → InTable (cond c a b)
-in-cond true a b h k = h
-in-cond false a b h k = k
+in-cond c a b h k = by-cond InTable c h k
 
 pub in-first : (a b : Answer) → InTable a → InTable b → InTable (first a b)
 in-first a b h k = in-cond (eqb (a .number) 0) b a k h
+
+-- no refusal, or one of these numbers
+pub data Among (ns : List ℕ) : Answer → Type 0 where
+  none : Among ns done
+  one : {n s p : ℕ} → has n ns ≡ true → Among ns (answer n s p)
+
+module _ (ns : List ℕ) where
+  pub among-cond : (c : Bool) {a b : Answer} → Among ns a → Among ns b → Among ns (cond c a b)
+  among-cond c h k = by-cond (Among ns) c h k
+
+  pub among-first : (a b : Answer) → Among ns a → Among ns b → Among ns (first a b)
+  among-first a b h k = among-cond (eqb (a .number) 0) k h
+
+  -- of more numbers too
+  pub among-more : (ms : List ℕ) {a : Answer} → every (λ n. has n ms) ns ≡ true → Among ns a → Among ms a
+  among-more ms t none = none
+  among-more ms t (one {n = n} h) = one (has-every (λ k. has k ms) ns t n h)
+
+  -- the number 0 is no refusal
+  pub among-done : {a : Answer} → has 0 ns ≡ false → Among ns a → a .number ≡ 0 → a ≡ done
+  among-done z none e = refl
+  among-done z (one h) e = absurd (false≢true (sym z ∙ rw e at h))
+
+  -- its number is none of some others, if none of these is
+  pub among-not : (os : List ℕ) {a : Answer} → has 0 os ≡ false → every (λ n. not (has n os)) ns ≡ true → Among ns a → has (a .number) os ≡ false
+  among-not os z d none = z
+  among-not os z d (one {n = n} h) = not-true _ (has-every (λ k. not (has k os)) ns d n h)
+
+  -- or it is one of them
+  pub among-has : {a : Answer} → Among ns a → (a .number ≡ 0 → ⊥) → has (a .number) ns ≡ true
+  among-has none e = absurd (e refl)
+  among-has (one h) e = h
+
+  pub given-among : (side : ℕ) {a : Answer} → Given ns side a → Among ns a
+  given-among side none = none
+  given-among side (one h p) = one h

@@ -3,3 +3,4 @@ pub mod Heads
 pub mod Lines
 pub mod Settled
 pub mod Stores
+pub mod Answers

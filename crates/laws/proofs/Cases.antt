@@ -21,6 +21,11 @@ either false = inr refl
 pub side : (m n : ℕ) → (m < n) ⊎ (n ≤ m)
 side m n = cases (either (ltb m n)) (λ e. inl (ltb-true m n e)) (λ e. inr (ltb-false m n e))
 
+-- what holds of both of two things holds of the one that a test picks
+pub by-cond : {A : Type 0} (P : A → Type 0) (c : Bool) {x y : A} → P x → P y → P (cond c x y)
+by-cond P true h k = h
+by-cond P false h k = k
+
 -- a number that is none of 1 to n is 0 or beyond them, as where no arm of a `match` on 1 to n is taken
 abbrev pub NoneOf : ℕ → ℕ → Type 0
 NoneOf zero k = Unit {0}

@@ -4,4 +4,5 @@ pub mod Stores
 pub mod Readings
 pub mod Prints
 pub mod OneText
+pub mod Answers
 pub mod Unique

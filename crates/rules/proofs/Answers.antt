@@ -11,11 +11,11 @@ use lib.ListN.{length}
 use Rattle.event.specs.Kind.{has, isLoadKind}
 use Rattle.event.specs.Answer.{first, InTable}
 use Rattle.event.specs.declared.Event.{Event}
-use Rattle.event.proofs.Answers.{Given, none, one, given-cond, given-fault, given-in, in-cond, in-first}
+use Rattle.event.proofs.Answers.{Among, Given, none, one, among-cond, given-cond, given-fault, given-in, in-cond, in-first}
+use Rattle.laws.proofs.Cases.{by-cond}
 use Rattle.rules.specs.View.{View}
 use Rattle.rules.specs.Fault.{Item, item, fate, fateOf, isGone, unlike, wallGone, crossed, loadGone, storeGone, unsupported}
 use Rattle.rules.specs.Verdict.{startAnswer, countAnswer, entryAnswer, keepFault, removalFault, sourceFault, targetFault, items, placed, sourceAnswer, targetAnswer, verdict}
-use Rattle.rules.proofs.Truth.{by-cond}
 
 -- the numbers of the tests over source events and target events
 abbrev pub sourceFaults : List ℕ
@@ -62,6 +62,17 @@ module _ (view : Event → View) where
   target-given ns k b (e ∷ t) h =
       let x = placed view ns k e in
       given-fault _ _ (targetFault (e .kind) b x) k (target-fault (e .kind) b x) h (target-given ns (suc k) (x ∷ b) t (omega arith))
+
+  -- 7 and 8 by their numbers alone
+  pub start-among : (l : ℕ) (c d : List ℕ) → Among (7 ∷ []) (startAnswer l c d)
+  unfolding startAnswer
+  start-among l [] d = none
+  start-among l (v ∷ c) [] = none
+  start-among l (v ∷ c) (w ∷ d) = among-cond _ (eqb v w) (start-among (suc l) c d) (one refl)
+
+  pub count-among : (s : List Event) (ns : List ℕ) → Among (8 ∷ []) (countAnswer s ns)
+  unfolding countAnswer
+  count-among s ns = among-cond _ (eqb (length ns) (length s)) none (one refl)
 
   -- 7's place is a location
   start-in : (l : ℕ) (c d : List ℕ) → l + length c ≤ 256 → InTable (startAnswer l c d)

@@ -14,8 +14,9 @@ use Rattle.event.proofs.Table.{plain-load, plain-store}
 use Rattle.event.specs.declared.Event.{Event}
 use Rattle.event.specs.declared.memory.Memory.{Memory}
 use Rattle.event.specs.declared.memory.Stepped.{Stepped}
+use Rattle.laws.proofs.Cases.{by-cond}
 use Rattle.rules.specs.View.{view, View, load, store, wall}
-use Rattle.rules.proofs.Truth.{T-true, by-cond}
+use Rattle.rules.proofs.Truth.{T-true}
 
 abbrev pub cell : Memory → ℕ → ℕ
 cell m l = getD (m .cells) l 0

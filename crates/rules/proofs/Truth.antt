@@ -45,7 +45,3 @@ taken x y false h = absurd h
 pub T-true : (c : Bool) → T c → c ≡ true
 T-true true h = refl
 T-true false h = absurd h
-
-pub by-cond : {A : Type 0} (P : A → Type 0) (c : Bool) {x y : A} → P x → P y → P (cond c x y)
-by-cond P true h k = h
-by-cond P false h k = k
