@@ -13,20 +13,20 @@ use Rattle.laws.proofs.Cases.{cases, either}
 use Rattle.rules.specs.View.{View, isWall}
 use Rattle.rules.specs.Fault.{Fate, Item, isGone, isNone, item, near}
 use Rattle.judge.specs.Pass.{Marked}
-use Rattle.judge.proofs.Passes.{Plain, none-at, walled}
+use Rattle.judge.proofs.Passes.{PlainAt, none-at, walled}
 
--- the array holds f
-abbrev pub Holds : {A : Type 0} (n : ℕ) (d : A) → List A → (ℕ → A) → Type 0
-Holds n d cells f = (l : ℕ) → l < n → getD cells l d ≡ f l
+-- the cells of an array are the values of f
+abbrev pub ArrayOf : {A : Type 0} (n : ℕ) (d : A) → List A → (ℕ → A) → Type 0
+ArrayOf n d cells f = (l : ℕ) → l < n → getD cells l d ≡ f l
 
 module _ {A : Type 0} (n : ℕ) (d : A) where
-  pub holds-all : (v : A) (f : ℕ → A) → ((l : ℕ) → f l ≡ v) → Holds n d (replicate n v) f
-  holds-all v f h l k = getD-replicate n l v d k ∙ sym (h l)
+  pub array-all : (v : A) (f : ℕ → A) → ((l : ℕ) → f l ≡ v) → ArrayOf n d (replicate n v) f
+  array-all v f h l k = getD-replicate n l v d k ∙ sym (h l)
 
   -- what changes f at p alone is held once the cell i, which is p, is set
-  pub holds-at : (cells : List A) (f g h : ℕ → A) {p i : ℕ} {v : A} → ((l : ℕ) → g l ≡ cond (eqb l p) (h l) (f l)) → i ≡ p → v ≡ h i
-      → i < n → length cells ≡ n → Holds n d cells f → Holds n d (set cells i v) g
-  holds-at cells f g h {p} {i} {v} next e q k size holds l z =
+  pub array-at : (cells : List A) (f g h : ℕ → A) {p i : ℕ} {v : A} → ((l : ℕ) → g l ≡ cond (eqb l p) (h l) (f l)) → i ≡ p → v ≡ h i
+      → i < n → length cells ≡ n → ArrayOf n d cells f → ArrayOf n d (set cells i v) g
+  array-at cells f g h {p} {i} {v} next e q k size holds l z =
       let w : i < length cells = omega arith in
       cases (either (eqb l i))
       (λ c. rw (eqb-true l i c) (getD-set-same cells i v d w ∙ (q ∙ sym (next i ∙ rw (eq-eqb i p e)))))
@@ -53,15 +53,15 @@ marked-next marks b k h size m l p i =
 
 -- the locations without an access since the last synchronising event
 abbrev pub Fresh : List Bool → List Item → Type 0
-Fresh fresh b = Holds 256 false fresh (λ l. isNone (near l b))
+Fresh fresh b = ArrayOf 256 false fresh (λ l. isNone (near l b))
 
 pub fresh-start : Fresh (replicate 256 true) []
-fresh-start = holds-all 256 false true (λ l. isNone (near l [])) (λ l. refl)
+fresh-start = array-all 256 false true (λ l. isNone (near l [])) (λ l. refl)
 
 pub fresh-wall : (v : View) → isWall v ≡ true → (f : Fate) (b : List Item) → Fresh (replicate 256 true) (item v f ∷ b)
 fresh-wall v h f b = rw (walled v h) (λ l k. getD-replicate {A = Bool} 256 l true false k)
 
-pub fresh-plain : {v : View} {p x : ℕ} → Plain v p x → (f : Fate) (b : List Item) (fresh : List Bool) {i : ℕ} → i ≡ p → i < 256
+pub fresh-plain : {v : View} {p x : ℕ} → PlainAt v p x → (f : Fate) (b : List Item) (fresh : List Bool) {i : ℕ} → i ≡ p → i < 256
     → length fresh ≡ 256 → Fresh fresh b → Fresh (set fresh i false) (item v f ∷ b)
 fresh-plain {v} w f b fresh e k size m =
-    holds-at 256 false fresh (λ l. isNone (near l b)) (λ l. isNone (near l (item v f ∷ b))) (λ l. false) (none-at w f b) e refl k size m
+    array-at 256 false fresh (λ l. isNone (near l b)) (λ l. isNone (near l (item v f ∷ b))) (λ l. false) (none-at w f b) e refl k size m

@@ -12,12 +12,12 @@ use borrow.Author.Tests.{eqb-false, eqb-true}
 use Rattle.laws.proofs.Cases.{cases, either}
 use Rattle.event.specs.Room.{eventAt, onward}
 use Rattle.event.specs.declared.Event.{Event}
-use Rattle.rules.specs.View.{View, store, view, isLoad, isWall}
+use Rattle.rules.specs.View.{View, view, isLoad, isWall}
 use Rattle.rules.specs.Fault.{Fate, Item, closing, fate, group, item}
 use Rattle.judge.specs.Pass.{closingAfter, closingAt, itemsFrom}
-use Rattle.judge.proofs.Arrays.{Holds, holds-all, holds-at}
+use Rattle.judge.proofs.Arrays.{ArrayOf, array-all, array-at}
 use Rattle.judge.proofs.Events.{drop-next, onward-next}
-use Rattle.judge.proofs.Passes.{Plain, closing-at, walled}
+use Rattle.judge.proofs.Passes.{PlainAt, closing-at, walled}
 
 -- the items of a room
 module _ (l ns : List ℕ) (size : length ns ≡ length l / 6) where
@@ -38,18 +38,18 @@ module _ (l ns : List ℕ) (size : length ns ≡ length l / 6) where
 
 -- the array
 abbrev pub Closed : List Bool → List Item → Type 0
-Closed cells a = Holds 256 false cells (λ l. closing (group l a))
+Closed cells a = ArrayOf 256 false cells (λ l. closing (group l a))
 
 pub closed-start : Closed (replicate 256 true) []
-closed-start = holds-all 256 false true (λ l. closing (group l [])) (λ l. refl)
+closed-start = array-all 256 false true (λ l. closing (group l [])) (λ l. refl)
 
 pub closed-wall : (v : View) → isWall v ≡ true → (f : Fate) (a : List Item) → Closed (replicate 256 true) (item v f ∷ a)
 closed-wall v h f a = rw (walled v h) (λ l k. getD-replicate {A = Bool} 256 l true false k)
 
-pub closed-plain : {v : View} {p x : ℕ} → Plain v p x → (n : ℕ) (a : List Item) (cells : List Bool) {i : ℕ} → i ≡ p → i < 256 → length cells ≡ 256
+pub closed-plain : {v : View} {p x : ℕ} → PlainAt v p x → (n : ℕ) (a : List Item) (cells : List Bool) {i : ℕ} → i ≡ p → i < 256 → length cells ≡ 256
     → Closed cells a → {d r : Bool} → d ≡ isLoad v → r ≡ closingAfter d n (getD cells i false) → Closed (set cells i r) (item v (fate n) ∷ a)
 closed-plain {v} w n a cells {i} e k size m q g =
-    holds-at 256 false cells (λ l. closing (group l a)) (λ l. closing (group l (item v (fate n) ∷ a)))
+    array-at 256 false cells (λ l. closing (group l a)) (λ l. closing (group l (item v (fate n) ∷ a)))
     (λ l. closingAfter (isLoad v) n (closing (group l a))) (closing-at w n a) e (g ∙ rw (q, m i k)) k size m
 
 pub closed-is : (cells : List Bool) {a b : List Item} → b ≡ a → Closed cells a → Closed cells b

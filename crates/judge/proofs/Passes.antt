@@ -22,11 +22,11 @@ walled wall h = refl
 walled (load p v u) h = absurd (false≢true h)
 walled (store p v) h = absurd (false≢true h)
 
-pub data Plain : View → ℕ → ℕ → Type 0 where
-  plain-load : {p x : ℕ} {u : Bool} → Plain (load p x u) p x
-  plain-store : {p x : ℕ} → Plain (store p x) p x
+pub data PlainAt : View → ℕ → ℕ → Type 0 where
+  plain-load : {p x : ℕ} {u : Bool} → PlainAt (load p x u) p x
+  plain-store : {p x : ℕ} → PlainAt (store p x) p x
 
-pub plain : {v : View} {p x : ℕ} {u : Bool} → Sees v p x u → isWall v ≡ false → Plain v p x
+pub plain : {v : View} {p x : ℕ} {u : Bool} → Sees v p x u → isWall v ≡ false → PlainAt v p x
 plain a-wall h = absurd (false≢true (sym h))
 plain a-load h = plain-load
 plain a-store h = plain-store
@@ -37,26 +37,26 @@ chosen : {A B : Type 0} (F : A → B) (c : Bool) (x y : A) → F (cond c x y) �
 chosen F true x y = refl
 chosen F false x y = refl
 
-grouped : {A : Type 0} {v : View} {p x : ℕ} (F : List Item → A) → Plain v p x → (f : Fate) (b : List Item) (l : ℕ)
+grouped : {A : Type 0} {v : View} {p x : ℕ} (F : List Item → A) → PlainAt v p x → (f : Fate) (b : List Item) (l : ℕ)
     → F (group l (item v f ∷ b)) ≡ cond (eqb l p) (F (item v f ∷ group l b)) (F (group l b))
 grouped F (plain-load {p} {x} {u}) f b l = chosen F (eqb l p) (item (load p x u) f ∷ group l b) (group l b)
 grouped F (plain-store {p} {x}) f b l = chosen F (eqb l p) (item (store p x) f ∷ group l b) (group l b)
 
-pub none-at : {v : View} {p x : ℕ} → Plain v p x → (f : Fate) (b : List Item) (l : ℕ)
+pub none-at : {v : View} {p x : ℕ} → PlainAt v p x → (f : Fate) (b : List Item) (l : ℕ)
     → isNone (near l (item v f ∷ b)) ≡ cond (eqb l p) false (isNone (near l b))
 none-at w f b l = grouped (λ g. isNone (Option·map viewOf (head? g))) w f b l
 
-closing-first : {v : View} {p x : ℕ} → Plain v p x → (n : ℕ) (g : List Item) → closing (item v (fate n) ∷ g) ≡ closingAfter (isLoad v) n (closing g)
+closing-first : {v : View} {p x : ℕ} → PlainAt v p x → (n : ℕ) (g : List Item) → closing (item v (fate n) ∷ g) ≡ closingAfter (isLoad v) n (closing g)
 closing-first plain-load zero g = refl
 closing-first plain-load (suc n) g = refl
 closing-first plain-store n g = refl
 
-pub closing-at : {v : View} {p x : ℕ} → Plain v p x → (n : ℕ) (a : List Item) (l : ℕ)
+pub closing-at : {v : View} {p x : ℕ} → PlainAt v p x → (n : ℕ) (a : List Item) (l : ℕ)
     → closing (group l (item v (fate n) ∷ a)) ≡ cond (eqb l p) (closingAfter (isLoad v) n (closing (group l a))) (closing (group l a))
 closing-at {p = p} w n a l =
     grouped closing w (fate n) a l ∙ ap (λ c. cond (eqb l p) c (closing (group l a))) (closing-first w n (group l a))
 
-witness-first : {v : View} {p x : ℕ} → Plain v p x → (n : ℕ) (g : List Item)
+witness-first : {v : View} {p x : ℕ} → PlainAt v p x → (n : ℕ) (g : List Item)
     → witness (item v (fate n) ∷ g) ≡ cond (takesOver (isLoad v) n (isNone (Option·map viewOf (head? g)))) (some x) (witness g)
 witness-first plain-load zero [] = refl
 witness-first plain-load zero (y ∷ g) = refl
@@ -65,7 +65,7 @@ witness-first plain-store zero [] = refl
 witness-first plain-store zero (y ∷ g) = refl
 witness-first plain-store (suc n) g = refl
 
-pub witness-at : {v : View} {p x : ℕ} → Plain v p x → (n : ℕ) (b : List Item) (l : ℕ)
+pub witness-at : {v : View} {p x : ℕ} → PlainAt v p x → (n : ℕ) (b : List Item) (l : ℕ)
     → witness (group l (item v (fate n) ∷ b))
     ≡ cond (eqb l p) (cond (takesOver (isLoad v) n (isNone (near l b))) (some x) (witness (group l b))) (witness (group l b))
 witness-at {p = p} w n b l =
@@ -97,7 +97,7 @@ isAt l wall = false
 isAt l (load p v u) = eqb l p
 isAt l (store p v) = eqb l p
 
-pub at-plain : {v : View} {p x : ℕ} → Plain v p x → (l : ℕ) → isAt l v ≡ eqb l p
+pub at-plain : {v : View} {p x : ℕ} → PlainAt v p x → (l : ℕ) → isAt l v ≡ eqb l p
 at-plain plain-load l = refl
 at-plain plain-store l = refl
 
@@ -146,7 +146,7 @@ against false d a = refl
 eqb-sym : (p l : ℕ) → eqb p l ≡ eqb l p
 eqb-sym p l = cases (either (eqb l p)) (λ e. eq-eqb p l (sym (eqb-true l p e)) ∙ sym e) (λ e. ne-eqb p l (λ z. eqb-false l p e (sym z)) ∙ sym e)
 
-place-of : {v : View} {p x : ℕ} → Plain v p x → placeOf v ≡ some p
+place-of : {v : View} {p x : ℕ} → PlainAt v p x → placeOf v ≡ some p
 place-of plain-load = refl
 place-of plain-store = refl
 
@@ -163,7 +163,7 @@ crossed-next false k n d a = away (ltb k n) (ltb k d) (ltb k a)
     away true d a = refl
     away false d a = refl
 
-pub crossed-plain : {v : View} {p x : ℕ} → Plain v p x → (b : List Item) (w : Bool) (k : ℕ)
+pub crossed-plain : {v : View} {p x : ℕ} → PlainAt v p x → (b : List Item) (w : Bool) (k : ℕ)
     → crossed b (item v (stays w k)) ≡ (ltb k (topBy isWall b) || ltb k (topBy (isAt p) b))
 crossed-plain h [] w k = rw (← below-zero k)
 crossed-plain h (item x gone ∷ b) w k = crossed-plain h b w k

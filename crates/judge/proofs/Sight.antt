@@ -6,7 +6,6 @@ use lib.Dec.{eqb}
 use Rattle.event.specs.Kind.{used, row, plain}
 use Rattle.event.specs.declared.Event.{Event}
 use Rattle.rules.specs.View.{View, wall, load, store, view, isLoad, isWall}
-use Rattle.rules.specs.Fault.{is}
 
 pub data Sees : View → ℕ → ℕ → Bool → Type 0 where
   a-wall : {p v : ℕ} {u : Bool} → Sees wall p v u

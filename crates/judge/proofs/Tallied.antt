@@ -17,31 +17,31 @@ use Rattle.judge.specs.Pass.{cellOf, takesOver, topAfter, topsOf, witnes
 use Rattle.judge.specs.declared.source.Cell.{Cell}
 use Rattle.judge.specs.declared.source.Tops.{Tops}
 use Rattle.judge.specs.declared.source.Witness.{Witness}
-use Rattle.judge.proofs.Arrays.{Fresh, Holds, fresh-plain, fresh-start, fresh-wall, holds-all, holds-at}
+use Rattle.judge.proofs.Arrays.{Fresh, ArrayOf, fresh-plain, fresh-start, fresh-wall, array-all, array-at}
 use Rattle.judge.proofs.Cells.{Right}
-use Rattle.judge.proofs.Passes.{Plain, any, at-plain, isAt, top-next, topBy, walled, witness-at}
+use Rattle.judge.proofs.Passes.{PlainAt, any, at-plain, isAt, top-next, topBy, walled, witness-at}
 
 -- ---- the witness
 
 abbrev pub Witnesses : List Bool → List ℕ → List Item → Type 0
-Witnesses held value b = (l : ℕ) → l < 256 → witnessed (witnessOf (getD held l false) (getD value l 0)) ≡ witness (group l b)
+Witnesses present value b = (l : ℕ) → l < 256 → witnessed (witnessOf (getD present l false) (getD value l 0)) ≡ witness (group l b)
 
 witness-wall : (v : View) → isWall v ≡ true → (n : ℕ) (b : List Item) (value : List ℕ) → Witnesses (replicate 256 false) value (item v (fate n) ∷ b)
 witness-wall v h n b value = rw (walled v h) (λ l k. rw (getD-replicate {A = Bool} 256 l false false k))
 
-witness-plain : {v : View} {p x : ℕ} → Plain v p x → (n : ℕ) (b : List Item) (fresh held : List Bool) (value : List ℕ) {i : ℕ} → i ≡ p → i < 256
-    → length held ≡ 256 → length value ≡ 256 → Fresh fresh b → Witnesses held value b → (w : Witness)
-    → witnessed w ≡ cond (takesOver (isLoad v) n (getD fresh i false)) (some x) (witnessed (witnessOf (getD held i false) (getD value i 0)))
-    → Witnesses (set held i (w .held)) (set value i (w .value)) (item v (fate n) ∷ b)
-witness-plain {p = p} s n b fresh held value {i} e k size size′ f m w q l j =
-    let here : i < length held = omega arith in
+witness-plain : {v : View} {p x : ℕ} → PlainAt v p x → (n : ℕ) (b : List Item) (fresh present : List Bool) (value : List ℕ) {i : ℕ} → i ≡ p → i < 256
+    → length present ≡ 256 → length value ≡ 256 → Fresh fresh b → Witnesses present value b → (w : Witness)
+    → witnessed w ≡ cond (takesOver (isLoad v) n (getD fresh i false)) (some x) (witnessed (witnessOf (getD present i false) (getD value i 0)))
+    → Witnesses (set present i (w .present)) (set value i (w .value)) (item v (fate n) ∷ b)
+witness-plain {p = p} s n b fresh present value {i} e k size size′ f m w q l j =
+    let here : i < length present = omega arith in
     let here′ : i < length value = omega arith in
     cases (either (eqb l i))
     (λ z. let d : l ≡ i = eqb-true l i z in
-    rw (d, getD-set-same held i (w .held) false here, getD-set-same value i (w .value) 0 here′)
+    rw (d, getD-set-same present i (w .present) false here, getD-set-same value i (w .value) 0 here′)
     (q ∙ sym (witness-at s n b i ∙ rw (eq-eqb i p e, f i k, m i k))))
     (λ z. let d = eqb-false l i z in
-    rw (getD-set-other held i l (w .held) false d, getD-set-other value i l (w .value) 0 d)
+    rw (getD-set-other present i l (w .present) false d, getD-set-other value i l (w .value) 0 d)
     (m l j ∙ sym (witness-at s n b l ∙ rw (← e, z))))
 
 -- ---- the greatest numbers
@@ -55,23 +55,23 @@ module _ (v : View) (n : ℕ) (b : List Item) where
   top-no test h p = p ∙ sym (top-next test v n b ∙ rw h)
 
 abbrev pub Here : List ℕ → List Item → Type 0
-Here here b = Holds 256 0 here (λ l. topBy (isAt l) b)
+Here here b = ArrayOf 256 0 here (λ l. topBy (isAt l) b)
 
-here-plain : {v : View} {p x : ℕ} → Plain v p x → (n : ℕ) (b : List Item) (here : List ℕ) {i : ℕ} → i ≡ p → i < 256 → length here ≡ 256 → Here here b
+here-plain : {v : View} {p x : ℕ} → PlainAt v p x → (n : ℕ) (b : List Item) (here : List ℕ) {i : ℕ} → i ≡ p → i < 256 → length here ≡ 256 → Here here b
     → {r : ℕ} → r ≡ topAfter n (getD here i 0) → Here (set here i r) (item v (fate n) ∷ b)
 here-plain {v} w n b here {i} e k size m g =
-    holds-at 256 0 here (λ l. topBy (isAt l) b) (λ l. topBy (isAt l) (item v (fate n) ∷ b)) (λ l. topAfter n (topBy (isAt l) b))
+    array-at 256 0 here (λ l. topBy (isAt l) b) (λ l. topBy (isAt l) (item v (fate n) ∷ b)) (λ l. topAfter n (topBy (isAt l) b))
     (λ l. top-next (isAt l) v n b ∙ rw (at-plain w l)) e (g ∙ rw (m i k)) k size m
 
 -- ---- all of it
 
-pub record Tallied (fresh held : List Bool) (value here : List ℕ) (all walls : ℕ) (b : List Item) : Type 0 where
+pub record Tallied (fresh present : List Bool) (value here : List ℕ) (all walls : ℕ) (b : List Item) : Type 0 where
   pub fresh-size : length fresh ≡ 256
-  pub held-size : length held ≡ 256
+  pub present-size : length present ≡ 256
   pub value-size : length value ≡ 256
   pub here-size : length here ≡ 256
   pub fresh-is : Fresh fresh b
-  pub witness-is : Witnesses held value b
+  pub witness-is : Witnesses present value b
   pub here-is : Here here b
   pub all-is : all ≡ topBy any b
   pub walls-is : walls ≡ topBy isWall b
@@ -79,22 +79,22 @@ pub record Tallied (fresh held : List Bool) (value here : List ℕ) (all walls :
 pub tallied-start : Tallied (replicate 256 true) (replicate 256 false) (replicate 256 0) (replicate 256 0) 0 0 []
 tallied-start = record {
   fresh-size = refl;
-  held-size = refl;
+  present-size = refl;
   value-size = refl;
   here-size = refl;
   fresh-is = fresh-start;
   witness-is = λ l k. rw (getD-replicate {A = Bool} 256 l false false k);
-  here-is = holds-all 256 0 0 (λ l. topBy (isAt l) []) (λ l. refl);
+  here-is = array-all 256 0 0 (λ l. topBy (isAt l) []) (λ l. refl);
   all-is = refl;
   walls-is = refl;
 }
 
-module _ {fresh held : List Bool} {value here : List ℕ} {all walls : ℕ} {b : List Item} (n : ℕ) (t : Tallied fresh held value here all walls b) where
+module _ {fresh present : List Bool} {value here : List ℕ} {all walls : ℕ} {b : List Item} (n : ℕ) (t : Tallied fresh present value here all walls b) where
   pub tallied-wall : (v : View) → isWall v ≡ true → {all′ walls′ : ℕ} → all′ ≡ topAfter n all → walls′ ≡ topAfter n walls
       → Tallied (replicate 256 true) (replicate 256 false) value here all′ walls′ (item v (fate n) ∷ b)
   tallied-wall v h p q = record {
     fresh-size = refl;
-    held-size = refl;
+    present-size = refl;
     value-size = t .value-size;
     here-size = t .here-size;
     fresh-is = fresh-wall v h (fate n) b;
@@ -104,17 +104,17 @@ module _ {fresh held : List Bool} {value here : List ℕ} {all walls : ℕ} {b :
     walls-is = top-yes v n b isWall h (t .walls-is) q;
   }
 
-  pub tallied-plain : {v : View} {p x : ℕ} → Plain v p x → isWall v ≡ false → {i : ℕ} → i ≡ p → i < 256
+  pub tallied-plain : {v : View} {p x : ℕ} → PlainAt v p x → isWall v ≡ false → {i : ℕ} → i ≡ p → i < 256
       → {all′ r : ℕ} → all′ ≡ topAfter n all → r ≡ topAfter n (getD here i 0) → (w : Witness)
-      → witnessed w ≡ cond (takesOver (isLoad v) n (getD fresh i false)) (some x) (witnessed (witnessOf (getD held i false) (getD value i 0)))
-      → Tallied (set fresh i false) (set held i (w .held)) (set value i (w .value)) (set here i r) all′ walls (item v (fate n) ∷ b)
+      → witnessed w ≡ cond (takesOver (isLoad v) n (getD fresh i false)) (some x) (witnessed (witnessOf (getD present i false) (getD value i 0)))
+      → Tallied (set fresh i false) (set present i (w .present)) (set value i (w .value)) (set here i r) all′ walls (item v (fate n) ∷ b)
   tallied-plain {v} s h e k p r w q = record {
     fresh-size = simp length-set (t .fresh-size);
-    held-size = simp length-set (t .held-size);
+    present-size = simp length-set (t .present-size);
     value-size = simp length-set (t .value-size);
     here-size = simp length-set (t .here-size);
     fresh-is = fresh-plain s (fate n) b fresh e k (t .fresh-size) (t .fresh-is);
-    witness-is = witness-plain s n b fresh held value e k (t .held-size) (t .value-size) (t .fresh-is) (t .witness-is) w q;
+    witness-is = witness-plain s n b fresh present value e k (t .present-size) (t .value-size) (t .fresh-is) (t .witness-is) w q;
     here-is = here-plain s n b here e k (t .here-size) (t .here-is) r;
     all-is = top-yes v n b any refl (t .all-is) p;
     walls-is = top-no v n b isWall h (t .walls-is);
@@ -122,9 +122,9 @@ module _ {fresh held : List Bool} {value here : List ℕ} {all walls : ℕ} {b :
 
 -- ---- what the tests ask
 
-pub right : {fresh held : List Bool} {value here : List ℕ} {all walls : ℕ} {b : List Item} → Tallied fresh held value here all walls b
+pub right : {fresh present : List Bool} {value here : List ℕ} {all walls : ℕ} {b : List Item} → Tallied fresh present value here all walls b
     → (a : List Item) (i : ℕ) → i < 256 → {d : Bool} → d ≡ closing (group i a)
-    → {c : Cell} → c ≡ cellOf (getD fresh i false) d → {w : Witness} → w ≡ witnessOf (getD held i false) (getD value i 0)
+    → {c : Cell} → c ≡ cellOf (getD fresh i false) d → {w : Witness} → w ≡ witnessOf (getD present i false) (getD value i 0)
     → {s : Tops} → s ≡ topsOf all walls (getD here i 0) → Right b a i c (witnessed w) s
 right t a i k d c w s = record {
   fresh-right = ap (λ (c : Cell). c .fresh) c ∙ t .fresh-is i k;

@@ -1,2 +1,3 @@
--- What the judge keeps on its way. Assumes nothing.
+-- Pages to believe: none. The contract of `judge` cites the pages of crate `rules` alone.
+-- Inner pages: what the judge's loops keep and its small functions decide. Assumes nothing.
 pub mod Pass

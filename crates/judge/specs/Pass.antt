@@ -62,14 +62,14 @@ abbrev pub cellOf : Bool → Bool → Cell
 cellOf fresh closing = record { fresh = fresh; closing = closing }
 
 abbrev pub witnessOf : Bool → ℕ → Witness
-witnessOf held value = record { held = held; value = value }
+witnessOf present value = record { present = present; value = value }
 
 abbrev pub topsOf : ℕ → ℕ → ℕ → Tops
 topsOf all walls here = record { all = all; walls = walls; here = here }
 
 -- a location's witness
 abbrev pub witnessed : Witness → Option ℕ
-witnessed w = cond (w .held) (some (w .value)) none
+witnessed w = cond (w .present) (some (w .value)) none
 
 -- 13 or 14 of a gone event, or 0
 abbrev pub goneFault : View → Cell → Option ℕ → ℕ

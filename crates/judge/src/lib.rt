@@ -1,9 +1,9 @@
 // The judge: the answer to two traces and a matching that were read, 7 to 16, in a pass or two for each question.
 pub mod entries;
-pub mod seen;
 pub mod source;
 pub mod start;
 pub mod target;
+pub mod view;
 
 ghost use mathlib.Core.Path.{_≡_};
 ghost use Prim.Native.Nat.{_/_, _≤_};

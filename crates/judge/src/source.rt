@@ -11,10 +11,10 @@ ghost use Rattle.rules.specs.Fault.{fate, is, isGone, unlike};
 ghost use Rattle.rules.specs.Verdict.{sourceAnswer};
 ghost use Rattle.judge.specs.Pass.{Flagged, cellOf, closingAfter, crossedBy, eventFault, goneFault, keepFaultBy, removalFaultBy, takesOver, topAfter, topsOf, witnessOf, witnessed};
 use crate::entries::is_gone;
-use crate::seen::both;
-use crate::seen::is_load;
-use crate::seen::is_same;
-use crate::seen::is_wall;
+use crate::view::both;
+use crate::view::is_load;
+use crate::view::is_same;
+use crate::view::is_wall;
 use event::Answer;
 use event::Entry;
 use event::Event;
@@ -102,15 +102,15 @@ impl Cell {
 
 // A location's witness: whether there is one, and its value.
 pub struct Witness {
-    pub held: bool,
+    pub present: bool,
     pub value: Word,
 }
 
 impl Witness {
-    fn new(held: bool, value: Word) -> Self
-        ensures { λ r. ⌜ r ≡ witnessOf held value ⌝ }
+    fn new(present: bool, value: Word) -> Self
+        ensures { λ r. ⌜ r ≡ witnessOf present value ⌝ }
     {
-        Witness { held, value }
+        Witness { present, value }
     }
 }
 
@@ -133,7 +133,7 @@ impl Tops {
 fn is_witness(value: Word, witness: Witness) -> bool
     ensures { λ r. ⌜ r ≡ is value (witnessed witness) ⌝ }
 {
-    if witness.held {
+    if witness.present {
         return witness.value == value;
     }
     false
@@ -231,7 +231,10 @@ fn witness_after(over: bool, value: Word, witness: Witness) -> Witness
     ensures { λ r. ⌜ witnessed r ≡ cond over (some value) (witnessed witness) ⌝ }
 {
     if over {
-        return Witness { held: true, value };
+        return Witness {
+            present: true,
+            value,
+        };
     }
     witness
 }
@@ -245,7 +248,7 @@ fn source_pass(source: &[Word], target: &[Word], entries: &[Entry], flags: &[boo
     ensures { λ r. ⌜ r ≡ sourceAnswer view (wholeEvents (now (target .entry))) 1 [] (wholeEvents (now (source .entry))) (now (entries .entry)) ⌝ }
 {
     let mut fresh: [bool; 256] = [true; 256];
-    let mut held: [bool; 256] = [false; 256];
+    let mut present: [bool; 256] = [false; 256];
     let mut value: [Word; 256] = [0; 256];
     let mut here: [Entry; 256] = [0; 256];
     let mut all: Entry = 0;
@@ -256,7 +259,7 @@ fn source_pass(source: &[Word], target: &[Word], entries: &[Entry], flags: &[boo
         let n = entries[i];
         let at = index_of(e.place);
         let first = fresh[at];
-        let witness = Witness::new(held[at], value[at]);
+        let witness = Witness::new(present[at], value[at]);
         let cell = Cell::new(first, flags[i]);
         let tops = Tops::new(all, walls, here[at]);
         let fault = event_fault(target, e, n, cell, witness, tops);
@@ -268,12 +271,12 @@ fn source_pass(source: &[Word], target: &[Word], entries: &[Entry], flags: &[boo
         if is_wall(e) {
             walls = top_after(n, walls);
             fresh = [true; 256];
-            held = [false; 256];
+            present = [false; 256];
             continue;
         }
         let after = witness_after(takes_over(is_load(e), n, first), e.first, witness);
         fresh[at] = false;
-        held[at] = after.held;
+        present[at] = after.present;
         value[at] = after.value;
         here[at] = top_after(n, here[at]);
     }

@@ -22,7 +22,7 @@ use Rattle.rules.specs.Run.{Traced, traced, old, new, eventOf, Inserted,
 use Rattle.rules.specs.Demand.{right, Values}
 use Rattle.rules.proofs.Latest.{Effect, effect}
 use Rattle.rules.proofs.Values.{Keeps, does, first-right, into, leaves, out-of, overwritten, rest-right, swapped, idle}
-use Rattle.rules.proofs.Effect.{sees, Sees, cell, right-lawful, step-length}
+use Rattle.rules.proofs.Effect.{truthful, Truthful, cell, right-lawful, step-length}
 use Rattle.rules.proofs.Truth.{and}
 use Rattle.rules.proofs.Chain.{by-end}
 
@@ -72,7 +72,7 @@ module _ {may : Rules Traced} {m : Memory} (k : Keeping may m) where
 
 -- ---- document 01's rules
 
-module _ (look : Event → View) (sees : Sees look) where
+module _ (look : Event → View) (truthful : Truthful look) where
   -- each cell holds the value of the near access
   abbrev Knows : List Traced → Memory → Type 0
   Knows b m = (p w : ℕ) → Holds w (near (viewed look) p b) → cell m p ≡ w
@@ -95,7 +95,7 @@ module _ (look : Event → View) (sees : Sees look) where
   knows-next : (x : Traced) (b : List Traced) (m : Memory) → length (m .cells) ≡ 256 → Knows b m → T (stepped m (eventOf x) .right)
       → Knows (x ∷ b) (stepped m (eventOf x) .memory)
   knows-next x b m c k h p w =
-      meets x (viewed look x) (cell m) (cell (stepped m (eventOf x) .memory)) p w (group (viewed look) p b) refl (effect sees m (eventOf x) c h) (k p w)
+      meets x (viewed look x) (cell m) (cell (stepped m (eventOf x) .memory)) p w (group (viewed look) p b) refl (effect truthful m (eventOf x) c h) (k p w)
 
   -- ---- one move
 
@@ -104,17 +104,17 @@ module _ (look : Event → View) (sees : Sees look) where
   removed x b a m wall i r k h = absurd r
   removed x b a m (load p v u) i r k h =
       let l = right-lawful m (eventOf x) (first-right m (eventOf x) (map eventOf a) h) in
-      idle m (eventOf x) (map eventOf a) (ap (λ (z : Stepped). z .memory) (does look sees m (eventOf x) (load p v u) i tt l)) h
+      idle m (eventOf x) (map eventOf a) (ap (λ (z : Stepped). z .memory) (does look truthful m (eventOf x) (load p v u) i tt l)) h
   removed x b a m (store p v) i (inl r) k h =
       let l = right-lawful m (eventOf x) (first-right m (eventOf x) (map eventOf a) h) in
       let q : set (m .cells) p v ≡ m .cells = rw (← k p v r) (set-getD (m .cells) p 0) in
       idle m (eventOf x) (map eventOf a)
-      (ap (λ (z : Stepped). z .memory) (does look sees m (eventOf x) (store p v) i tt l) ∙ ap (λ (c : List ℕ). record { cells = c }) q) h
+      (ap (λ (z : Stepped). z .memory) (does look truthful m (eventOf x) (store p v) i tt l) ∙ ap (λ (c : List ℕ). record { cells = c }) q) h
   removed x b a m (store p v) i (inr r) k h =
       let e = eventOf x in
       let s = map eventOf a in
-      let q = does look sees m e (store p v) i tt (right-lawful m e (first-right m e s h)) in
-      let o = overwritten look sees p v a r m (out-of m e s (store p v) q h .1) in
+      let q = does look truthful m e (store p v) i tt (right-lawful m e (first-right m e s h)) in
+      let o = overwritten look truthful p v a r m (out-of m e s (store p v) q h .1) in
       (o .0, o .1 ∙ sym (leaves m e s (store p v) q))
 
   inserted : (x : Traced) (b : List Traced) (s : List Event) (m : Memory) (v : View) → look (eventOf x) ≡ v → T (lawful (eventOf x))
@@ -122,7 +122,7 @@ module _ (look : Event → View) (sees : Sees look) where
   inserted x b s m wall i l r k h = absurd r
   inserted x b s m (load p v u) i l r k h =
       let e = eventOf x in
-      let q = does look sees m e (load p v u) i tt l in
+      let q = does look truthful m e (load p v u) i tt l in
       let c : T (eqb v (cell m p)) = subst (λ z. T (eqb v z)) (sym (k p v r)) (eqb-refl v) in
       (into m e s (load p v u) q c h, leaves m e s (load p v u) q)
   inserted x b s m (store p v) i l r k h = absurd r
@@ -138,8 +138,8 @@ module _ (look : Event → View) (sees : Sees look) where
     onward = λ x b n w f. (step-length n (eventOf x) ∙ w .0, knows-next x b n (w .0) (w .1) f);
     removing = λ x b a n r w h. removed x b a n (look (eventOf x)) refl r (w .1) h;
     inserting = λ x b s n i w h. inserted x b s n (look (eventOf x)) refl (lawful-new x (i .0)) (i .1) (w .1) h;
-    swapping = λ x y s n d h. swapped look sees n (eventOf x) (eventOf y) s d h;
+    swapping = λ x y s n d h. swapped look truthful n (eventOf x) (eventOf y) s d h;
   }
 
 pub values : Values
-values m s u r c h x i = along (keeping view sees m c) r x i h
+values m s u r c h x i = along (keeping view truthful m c) r x i h

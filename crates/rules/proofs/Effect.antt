@@ -1,5 +1,5 @@
 -- What an event does to the memory, by what the rules see of it: a load leaves the memory and is right if it has the cell's value, a store sets
--- its cell and is right, and every event leaves the number of cells. `Sees` is all that the theory of values asks of a view. Assumes nothing.
+-- its cell and is right, and every event leaves the number of cells. `Truthful` is all that the theory of values asks of a view. Assumes nothing.
 use mathlib.Core.Path.{_≡_, refl}
 use mathlib.Core.Bool.{Bool, true, false, cond}
 use mathlib.Core.List.{List}
@@ -77,12 +77,12 @@ bounds-of e (is-store k r) l = place-below e (T-true (lawful e) l)
 bounds-of e is-wall l = tt
 
 -- what is asked of a way to see events: a plain event acts by what is seen of it, within the memory
-pub record Sees (look : Event → View) : Type 0 where
+pub record Truthful (look : Event → View) : Type 0 where
   pub acts : (m : Memory) (e : Event) → T (lawful e) → Plain (look e) → stepped m e ≡ act (look e) m
   pub bounds : (e : Event) → T (lawful e) → Bound (look e)
 
-pub sees : Sees view
-sees = record { acts = λ m e l p. acts-of m e (kinds e) l p; bounds = λ e l. bounds-of e (kinds e) l }
+pub truthful : Truthful view
+truthful = record { acts = λ m e l p. acts-of m e (kinds e) l p; bounds = λ e l. bounds-of e (kinds e) l }
 
 length-after : (l : List ℕ) (e : Event) → length (after l e) ≡ length l
 unfolding after

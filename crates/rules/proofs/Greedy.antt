@@ -12,7 +12,7 @@ use borrow.Author.Tests.{eqb-true}
 use Rattle.rules.proofs.Item.{View, wall, load, store, gone, stays, Item, item, valueOf, near, Holds, Stores, Removable, one, Move, remove, keep}
 use Rattle.rules.proofs.Item.{Sound, Gone, may}
 use Rattle.rules.proofs.Fixed.{Still as StillOf, Last as LastOf, Lasts as LastsOf, out, under, end, more}
-use Rattle.rules.proofs.Word.{Letter, keptLoad, keptStore, goneLoad, goneStore, Agree, Ok, ok-of-fine}
+use Rattle.rules.proofs.Word.{keptLoad, keptStore, goneLoad, goneStore, Agree, Ok, ok-of-fine}
 use Rattle.rules.proofs.WordMoves.{AllStay, Cut, Stays, Stuck, Stuck₁, agree-step, all-stay, ok-last-cut}
 use Rattle.rules.proofs.Place.{letter, word, nearAt, witnessAt, by-place, at-own, cut-of, holds-of-word, stores-of-word, step-of, fine-of-sound}
 use Rattle.rules.proofs.Place.{Agrees}

@@ -126,7 +126,7 @@ Numbered n (item v (stays w m) ∷ t) = (m ≡ n) × Numbered (suc n) t
 
 -- the same but for the mark of a load that stays
 pub data Like : Item → Item → Type 0 where
-  same : {e : Item} → Like e e
+  unchanged : {e : Item} → Like e e
   marks : {p v : ℕ} {u u′ : Bool} {w : Bool} {n : ℕ} → Like (item (load p v u) (stays w n)) (item (load p v u′) (stays w n))
 
 pub data Likes : List Item → List Item → Type 0 where

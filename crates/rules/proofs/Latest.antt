@@ -21,7 +21,7 @@ use Rattle.rules.specs.Fault.{Item, gone, item, stays, viewOf}
 use Rattle.rules.specs.Verdict.{items}
 use Rattle.rules.proofs.Word.{Agree, Letter, far, fits, goneLoad, goneStore, keptLoad, keptStore}
 use Rattle.rules.proofs.Place.{Agrees, by-place, letter, word}
-use Rattle.rules.proofs.Effect.{put, cell, right-lawful, step-length, Bound, Plain, Sees, act}
+use Rattle.rules.proofs.Effect.{put, cell, right-lawful, step-length, Bound, Plain, Truthful, act}
 use Rattle.rules.proofs.Image.{Over, over-cons, over-nil}
 use Rattle.rules.proofs.Clean.{placeds}
 use Rattle.rules.proofs.Truth.{and-left, and-right}
@@ -70,19 +70,19 @@ effect-of m e wall a b c h = tt
 effect-of m e (load p v u) a b c h = (sym (eqb→eq v (cell m p) (rw (a tt) at h)), λ l. rw (a tt))
 effect-of m e (store p v) a b c h = λ l. rw (a tt) (cell-put m p v l (omega arith))
 
-pub effect : {look : Event → View} → Sees look → (m : Memory) (e : Event) → length (m .cells) ≡ 256 → T (stepped m e .right)
+pub effect : {look : Event → View} → Truthful look → (m : Memory) (e : Event) → length (m .cells) ≡ 256 → T (stepped m e .right)
     → Effect (cell m) (look e) (cell (stepped m e .memory))
-effect {look} sees m e c h =
-    let l = right-lawful m e h in effect-of m e (look e) (sees .acts m e l) (sees .bounds e l) c h
+effect {look} truthful m e c h =
+    let l = right-lawful m e h in effect-of m e (look e) (truthful .acts m e l) (truthful .bounds e l) c h
 
-module _ (look : Event → View) (sees : Sees look) where
+module _ (look : Event → View) (truthful : Truthful look) where
   agree : (l : ℕ) (m : Memory) (n : Option ℕ) {s : List Event} {x : List Item} → Over (Faces look) s x → length (m .cells) ≡ 256 → T (right m s)
       → fits n (cell m l) → Agree n (word l x)
   agree l m n over-nil c h f = tt
   agree l m n (over-cons {x = e} {y = y} {s = s} {t = x} q o) c h f =
       let a : T (stepped m e .right) = and-left (stepped m e .right) (right (stepped m e .memory) s) h in
       let b : T (right (stepped m e .memory) s) = and-right (stepped m e .right) (right (stepped m e .memory) s) h in
-      agree₁ l y n (cell m) (cell (stepped m e .memory)) (word l x) (rw q (effect sees m e c a)) f
+      agree₁ l y n (cell m) (cell (stepped m e .memory)) (word l x) (rw q (effect truthful m e c a)) f
       (λ k g. agree l (stepped m e .memory) k o (step-length m e ∙ c) b g)
 
   over-items : (s : List Event) (ns : List ℕ) → length ns ≡ length s → Over (Faces look) s (items look s ns)

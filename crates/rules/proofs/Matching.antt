@@ -11,7 +11,7 @@ use borrow.Author.Tests.{ne-eqb, eqb-true, eqb-false}
 use Rattle.laws.proofs.Lists.{Each}
 use Rattle.rules.specs.Fault.{Item, gone, item, stays}
 use Rattle.rules.specs.View.{View, load}
-use Rattle.rules.proofs.Item.{none-left, pick, same, Like, Match, Pull, here, keep, marks, sourced, there}
+use Rattle.rules.proofs.Item.{none-left, pick, unchanged, Like, Match, Pull, here, keep, marks, sourced, there}
 
 -- the same but for the mark of a load
 pub data Alike : View → View → Type 0 where
@@ -98,7 +98,7 @@ record Taken (k : ℕ) (u : View) (t : List View) (x : List Item) : Type 0 where
   hits : (j : ℕ) → k ≢ j → hit j x ≡ hit j rest
 
 pub like-of : {v u : View} {w : Bool} {n k : ℕ} → n ≡ k → Alike v u → Like (item v (stays w n)) (item u (stays w k))
-like-of i equal = rw i same
+like-of i equal = rw i unchanged
 like-of i marked = rw i marks
 
 take : (k : ℕ) (u : View) (t : List View) (x : List Item) → T (hit k x) → Distinct x → Each (Landed k (u ∷ t)) x → Taken k u t x

@@ -3,13 +3,13 @@
 use Prim.Native.Nat.{ℕ}
 use mathlib.Core.Bool.{Bool, true, false, not, cond, _&&_, _||_, false≢true}
 use mathlib.Core.Path.{_≡_, refl}
-use Rattle.event.specs.Kind.{row, takes, lawful, isLocation, plain}
+use Rattle.event.specs.Kind.{row, takes, lawful, isLocation}
 use Rattle.event.specs.declared.Event.{Event}
 use Rattle.event.specs.declared.kind.Orders.{Orders}
 use Rattle.event.specs.declared.kind.Orders.the-variants.{Bare, Marks, Reads, Writes, Updates, Fences, NoKind}
 use Rattle.event.proofs.Lawful.{order-of}
 use Rattle.event.proofs.Table.{each-row}
-use Rattle.rules.specs.View.{view, View, wall, load, store, isWall}
+use Rattle.rules.specs.View.{view, View, wall, isWall}
 
 -- a kind at all
 abbrev isKind : Orders → Bool

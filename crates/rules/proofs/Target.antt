@@ -11,7 +11,7 @@ use native.Mathlib.Omega.{arith}
 use lib.Dec.{T}
 use Rattle.laws.proofs.Lists.{Each}
 use Rattle.rules.proofs.Item.{View, gone, stays, Item, item, one, two, Move, remove, swap, next, Moves, done, step, Supported₁, Supported}
-use Rattle.rules.proofs.Item.{keep, sourced, Numbered, Like, same, marks, Likes, like-nil, like-cons, Pull, here, there, Match, none-left, pick}
+use Rattle.rules.proofs.Item.{keep, sourced, Numbered, Like, unchanged, marks, Likes, like-nil, like-cons, Pull, here, there, Match, none-left, pick}
 use Rattle.rules.proofs.Item.{Gone, New}
 use Rattle.rules.proofs.Place.{letter, nearAt, word, Agrees}
 use Rattle.rules.proofs.Order.{Exact, all-unpull}
@@ -22,7 +22,7 @@ use Rattle.rules.proofs.Image.{Over, over-cons, over-nil}
 -- ---- likeness
 
 like-sym : {e f : Item} → Like e f → Like f e
-like-sym same = same
+like-sym unchanged = unchanged
 like-sym marks = marks
 
 pub likes-sym : {s t : List Item} → Likes s t → Likes t s
@@ -30,7 +30,7 @@ likes-sym like-nil = like-nil
 likes-sym (like-cons q r) = like-cons (like-sym q) (likes-sym r)
 
 letter-like : (l : ℕ) {e f : Item} → Like e f → letter l e ≡ letter l f
-letter-like l same = refl
+letter-like l unchanged = refl
 letter-like l marks = refl
 
 pub word-like : (l : ℕ) {s t : List Item} → Likes s t → word l s ≡ word l t
@@ -38,8 +38,8 @@ word-like l like-nil = refl
 word-like l (like-cons q r) = ap₂ _∷_ (letter-like l q) (word-like l r)
 
 numbered₁ : (i : ℕ) {e f : Item} (s t : List Item) → Like e f → (Numbered (suc i) t → Numbered (suc i) s) → Numbered i (f ∷ t) → Numbered i (e ∷ s)
-numbered₁ i s t (same {e = item v gone}) k h = absurd h
-numbered₁ i s t (same {e = item v (stays w n)}) k h = (h .0, k (h .1))
+numbered₁ i s t (unchanged {e = item v gone}) k h = absurd h
+numbered₁ i s t (unchanged {e = item v (stays w n)}) k h = (h .0, k (h .1))
 numbered₁ i s t marks k h = (h .0, k (h .1))
 
 pub numbered-like : (i : ℕ) {s t : List Item} → Likes s t → Numbered i t → Numbered i s
@@ -47,7 +47,7 @@ numbered-like i like-nil h = tt
 numbered-like i (like-cons {s = s} {t = t} q r) h = numbered₁ i s t q (numbered-like (suc i) r) h
 
 supported₁ : (b : List Item) {e f : Item} → Like e f → Supported₁ b f → Supported₁ b e
-supported₁ b same h = h
+supported₁ b unchanged h = h
 supported₁ b (marks {w = true}) h = h
 supported₁ b (marks {w = false}) h = tt
 
@@ -61,7 +61,7 @@ supported-like b c g (like-cons {e = e} {f = f} q r) h = (
 -- ---- the target with the marks of the source
 
 sourced-like : {e : Item} {v : View} {n : ℕ} (u : List Item) → Like e (item v (stays false n)) → sourced (e ∷ u) ≡ e ∷ sourced u
-sourced-like u same = refl
+sourced-like u unchanged = refl
 sourced-like u marks = refl
 
 -- an item of the target, or one that the source has and is like it
@@ -70,7 +70,7 @@ pub data Print : Item → Item → Type 0 where
   kept : {e f : Item} → Like e f → (New f → ⊥) → Print e f
 
 pub print-like : {e f : Item} → Print e f → Like e f
-print-like exact = same
+print-like exact = unchanged
 print-like (kept q w) = q
 
 pub prints-likes : {s t : List Item} → Over Print s t → Likes s t
@@ -102,7 +102,7 @@ not-new-keep (item v gone ∷ s) h = (tt, not-new-keep s h)
 not-new-keep (item v (stays w n) ∷ s) h = (h .0, not-new-keep s (h .1))
 
 not-new-like : {e f : Item} → Like e f → NotNew f → NotNew e
-not-new-like same h = h
+not-new-like unchanged h = h
 not-new-like marks h = h
 
 not-new-match : {s t : List Item} → Match s t → Each NotNew t → Each NotNew s
@@ -134,7 +134,7 @@ size-sourced (item v (stays true n) ∷ t) = let h = size-sourced t in omega ari
 size-sourced (item v (stays false n) ∷ t) = let h = size-sourced t in omega arith
 
 weight-like : {e f : Item} → Like e f → weight e ≡ weight f
-weight-like same = refl
+weight-like unchanged = refl
 weight-like (marks {w = true}) = refl
 weight-like (marks {w = false}) = refl
 

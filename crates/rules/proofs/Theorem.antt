@@ -20,7 +20,7 @@ use Rattle.rules.proofs.Latest.{agrees-source, agrees-target, all-lawfu
 use Rattle.rules.proofs.Same.{alike}
 use Rattle.rules.proofs.Clean.{both, clean-source, clean-target, source-clean, target-clean}
 use Rattle.rules.proofs.Entries.{entries}
-use Rattle.rules.proofs.Effect.{sees}
+use Rattle.rules.proofs.Effect.{truthful}
 
 module _ (m n : Memory) (s t : List Event) (ns : List ℕ) (p : Passed m n s t ns) where
   ready : Ready view s t ns
@@ -28,8 +28,8 @@ module _ (m n : Memory) (s t : List Event) (ns : List ℕ) (p : Passed m n s t n
       let e = entries (length t) s ns (p .count) (p .entries) in
       record {
         entries = e;
-        source = agrees-source view sees m s ns (p .source-cells) (e .many) (p .source);
-        target = agrees-target view sees n ns t (p .target-cells) (p .target);
+        source = agrees-source view truthful m s ns (p .source-cells) (e .many) (p .source);
+        target = agrees-target view truthful n ns t (p .target-cells) (p .target);
         lawfuls = all-lawful n t (p .target);
       }
 

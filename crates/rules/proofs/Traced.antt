@@ -27,7 +27,7 @@ use Rattle.rules.proofs.Same.{same-refl}
 use Rattle.rules.proofs.Truth.{not-not, yes-not}
 
 fate-like : {e f : Item} → Like e f → fateOf e ≡ fateOf f
-fate-like Like.same = refl
+fate-like Like.unchanged = refl
 fate-like marks = refl
 
 module _ (view : Event → View) (s t : List Event) (ns : List ℕ) where
@@ -115,7 +115,7 @@ module _ (view : Event → View) (s t : List Event) (ns : List ℕ) where
   fresh false k e g l w = absurd w
 
   new-like : {e f : Item} → Like e f → New e → New f
-  new-like Like.same w = w
+  new-like Like.unchanged w = w
   new-like marks w = w
 
   has-print : {y z : Item} → Print y z → Has Shows Inserted New z → Has Shows Inserted New y

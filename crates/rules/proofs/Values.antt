@@ -18,7 +18,7 @@ use Rattle.rules.specs.Demand.{right, final}
 use Rattle.rules.specs.View.{View, apart, load, store, wall}
 use Rattle.rules.specs.Moves.{Stores, group, near, extend}
 use Rattle.rules.specs.Run.{Traced, eventOf, viewed}
-use Rattle.rules.proofs.Effect.{put, Plain, Sees, act, right-lawful, cell}
+use Rattle.rules.proofs.Effect.{put, Plain, Truthful, act, right-lawful, cell}
 use Rattle.rules.proofs.Truth.{and, and-left, and-right}
 
 -- t is as right as s, and leaves the same memory
@@ -80,9 +80,9 @@ module _ (m : Memory) (e : Event) (s : List Event) where
     pub leaves : final m (e ∷ s) ≡ final (act v m .memory) s
     leaves = ap (λ (z : Stepped). final (z .memory) s) q
 
-module _ (look : Event → View) (sees : Sees look) where
+module _ (look : Event → View) (truthful : Truthful look) where
   pub does : (m : Memory) (e : Event) (v : View) → look e ≡ v → Plain v → T (lawful e) → stepped m e ≡ act v m
-  does m e v i p l = sees .acts m e l (rw i p) ∙ ap (λ z. act z m) i
+  does m e v i p l = truthful .acts m e l (rw i p) ∙ ap (λ z. act z m) i
 
   -- ---- swaps
 

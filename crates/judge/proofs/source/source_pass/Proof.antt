@@ -34,18 +34,18 @@ abbrev whole : List ℕ → List ℕ → List ℕ → Answer
 whole source target entries = sourceAnswer view (events target) 1 [] (events source) entries
 
 -- the events before the index are passed
-record Passed (source target entries : List ℕ) (fresh held : List Bool) (value here : List ℕ) (all walls i : ℕ) : Type 0 where
+record Passed (source target entries : List ℕ) (fresh present : List Bool) (value here : List ℕ) (all walls i : ℕ) : Type 0 where
   bound : i ≤ length entries
   behind : List Item
-  tallied : Tallied fresh held value here all walls behind
+  tallied : Tallied fresh present value here all walls behind
   answers : whole source target entries ≡ sourceAnswer view (events target) (i + 1) behind (onward source i (length source / 6 - i)) (drop i entries)
 
 abbrev Inv-loop : tie.InvT-loop
-Inv-loop source target entries flags fresh₀ held₀ value₀ here₀ all₀ walls₀ i₀ fresh held value here all walls i =
-    Passed source target entries fresh held value here all walls i
+Inv-loop source target entries flags fresh₀ present₀ value₀ here₀ all₀ walls₀ i₀ fresh present value here all walls i =
+    Passed source target entries fresh present value here all walls i
 
 abbrev μ-loop : tie.MeasureT-loop
-μ-loop source target entries flags fresh₀ held₀ value₀ here₀ all₀ walls₀ i₀ fresh held value here all walls i =
+μ-loop source target entries flags fresh₀ present₀ value₀ here₀ all₀ walls₀ i₀ fresh present value here all walls i =
     length entries - i
 
 flag-told : (l ns : List ℕ) (j : ℕ) (e : Event) {p : ℕ} {w : Bool} → w ≡ closingAt l ns j → e ≡ eventAt l j → p ≡ e .place
@@ -138,9 +138,9 @@ module _ (c : tie.After-event-fault Inv-loop μ-loop) where
       (c .before .before .new2 .ensures) (c .before .before .before .before .new .ensures) (c .before .new3 .ensures))
       ∙ sym (c .event-fault .ensures)
 
-  goes-on : c .event-fault .result ≡ 0 → {fresh held : List Bool} {value tops : List ℕ} {all walls : ℕ}
-      → Tallied fresh held value tops all walls (here (at c) ∷ behind (at c))
-      → Passed (room (at c)) (target (at c)) (entries (at c)) fresh held value tops all walls (index (at c) + 1)
+  goes-on : c .event-fault .result ≡ 0 → {fresh present : List Bool} {value tops : List ℕ} {all walls : ℕ}
+      → Tallied fresh present value tops all walls (here (at c) ∷ behind (at c))
+      → Passed (room (at c)) (target (at c)) (entries (at c)) fresh present value tops all walls (index (at c) + 1)
   goes-on z t = record {
     bound = omega arith;
     behind = here (at c) ∷ behind (at c);
@@ -182,7 +182,7 @@ loop-again-2 c =
     goes-on f (w .before .before .if1 .left)
     (tallied-plain (entry a) (t .inv .tallied) (plain (sees (event a)) h) h (a .index-of .ensures) (place-in a) (w .before .top-after .ensures)
     (c .top-after3 .ensures) (c .before .witness-after .result)
-    (over-told (view (event a)) (entry a) (event a .first) (getD (t .fresh) p false) (getD (t .held) p false) (getD (t .value) p 0)
+    (over-told (view (event a)) (entry a) (event a .first) (getD (t .fresh) p false) (getD (t .present) p false) (getD (t .value) p 0)
     (c .before .witness-after .result) (c .before .witness-after .ensures) (c .before .before .takes-over .ensures)
     (c .before .before .before .is-load .ensures) (f .before .before .before .before .new .ensures)))
 

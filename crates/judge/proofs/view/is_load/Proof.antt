@@ -2,8 +2,8 @@
 use mathlib.Core.Path.{sym, _∙_}
 use borrow.Author.Needs.{needs}
 use Rattle.judge.proofs.Sight.{load-reads}
-use Rattle.judge.proofs.seen.is_load.Statement.{statement}
-use Rattle.judge.proofs.seen.is_load.Tie as tie
+use Rattle.judge.proofs.view.is_load.Statement.{statement}
+use Rattle.judge.proofs.view.is_load.Tie as tie
 
 returns : tie.Need-returns
 returns c =

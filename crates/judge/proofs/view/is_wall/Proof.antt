@@ -2,8 +2,8 @@
 use mathlib.Core.Path.{sym}
 use borrow.Author.Needs.{needs}
 use Rattle.judge.proofs.Sight.{wall-not-plain}
-use Rattle.judge.proofs.seen.is_wall.Statement.{statement}
-use Rattle.judge.proofs.seen.is_wall.Tie as tie
+use Rattle.judge.proofs.view.is_wall.Statement.{statement}
+use Rattle.judge.proofs.view.is_wall.Tie as tie
 
 returns : tie.Need-returns
 returns c = rw (c .is-plain .ensures) (sym (wall-not-plain (c .before .args .e)))
