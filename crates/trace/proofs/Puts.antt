@@ -9,11 +9,15 @@ use Rattle.text.specs.Write.{wrote}
 use Rattle.text.proofs.Writes.{length-wrote, take-wrote}
 use Rattle.trace.specs.Put.{Put, Small}
 
--- a byte stored beyond the end changes nothing
+-- a byte stored beyond the end changes nothing, and so do bytes
 pub set-beyond : (l : List ℕ) (i b : ℕ) → length l ≤ i → set l i b ≡ l
 set-beyond [] i b h = refl
 set-beyond (a ∷ l) zero b h = absurd (omega arith)
 set-beyond (a ∷ l) (suc i) b h = ap (λ (m : List ℕ). a ∷ m) (set-beyond l i b (omega arith))
+
+pub sets-beyond : (room : List ℕ) (at : ℕ) (v : List ℕ) → length room ≤ at → sets room at v ≡ room
+sets-beyond room at [] h = refl
+sets-beyond room at (b ∷ v) h = rw (set-beyond room at b h) (sets-beyond room (suc at) v (omega arith))
 
 sets-append : (room : List ℕ) (at : ℕ) (v w : List ℕ) → sets room at (v ++ w) ≡ sets (sets room at v) (at + length v) w
 sets-append room at [] w = let z : at + 0 ≡ at = omega arith in rw z

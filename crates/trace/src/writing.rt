@@ -109,11 +109,14 @@ fn store_byte(out: &mut [u8], at: usize, b: u8)
     }
 }
 
-// Bytes from a place on; what comes back is the place after them.
+// Bytes from a place on; what comes back is the place after them. Where all lie beyond the end they are counted at once.
 fn put(out: &mut [u8], at: usize, bytes: &[u8]) -> usize
     requires { ⌜ Small at (now bytes) ⌝ }
     ensures { λ r. ⌜ Put (now (out .entry)) at (now (bytes .entry)) (now (out .exit)) r ⌝ }
 {
+    if out.len() <= at {
+        return at + bytes.len();
+    }
     let mut i: usize = 0;
     while i < bytes.len() {
         store_byte(out, at + i, bytes[i]);
@@ -134,6 +137,14 @@ fn put_word(out: &mut [u8], at: usize, table: &[[u8; ROW]], n: Word) -> usize
     put(out, at, word_in(&table[i]))
 }
 
+// The word of an order or a mark. Its own function, so that the table is laid out only where a line has the word.
+fn put_order(out: &mut [u8], at: usize, order: Word) -> usize
+    requires { ⌜ Small at (wordAt orderWords order) ⌝ }
+    ensures { λ r. ⌜ Put (now (out .entry)) at (wordAt orderWords order) (now (out .exit)) r ⌝ }
+{
+    put_word(out, at, &ORDER_WORDS, order)
+}
+
 // A TAB and an order or a mark, if the line is to have it.
 fn put_order_if(wanted: bool, out: &mut [u8], at: usize, order: Word) -> usize
     requires { ⌜ Small at (tabIf wanted (wordAt orderWords order)) ⌝ }
@@ -143,7 +154,7 @@ fn put_order_if(wanted: bool, out: &mut [u8], at: usize, order: Word) -> usize
         return at;
     }
     let next = put(out, at, b"\t");
-    put_word(out, next, &ORDER_WORDS, order)
+    put_order(out, next, order)
 }
 
 // A word as a number to be written.

@@ -1,13 +1,13 @@
 -- While the bytes are put one by one, the rest of them, put from the place after those, brings what all of them bring. Assumes nothing.
 use Prim.Native.Nat.{ℕ, _+_, _-_, _<_}
 use mathlib.Core.List.{List, [], _∷_, _++_}
-use mathlib.Core.Path.{_≡_, refl}
+use mathlib.Core.Path.{_≡_, refl, sym}
 use native.Mathlib.Omega.{arith}
 use native.Mathlib.Numerals.{add-one}
 use lib.ListN.{length, getD, drop, drop-of-length-le}
 use lib.Seq.{drop-cons}
 use Rattle.trace.specs.Put.{Put}
-use Rattle.trace.proofs.Puts.{Going, going, going-on, going-end, put-length}
+use Rattle.trace.proofs.Puts.{sets-beyond, Going, going, going-on, going-end, put-length}
 use Rattle.trace.proofs.writing.put.Statement.{statement}
 use Rattle.trace.proofs.writing.put.Tie as tie
 
@@ -17,9 +17,15 @@ Inv-loop out₀ at bytes i₀ out i = Going bytes (λ k. drop k bytes) (length b
 abbrev μ-loop : tie.MeasureT-loop
 μ-loop out₀ at bytes i₀ out i = length bytes - i
 
+-- all lie beyond the end
+returns : tie.Need-returns Inv-loop μ-loop
+returns c =
+    let a = c .before .before .before .args in
+    record { counted = refl; stored = sym (sets-beyond (a .out .now) (a .at) (a .bytes .now) (c .if1 .taken)) }
+
 loop-holds : tie.Need-loop-holds Inv-loop μ-loop
 loop-holds c =
-    let s = c .before .before in
+    let s = c .before .before .before in
     let z : s .args .at + 0 ≡ s .args .at = omega arith in
     rw z (going _ _ _ (s .pre) refl)
 
@@ -31,13 +37,13 @@ loop-again : tie.Need-loop-again Inv-loop μ-loop
 loop-again c =
     let o = c .before .before in
     let l = o .before .before .before .before in
-    let a = l .before .before .before .args in
+    let a = l .before .before .before .before .args in
     going-on (l .loop .inv) {v = getD (a .bytes .now) (l .loop .i) 0 ∷ []} (omega arith) (next (a .bytes .now) (l .loop .i) (omega arith))
     (record { counted = omega arith; stored = o .store-byte .ensures })
 
-all-put : (c : tie.After-loop Inv-loop μ-loop) → let s = c .before .before .before .before in
+all-put : (c : tie.After-loop Inv-loop μ-loop) → let s = c .before .before .before .before .before in
     Put (s .args .out .now) (s .args .at) (s .args .bytes .now) (c .before .loop .out) (s .args .at + c .before .loop .i)
-all-put c = let l = c .before in going-end (l .loop .inv) (drop-of-length-le (l .before .before .before .args .bytes .now) {i = l .loop .i} (omega arith))
+all-put c = let l = c .before in going-end (l .loop .inv) (drop-of-length-le (l .before .before .before .before .args .bytes .now) {i = l .loop .i} (omega arith))
 
 pub put-spec : {M : Type 1} → statement M
 put-spec =
@@ -45,6 +51,8 @@ put-spec =
     (tie.spec
     Inv-loop
     μ-loop
+    (λ c. omega arith)
+    returns
     loop-holds
     (λ c. omega arith)
     (λ c. omega arith)

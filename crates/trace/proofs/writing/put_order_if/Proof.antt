@@ -16,14 +16,14 @@ wanted c = not-false _ (c .if1 .left)
 small : (c : tie.Else1) → Small (c .before .before .args .at) (tabIf true (wordAt orderWords (c .before .before .args .order)))
 small c = rw (wanted c) at (c .before .before .pre)
 
-put-word-requires : tie.Need-put-word-requires
-put-word-requires c κs = let p = c .before .before .before .before in omega (arith, p .put .ensures .counted, small (p .before .before .before))
+put-order-requires : tie.Need-put-order-requires
+put-order-requires c κs = let p = c .before .before .before in omega (arith, p .put .ensures .counted, small (p .before .before .before))
 
 returns-2 : tie.Need-returns-2
 returns-2 c =
     let p = c .before .before in
-    let q = p .before .before .before .before .before in
-    rw (wanted (q .before .before .before)) (then (q .put .ensures) (p .put-word .ensures))
+    let q = p .before .before .before .before in
+    rw (wanted (q .before .before .before)) (then (q .put .ensures) (p .put-order .ensures))
 
 pub put-order-if-spec : {M : Type 1} → statement M
 put-order-if-spec =
@@ -32,7 +32,6 @@ put-order-if-spec =
     (λ c. rw (not-true (c .before .before .args .wanted) (c .if1 .taken)) (put-none _ _))
     (λ c. refl)
     (λ c κs. omega (arith, small (c .before .before)))
-    (λ c. refl)
-    put-word-requires
-    (λ c. c .before .before .put-word .kept .0 ∙ c .before .before .before .before .before .before .before .put .kept .0)
+    put-order-requires
+    (λ c. c .before .before .put-order .kept .0 ∙ c .before .before .before .before .before .before .put .kept .0)
     returns-2)
