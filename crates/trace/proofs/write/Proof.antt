@@ -30,23 +30,11 @@ small c =
     (room-fits (s .args .room .now) (λ k. omega (arith, w .shared-slice-known .given k .fits)) (s .args .memory) (c .count-of .result)
     (simp length-map at (g .1 .0 .1)) (words-below (s .args .memory .cells) (g .0) (g .1 .1)) (f .0) (f .1))
 
-room-fault-requires : tie.Need-room-fault-requires
-room-fault-requires c κs = tt
-
 returns : tie.Need-returns
 returns c =
     let f = c .before .before in
     let s = f .before .before .before in
     refused (s .args .memory) (s .args .room .now) (s .args .out .now) (f .room-fault .ensures) (c .if1 .taken)
-
-count-of-requires : tie.Need-count-of-requires
-count-of-requires c κs = tt
-
-size-of-requires : tie.Need-size-of-requires
-size-of-requires c κs = omega (arith, small c)
-
-new-requires : tie.Need-new-requires
-new-requires c κs = tt
 
 returns-2 : tie.Need-returns-2
 returns-2 c =
@@ -54,15 +42,6 @@ returns-2 c =
     let s = start (z .before) in
     short (s .args .memory) (s .args .room .now) (s .args .out .now) (z .before .count-of .ensures) (none (z .before .before)) (z .size-of .ensures)
     (c .before .if2 .taken) (c .new .ensures)
-
-put-text-requires : tie.Need-put-text-requires
-put-text-requires c κs = omega (arith, small (c .before .before .before))
-
-new-requires-2 : tie.Need-new-requires-2
-new-requires-2 c κs = tt
-
-same-length : tie.Need-same-length
-same-length c = put-length (c .before .before .before .put-text .ensures)
 
 returns-3 : tie.Need-returns-3
 returns-3 c =
@@ -76,13 +55,13 @@ pub write-spec : {M : Type 1} → statement M
 write-spec =
     tie.close
     (tie.spec
-    room-fault-requires
+    (λ c κs. tt)
     returns
-    count-of-requires
-    size-of-requires
-    new-requires
+    (λ c κs. tt)
+    (λ c κs. omega (arith, small c))
+    (λ c κs. tt)
     returns-2
-    put-text-requires
-    new-requires-2
-    same-length
+    (λ c κs. omega (arith, small (c .before .before .before)))
+    (λ c κs. tt)
+    (λ c. put-length (c .before .before .before .put-text .ensures))
     returns-3)
