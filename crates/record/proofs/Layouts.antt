@@ -49,13 +49,10 @@ lawful-is : (e : Event) (o c : ℕ) → o ≡ e .order → c ≡ e .code → law
 lawful-is e o c p q h = rw (p, q, h)
 
 -- neither TAB nor LF is in a field
-each-if : (P : List ℕ → Type 0) (b : Bool) (f : List ℕ) (fs : List (List ℕ)) → P f → Each P fs → Each P (fieldIf b f fs)
-each-if P true f fs h k = (h, k)
-each-if P false f fs h k = k
-
 each-there : (P : List ℕ → Type 0) (l : List (Bool × List ℕ)) → Each (λ p. P (p .1)) l → Each P (there l)
 each-there P [] h = tt
-each-there P (p ∷ l) h = each-if P (p .0) (p .1) (there l) (h .0) (each-there P l (h .1))
+each-there P ((true, f) ∷ l) h = (h .0, each-there P l (h .1))
+each-there P ((false, f) ∷ l) h = each-there P l (h .1)
 
 number-free : (s : ℕ) → s < 11 → (n : ℕ) → Free s (decimal n)
 number-free s l n = decimal-free s (low s (omega arith)) n

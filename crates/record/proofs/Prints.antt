@@ -15,7 +15,7 @@ use Rattle.event.specs.declared.Event.{Event}
 use Rattle.text.specs.Cut.{glue}
 use Rattle.text.specs.Number.{decimal}
 use Rattle.text.proofs.Decimals.{length-some, length-more, length-below}
-use Rattle.record.specs.Layout.{kindWords, initWord, wordAt, shapeOf, parts, fieldIf, there, eventFields, eventLine, initLine}
+use Rattle.record.specs.Layout.{kindWords, initWord, wordAt, shapeOf, parts, there, eventFields, eventLine, initLine}
 use Rattle.record.specs.Record.{lastValue}
 use Rattle.record.proofs.Tables.{each-to}
 use Rattle.record.proofs.Stands.{orderMost, markMost, stand-length, shaped}
@@ -73,15 +73,11 @@ cost [] ns = 0
 cost (p ∷ ps) [] = 0
 cost (p ∷ ps) (n ∷ ns) = cond (p .0) (suc n) 0 + cost ps ns
 
-size-if : (b : Bool) (f : List ℕ) (fs : List (List ℕ)) (n m : ℕ) → (b ≡ true → length f ≤ n) → size fs ≤ m
-    → size (fieldIf b f fs) ≤ cond b (suc n) 0 + m
-size-if true f fs n m h k = let i = h refl in omega arith
-size-if false f fs n m h k = omega arith
-
 size-there : (ps : List (Bool × List ℕ)) (ns : List ℕ) → Within ps ns → size (there ps) ≤ cost ps ns
 size-there [] ns h = omega arith
 size-there (p ∷ ps) [] h = absurd h
-size-there (p ∷ ps) (n ∷ ns) h = size-if (p .0) (p .1) (there ps) n (cost ps ns) (h .0) (size-there ps ns (h .1))
+size-there ((true, f) ∷ ps) (n ∷ ns) h = let i = h .0 refl in omega (arith, size-there ps ns (h .1))
+size-there ((false, f) ∷ ps) (n ∷ ns) h = omega (arith, size-there ps ns (h .1))
 
 -- the length of the longest line of an event, and of a starting value
 abbrev pub longestEvent : ℕ

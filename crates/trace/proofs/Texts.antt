@@ -14,26 +14,12 @@ use Rattle.event.specs.declared.memory.Memory.{Memory}
 use Rattle.text.specs.Cut.{glue}
 use Rattle.text.specs.Field.{join}
 use Rattle.text.specs.Number.{decimal}
-use Rattle.record.specs.Layout.{kindWords, wordAt, header, initWord, shapeOf, parts, fieldIf, there, eventFields, eventLine, initLine}
+use Rattle.record.specs.Layout.{kindWords, wordAt, header, initWord, shapeOf, parts, there, eventFields, eventLine, initLine}
 use Rattle.record.specs.declared.shape.Shape.{Shape}
 use Rattle.trace.specs.Put.{tabIf, initPart}
 use Rattle.trace.specs.Writing.{textOf, initLines, traceText}
 use Rattle.trace.proofs.Puts.{all}
 use Rattle.trace.proofs.Judged.{onward-next, onward-end}
-
--- fields, each with a TAB before it
-abbrev tails : List (List ℕ) → List ℕ
-tails [] = []
-tails (f ∷ fs) = (9 ∷ f) ++ tails fs
-
-join-tails : (w : List ℕ) (fs : List (List ℕ)) → join (w ∷ fs) ≡ w ++ tails fs
-unfolding glue
-join-tails w [] = sym (append-nil w)
-join-tails w (f ∷ fs) = rw (join-tails f fs)
-
-tails-if : (b : Bool) (f : List ℕ) (fs : List (List ℕ)) → tails (fieldIf b f fs) ≡ tabIf b f ++ tails fs
-tails-if true f fs = refl
-tails-if false f fs = refl
 
 -- fields that are there or not, each with the TAB before it
 abbrev pub tabs : List (Bool × List ℕ) → List (List ℕ)
@@ -44,13 +30,11 @@ tabs (p ∷ ps) = tabIf (p .0) (p .1) ∷ tabs ps
 abbrev pub lineParts : List ℕ → List (Bool × List ℕ) → List (List ℕ)
 lineParts w ps = w ∷ tabs ps ++ (10 ∷ []) ∷ []
 
-tails-there : (ps : List (Bool × List ℕ)) → tails (there ps) ++ 10 ∷ [] ≡ all (tabs ps ++ (10 ∷ []) ∷ [])
-tails-there [] = refl
-tails-there (p ∷ ps) =
-    rw (tails-if (p .0) (p .1) (there ps), append-assoc (tabIf (p .0) (p .1)) (tails (there ps)) (10 ∷ []), tails-there ps)
-
 line-parts : (w : List ℕ) (ps : List (Bool × List ℕ)) → join (w ∷ there ps) ++ 10 ∷ [] ≡ all (lineParts w ps)
-line-parts w ps = rw (join-tails w (there ps), append-assoc w (tails (there ps)) (10 ∷ []), tails-there ps)
+unfolding glue
+line-parts w [] = refl
+line-parts w ((true, f) ∷ ps) = rw (append-assoc w (9 ∷ join (f ∷ there ps)) (10 ∷ []), line-parts f ps)
+line-parts w ((false, f) ∷ ps) = line-parts w ps
 
 -- that of an event, by the shape of its kind's line
 abbrev pub eventParts : Shape → Event → List (List ℕ)

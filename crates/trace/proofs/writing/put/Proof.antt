@@ -43,7 +43,9 @@ loop-again c =
 
 all-put : (c : tie.After-loop Inv-loop μ-loop) → let s = c .before .before .before .before .before in
     Put (s .args .out .now) (s .args .at) (s .args .bytes .now) (c .before .loop .out) (s .args .at + c .before .loop .i)
-all-put c = let l = c .before in going-end (l .loop .inv) (drop-of-length-le (l .before .before .before .before .args .bytes .now) {i = l .loop .i} (omega arith))
+all-put c =
+    let l = c .before in
+    going-end (l .loop .inv) (drop-of-length-le (l .before .before .before .before .args .bytes .now) {i = l .loop .i} (omega arith))
 
 pub put-spec : {M : Type 1} → statement M
 put-spec =
