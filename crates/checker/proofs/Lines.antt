@@ -5,11 +5,9 @@ use mathlib.Core.Bool.{Bool, true, false, cond, _&&_, false≢true}
 use mathlib.Core.List.{List, [], _∷_}
 use native.Mathlib.Omega.{arith}
 use lib.Dec.{eqb}
-use lib.ListN.{length, take, drop}
-use borrow.Author.Tests.{eqb-true, eqb-false}
-use Rattle.laws.proofs.Cases.{cases, either}
-use Rattle.checker.specs.Line.{counted, nthLine, nthSpan, span, Spans}
-use Rattle.checker.specs.declared.line.Span.{Span}
+use lib.ListN.{length}
+use borrow.Author.Tests.{eqb-false}
+use Rattle.checker.specs.Line.{counted, nthLine, nthSpan, span}
 
 -- there is no line 0
 pub none-zero : (only : Bool) (ls : List (List ℕ)) → nthLine only 0 ls ≡ []

@@ -1,5 +1,4 @@
 -- Two answers that meet the contract of `check`, with the three rooms that they leave, are equal. Assumes nothing.
-use mathlib.Core.Path.{_≡_}
 use mathlib.Core.List.{List}
 use Prim.Native.Nat.{ℕ}
 use Rattle.laws.proofs.Unique.{Unique}

@@ -1,6 +1,6 @@
 -- Line 1 of a text: what it tells of the text's refusal, and of its parts. Assumes nothing.
 use Prim.Native.Nat.{ℕ, _+_, _-_, _≤_}
-use mathlib.Core.Path.{_≡_, refl, sym, _∙_, ap}
+use mathlib.Core.Path.{_≡_, refl, sym, _∙_}
 use mathlib.Core.Bool.{true, false, false≢true}
 use mathlib.Core.List.{List, [], _∷_}
 use native.Mathlib.Omega.{arith}
@@ -10,7 +10,7 @@ use lib.Seq.{length-take-le}
 use borrow.Author.Tests.{ltb-false, le-ltb}
 use Rattle.laws.proofs.Cases.{cases, not-first, not-second}
 use Rattle.laws.proofs.Cases.{side as side-of}
-use Rattle.event.specs.Answer.{answer, done, first}
+use Rattle.event.specs.Answer.{answer, done}
 use Rattle.event.specs.declared.Answer.{Answer}
 use Rattle.frame.proofs.Settled.{first-done}
 use Rattle.text.specs.Line.{lineLen, lineAt, split, splitFrom, body}

@@ -1,8 +1,7 @@
 -- One list of entries has one text: a matching text that is read without refusal has the header and the lines of its entries for parts, and
 -- parts glued together are the text again; and such a text is read as those entries. Assumes nothing.
-use Prim.Native.Nat.{ℕ, suc, _+_, _*_, _≤_, _<_}
+use Prim.Native.Nat.{ℕ, suc, _+_, _*_, _≤_}
 use mathlib.Core.Path.{_≡_, refl, sym, _∙_, ap}
-use mathlib.Core.Bool.{true, false, cond}
 use mathlib.Core.List.{List, [], _∷_, _++_, map}
 use native.Mathlib.Omega.{arith}
 use lib.Dec.{eqb, leb}
@@ -19,7 +18,7 @@ use Rattle.text.proofs.Walk.{Some}
 use Rattle.frame.proofs.Heads.{framed, by-lines}
 use Rattle.frame.proofs.Lines.{lines-pass}
 use Rattle.matching.specs.Entry.{header, entryOf, entryLine}
-use Rattle.matching.specs.Reading.{matchingKind, entryFault, entriesOn, entriesIn, counted, surveyOf, entriesOf}
+use Rattle.matching.specs.Reading.{matchingKind, entryFault, entriesIn, counted, surveyOf, entriesOf}
 use Rattle.matching.specs.Survey.{surveyLines}
 use Rattle.matching.specs.declared.entry.EntryRead.{EntryRead}
 use Rattle.matching.specs.declared.entry.EntryRead.the-variants.{Entry, Refused}

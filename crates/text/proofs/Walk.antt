@@ -1,15 +1,15 @@
 -- The lines of a text by a place in it: the line that starts there, by where it ends, and the lines after it. Assumes nothing.
-use Prim.Native.Nat.{ℕ, suc, _+_, _-_, _≤_, _<_}
+use Prim.Native.Nat.{ℕ, _+_, _-_, _≤_, _<_}
 use mathlib.Core.Path.{_≡_, refl, sym, _∙_, ap}
 use mathlib.Core.Bool.{true, false}
 use mathlib.Core.List.{List, [], _∷_, _++_}
 use native.Mathlib.Omega.{arith}
 use lib.Dec.{ltb}
-use lib.ListN.{length, getD, take, drop, length-drop, drop-of-length-le}
-use lib.Seq.{drop-cons, take-all}
+use lib.ListN.{length, take, drop, length-drop, drop-of-length-le}
+use lib.Seq.{take-all}
 use borrow.Author.Tests.{ltb-true, ltb-false}
 use Rattle.laws.proofs.Cases.{cases, either, side}
-use Rattle.text.specs.Cut.{until, cut, isEmpty}
+use Rattle.text.specs.Cut.{cut, isEmpty}
 use Rattle.text.specs.Line.{lineLen, lineAt, split, splitFrom, body, saidIn}
 use Rattle.text.specs.declared.line.LineStep.the-variants.{Line, TextEnd}
 use Rattle.text.proofs.Cuts.{from-start, from-step, from-in, from-out, until-in}

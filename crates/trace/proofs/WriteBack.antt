@@ -1,6 +1,6 @@
 -- What lines that are read without refusal are: within bounds, all of them, and the prints of what they are read as. The starting values ascend
 -- and are not 0, so that the lines written of the memory that they make are those very lines. Assumes nothing.
-use Prim.Native.Nat.{ℕ, zero, suc, _+_, _-_, _≤_, _<_}
+use Prim.Native.Nat.{ℕ, zero, suc, _+_, _-_, _≤_}
 use mathlib.Core.Path.{_≡_, refl, sym, _∙_, ap}
 use mathlib.Core.List.{List, [], _∷_, _++_, append-assoc, append-nil}
 use native.Mathlib.Omega.{arith}
@@ -9,7 +9,7 @@ use lib.ListN.{length, set, replicate, length-append, length-replicate, length-s
 use lib.Seq.{append-snoc, set-at}
 use borrow.Author.Tests.{ne-eqb, leb-false, ltb-false}
 use Rattle.laws.proofs.Cases.{not-first}
-use Rattle.laws.proofs.Lists.{Each, each-append}
+use Rattle.laws.proofs.Lists.{Each}
 use Rattle.event.specs.declared.Event.{Event}
 use Rattle.text.specs.Line.{saidIn}
 use Rattle.text.proofs.Walk.{Some}

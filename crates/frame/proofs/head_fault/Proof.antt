@@ -1,5 +1,4 @@
 -- Each way out is the definition at its tests. Assumes nothing.
-use mathlib.Core.Path.{sym, _∙_}
 use borrow.Author.Needs.{needs}
 use borrow.Author.Tests.{lt-ltb, le-ltb}
 use Rattle.frame.specs.Reading.{headFault}

@@ -1,10 +1,10 @@
 -- The size and line 1, then the lines after it. Assumes nothing.
 use Prim.Native.Nat.{ℕ}
-use mathlib.Core.Path.{_≡_, sym, _∙_}
+use mathlib.Core.Path.{_≡_, _∙_}
 use mathlib.Core.List.{List}
 use native.Mathlib.Omega.{arith}
 use borrow.Author.Needs.{needs}
-use borrow.Author.Tests.{eq-eqb, ne-eqb}
+use borrow.Author.Tests.{ne-eqb}
 use Rattle.text.proofs.Walk.{body-from}
 use Rattle.frame.specs.Reading.{headFault}
 use Rattle.frame.proofs.Heads.{head-refuses, head-passes, head-length, line-two-in}

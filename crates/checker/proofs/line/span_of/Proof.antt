@@ -3,12 +3,12 @@ use Prim.Native.Nat.{ℕ, _+_, _-_, _≤_}
 use mathlib.Core.List.{List, _∷_}
 use mathlib.Core.Path.{_≡_, sym, _∙_}
 use native.Mathlib.Omega.{arith}
-use lib.ListN.{length, take, drop, length-drop}
+use lib.ListN.{length, drop, length-drop}
 use lib.Seq.{length-take-le}
 use Rattle.text.specs.Line.{split, splitFrom}
 use Rattle.text.proofs.Cuts.{from-start, from-out}
 use Rattle.text.proofs.Walk.{line, parts-line, line-in}
-use Rattle.checker.specs.Line.{nthLine, nthSpan, span, Spans}
+use Rattle.checker.specs.Line.{nthLine, nthSpan}
 use Rattle.checker.proofs.Lines.{none-zero, none-left, line-found, line-passed, left-some, nowhere-zero, nowhere-left, span-found, span-passed}
 use Rattle.checker.proofs.line.span_of.Statement.{statement}
 use Rattle.checker.proofs.line.span_of.Tie as tie

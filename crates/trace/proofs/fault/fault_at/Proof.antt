@@ -1,5 +1,4 @@
 -- Each way out is the definition at its tests. Assumes nothing.
-use mathlib.Core.Path.{refl}
 use borrow.Author.Needs.{needs}
 use borrow.Author.Tests.{eq-eqb, ne-eqb}
 use Rattle.trace.proofs.fault.fault_at.Statement.{statement}

@@ -1,5 +1,4 @@
 -- The way of the event's location is read, then joined. Assumes nothing.
-use native.Mathlib.Omega.{arith}
 use borrow.Author.Needs.{needs}
 use Rattle.trace.proofs.fault.use_place.Statement.{statement}
 use Rattle.trace.proofs.fault.use_place.Tie as tie

@@ -1,7 +1,7 @@
 -- The reading from each line on is that from the next line on, until a line is refused or no LF is left; nothing may stand after the last one.
 -- While no event was at fault, the array says how the events so far used each location; afterwards nothing is asked of it. Assumes nothing.
 use Prim.Native.Nat.{ℕ, _+_, _-_, _≤_, _<_}
-use mathlib.Core.Bool.{Bool, false}
+use mathlib.Core.Bool.{Bool}
 use mathlib.Core.List.{List, [], _∷_}
 use mathlib.Core.Path.{_≡_, refl, sym, _∙_, ap}
 use native.Mathlib.Omega.{arith}
@@ -9,7 +9,6 @@ use borrow.Author.Needs.{needs}
 use borrow.Author.Tests.{ne-eqb}
 use lib.ListN.{length, take, drop, length-set, drop-of-length-le}
 use Rattle.event.specs.Answer.{first}
-use Rattle.event.specs.Memory.{stepped}
 use Rattle.event.specs.declared.Answer.{Answer}
 use Rattle.event.specs.declared.Event.{Event}
 use Rattle.event.specs.declared.memory.Memory.{Memory}
@@ -25,7 +24,6 @@ use Rattle.record.proofs.Records.{line-lawful}
 use Rattle.trace.specs.Fault.{clashes, faultAt}
 use Rattle.trace.specs.Reading.{refused}
 use Rattle.trace.specs.Survey.{surveyEvents}
-use Rattle.trace.specs.Way.{clashing, waysAfter}
 use Rattle.trace.specs.declared.reading.TraceRead.{TraceRead}
 use Rattle.trace.proofs.Judged.{fault-free}
 use Rattle.trace.proofs.Surveys.{surveyOn, on-start, on-open, on-found, on-end, on-bad, on-init, on-full, on-go}
