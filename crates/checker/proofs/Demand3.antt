@@ -38,13 +38,13 @@ module _ (side : ℕ) (t room : List ℕ) (z : readOf side t room .answer .numbe
   survey : surveyOf side t .answer .number ≡ 0
   survey = rw (read-passed side t room z) at z
 
-  cells : length (readOf side t room .memory .cells) ≡ 256
+  pub cells : length (readOf side t room .memory .cells) ≡ 256
   cells = rw (read-passed side t room z) (text-whole side t survey .fits .size)
 
   events : T (right (readOf side t room .memory) (eventsOf t))
   events = rw (read-passed side t room z) (right-of side 1 _ [] (eventsOf t) (text-whole side t survey .sound))
 
-read-all : (l : Lent) → readingAnswer l .number ≡ 0 → (sourceRead l .answer .number ≡ 0) × (targetRead l .answer .number ≡ 0)
+pub read-all : (l : Lent) → readingAnswer l .number ≡ 0 → (sourceRead l .answer .number ≡ 0) × (targetRead l .answer .number ≡ 0)
 unfolding readingAnswer
 read-all l h = let p = first-done _ _ h in (p .0, first-done _ _ (p .1) .0)
 
@@ -61,7 +61,7 @@ passes l a =
       entries = a .entries;
     }
 
-judged : (l : Lent) → readingAnswer l .number ≡ 0 → checkOf l .answer ≡ verdictOf l
+pub judged : (l : Lent) → readingAnswer l .number ≡ 0 → checkOf l .answer ≡ verdictOf l
 unfolding checkOf
 judged l z = rw z
 

@@ -4,4 +4,5 @@ pub mod Lines
 pub mod Answers
 pub mod Filled
 pub mod Demand3
+pub mod Admitted
 pub mod Unique

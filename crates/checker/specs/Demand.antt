@@ -35,6 +35,13 @@ pub record Admitted (l : Lent) : Type 0 where
   pub count : countAnswer (sourceOf l) (entriesFor l) ≡ done
   pub entries : entryAnswer (length (targetOf l)) 1 [] (entriesFor l) ≡ done
 
+-- The same by what the check answers.
+abbrev pub premise : List ℕ
+premise = 1 ∷ 2 ∷ 3 ∷ 4 ∷ 5 ∷ 6 ∷ 7 ∷ 8 ∷ 9 ∷ 17 ∷ []
+
+abbrev pub AdmittedExactly : Type 0
+AdmittedExactly = (l : Lent) → Admitted l ↔ (has (checkOf l .answer .number) premise ≡ false)
+
 -- "is accepted exactly when some finite run of allowed removals and swaps, then allowed insertions and swaps, turns the source into the target (load
 -- marks apart), keeps what it keeps, each at its target number, and removes what it calls gone".
 abbrev pub AcceptedExactly : Type 0

@@ -9,6 +9,7 @@ pub mod ReadBack
 pub mod WriteBack
 pub mod OneText
 pub mod Cycle
+pub mod Answers
 pub mod Unique
 pub mod Puts
 pub mod Judged
