@@ -1,14 +1,30 @@
--- Two answers that meet the contract of `check`, with the three rooms that they leave, are equal. Assumes nothing.
-use mathlib.Core.List.{List}
-use Prim.Native.Nat.{ℕ}
-use Rattle.laws.proofs.Unique.{Unique}
-use Rattle.checker.specs.Check.{Lent, Checks}
-use Rattle.checker.specs.declared.Checked.{Checked}
+-- One answer and one room to each contract of a public function, each over the contract itself. Assumes nothing.
+use mathlib.Core.Path.{sym, _∙_}
+use Rattle.laws.specs.Unique.{OneAnswer, OneOf}
+use Rattle.checker.proofs.check.Reads as check
+use Rattle.checker.proofs.line.offending_span.Reads as offending-span
+use Rattle.checker.proofs.line.offending_line.Reads as offending-line
 
--- A result, and the rooms of the source, the target and the entries afterwards.
-abbrev Left : Type 0
-Left = Checked × (List ℕ × (List ℕ × List ℕ))
+check-one : OneAnswer check.Post
+check-one κ a x y s t h k = h .result ∙ sym (k .result)
 
-pub check-unique : (l : Lent) → Unique (λ (o : Left). Checks l (o .0) (o .1 .0) (o .1 .1 .0) (o .1 .1 .1))
-check-unique l a b h k =
-    rw (h .result, h .source, h .target, h .entries, k .result, k .source, k .target, k .entries)
+check-source : OneOf check.Post (λ κ r s. s .1 .1 .1 .0 .now)
+check-source κ a x y s t h k = h .source ∙ sym (k .source)
+
+check-target : OneOf check.Post (λ κ r s. s .1 .1 .1 .1 .0 .now)
+check-target κ a x y s t h k = h .target ∙ sym (k .target)
+
+check-entries : OneOf check.Post (λ κ r s. s .1 .1 .1 .1 .1 .0 .now)
+check-entries κ a x y s t h k = h .entries ∙ sym (k .entries)
+
+offending-span-one : OneAnswer offending-span.Post
+offending-span-one κ a x y s t h k = h .1 ∙ sym (k .1)
+
+offending-line-bytes : OneOf offending-line.Post (λ κ r s. r .now)
+offending-line-bytes κ a x y s t h k = h .0 ∙ sym (k .0)
+
+offending-line-block : OneOf offending-line.Post (λ κ r s. r .ptr .0)
+offending-line-block κ a x y s t h k = h .1 .0 ∙ sym (k .1 .0)
+
+offending-line-place : OneOf offending-line.Post (λ κ r s. r .ptr .1)
+offending-line-place κ a x y s t h k = h .1 .1 ∙ sym (k .1 .1)

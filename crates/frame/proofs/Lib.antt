@@ -4,3 +4,4 @@ pub mod Lines
 pub mod Settled
 pub mod Stores
 pub mod Answers
+pub mod Unique

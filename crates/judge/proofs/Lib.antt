@@ -11,3 +11,4 @@ pub mod Events
 pub mod Arrays
 pub mod Closed
 pub mod Tallied
+pub mod Unique

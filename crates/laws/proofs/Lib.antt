@@ -2,4 +2,3 @@
 pub mod Cases
 pub mod Bools
 pub mod Lists
-pub mod Unique

@@ -5,3 +5,4 @@ pub mod Taking
 pub mod Layouts
 pub mod Records
 pub mod Prints
+pub mod Unique

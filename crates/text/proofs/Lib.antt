@@ -10,3 +10,4 @@ pub mod Takes
 pub mod Words
 pub mod Writes
 mod Samples
+pub mod Unique

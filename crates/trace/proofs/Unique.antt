@@ -1,10 +1,25 @@
--- Two answers that meet the contract of `read`, with the rooms that they leave, are equal: it says by an equation what each is. Assumes nothing.
-use mathlib.Core.Path.{_≡_}
-use mathlib.Core.List.{List}
-use Prim.Native.Nat.{ℕ}
-use Rattle.laws.proofs.Unique.{Unique, both}
-use Rattle.trace.specs.Reading.{readOf, roomAfter}
-use Rattle.trace.specs.declared.reading.TraceRead.{TraceRead}
+-- One answer and one room to each contract of a public function, each over the contract itself. Assumes nothing.
+use mathlib.Core.Path.{sym, _∙_}
+use Rattle.laws.specs.Unique.{OneAnswer, OneOf}
+use Rattle.trace.proofs.read.Reads as read
+use Rattle.trace.proofs.write.Reads as write
+use Rattle.trace.proofs.reading.survey_in.Reads as survey-in
+use Rattle.trace.proofs.reading.store.Reads as store
 
-pub read-unique : (t room : List ℕ) → Unique (λ (o : TraceRead × List ℕ). (o .0 ≡ readOf 1 t room) × (o .1 ≡ roomAfter 1 t room))
-read-unique t room = both (readOf 1 t room) (roomAfter 1 t room)
+read-one : OneAnswer read.Post
+read-one κ a x y s t h k = h .0 ∙ sym (k .0)
+
+read-room : OneOf read.Post (λ κ r s. s .1 .0 .now)
+read-room κ a x y s t h k = h .1 ∙ sym (k .1)
+
+write-one : OneAnswer write.Post
+write-one κ a x y s t h k = h .0 ∙ sym (k .0)
+
+write-room : OneOf write.Post (λ κ r s. s .1 .1 .0 .now)
+write-room κ a x y s t h k = h .1 ∙ sym (k .1)
+
+survey-in-one : OneAnswer survey-in.Post
+survey-in-one κ a x y s t h k = h ∙ sym k
+
+store-room : OneOf store.Post (λ κ r s. s .1 .0 .now)
+store-room κ a x y s t h k = h ∙ sym k

@@ -61,8 +61,3 @@ module _ (m : Memory) (room out : List ℕ) where
         let o : 0 + length (traceText m (onward room 0 n)) ≡ length (traceText m (onward room 0 n)) = omega arith in
         rw (z, ← c, ← s, le-leb size (length out) h)
         (q, p .stored ∙ sets-eq (traceText m (onward room 0 n)) out 0 (omega arith) ∙ rw (s, o))
-
-  -- two answers that meet the contract are equal
-  pub write-unique : {r s : Answer} {out₁ out₂ : List ℕ} → (r ≡ writeOf m room out) × (out₁ ≡ outAfter m room out)
-      → (s ≡ writeOf m room out) × (out₂ ≡ outAfter m room out) → (r ≡ s) × (out₁ ≡ out₂)
-  write-unique p q = (p .0 ∙ sym (q .0), p .1 ∙ sym (q .1))

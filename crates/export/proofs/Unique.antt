@@ -1,0 +1,51 @@
+-- One answer and one room to each contract of a public function, each over the contract itself. Assumes nothing.
+use mathlib.Core.Path.{ap, sym, _∙_}
+use Rattle.checker.specs.declared.line.Span.{Span}
+use Rattle.laws.specs.Unique.{OneOf}
+use Rattle.export.proofs.laprunto_read_trace.Reads as read-trace
+use Rattle.export.proofs.laprunto_read_matching.Reads as read-matching
+use Rattle.export.proofs.laprunto_write_trace.Reads as write-trace
+use Rattle.export.proofs.laprunto_check.Reads as check
+use Rattle.export.proofs.laprunto_offending_line.Reads as offending-line
+
+read-trace-result : OneOf read-trace.Post (λ κ r s. s .1 .1 .1 .0 .now)
+read-trace-result κ a x y s t h k = h .0 ∙ sym (k .0)
+
+read-trace-memory : OneOf read-trace.Post (λ κ r s. s .1 .1 .0 .now)
+read-trace-memory κ a x y s t h k = h .1 .0 ∙ sym (k .1 .0)
+
+read-trace-room : OneOf read-trace.Post (λ κ r s. s .1 .0 .now)
+read-trace-room κ a x y s t h k = h .1 .1 ∙ sym (k .1 .1)
+
+read-matching-result : OneOf read-matching.Post (λ κ r s. s .1 .1 .0 .now)
+read-matching-result κ a x y s t h k = h .0 ∙ sym (k .0)
+
+read-matching-room : OneOf read-matching.Post (λ κ r s. s .1 .0 .now)
+read-matching-room κ a x y s t h k = h .1 ∙ sym (k .1)
+
+write-trace-result : OneOf write-trace.Post (λ κ r s. s .1 .1 .1 .0 .now)
+write-trace-result κ a x y s t h k = h .0 ∙ sym (k .0)
+
+write-trace-bytes : OneOf write-trace.Post (λ κ r s. s .1 .1 .0 .now)
+write-trace-bytes κ a x y s t h k = h .1 ∙ sym (k .1)
+
+check-result : OneOf check.Post (λ κ r s. s .1 .1 .1 .1 .1 .1 .1 .1 .0 .now)
+check-result κ a x y s t h k = h .numbers ∙ sym (k .numbers)
+
+check-source-memory : OneOf check.Post (λ κ r s. s .1 .1 .1 .1 .1 .1 .0 .now)
+check-source-memory κ a x y s t h k = h .sourceStart ∙ sym (k .sourceStart)
+
+check-target-memory : OneOf check.Post (λ κ r s. s .1 .1 .1 .1 .1 .1 .1 .0 .now)
+check-target-memory κ a x y s t h k = h .targetStart ∙ sym (k .targetStart)
+
+check-source-room : OneOf check.Post (λ κ r s. s .1 .1 .1 .0 .now)
+check-source-room κ a x y s t h k = h .sourceEvents ∙ sym (k .sourceEvents)
+
+check-target-room : OneOf check.Post (λ κ r s. s .1 .1 .1 .1 .0 .now)
+check-target-room κ a x y s t h k = h .targetEvents ∙ sym (k .targetEvents)
+
+check-entry-room : OneOf check.Post (λ κ r s. s .1 .1 .1 .1 .1 .0 .now)
+check-entry-room κ a x y s t h k = h .entries ∙ sym (k .entries)
+
+offending-line-span : OneOf offending-line.Post (λ κ r s. (s .1 .1 .1 .1 .1 .0 .now, s .1 .1 .1 .1 .1 .1 .0 .now))
+offending-line-span κ a x y s t h k = ap (λ (p : Span). (p .from, p .to)) (h .1 ∙ sym (k .1))

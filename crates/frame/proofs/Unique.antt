@@ -1,0 +1,7 @@
+-- One answer and one room to each contract of a public function, each over the contract itself. Assumes nothing.
+use mathlib.Core.Path.{sym, _∙_}
+use Rattle.laws.specs.Unique.{OneAnswer}
+use Rattle.frame.proofs.head_fault.Reads as head-fault
+
+head-fault-one : OneAnswer head-fault.Post
+head-fault-one κ a x y s t h k = h ∙ sym k

@@ -1,0 +1,15 @@
+-- One answer and one room to each contract of a public function, each over the contract itself. Assumes nothing.
+use mathlib.Core.Path.{sym, _∙_}
+use Rattle.laws.specs.Unique.{OneAnswer, OneOf}
+use Rattle.record.proofs.record_of.Reads as record-of
+use Rattle.record.proofs.shape.shape_of.Reads as shape-of
+use Rattle.record.proofs.word.word_in.Reads as word-in
+
+record-of-one : OneAnswer record-of.Post
+record-of-one κ a x y s t h k = h ∙ sym k
+
+shape-of-one : OneAnswer shape-of.Post
+shape-of-one κ a x y s t h k = h ∙ sym k
+
+word-in-one : OneOf word-in.Post (λ κ r s. r .now)
+word-in-one κ a x y s t h k = h ∙ sym k
