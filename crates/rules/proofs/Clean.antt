@@ -67,18 +67,19 @@ Faithful t [] ns = Unit {0}
 Faithful t (e ∷ s) [] = Unit {0}
 Faithful t (e ∷ s) (n ∷ ns) = T (not (unlike t e (fate n))) × Faithful t s ns
 
+-- no source event shows a fault
+pub record Clean (view : Event → View) (t : List Event) (b : List Item) (s : List Event) (ns : List ℕ) : Type 0 where
+  pub faithful : Faithful t s ns
+  pub sound : Sound b (items view s ns)
+  pub ordered : Ordered b (items view s ns)
+
 module _ (view : Event → View) where
   -- ---- the source
 
   -- no fault 10 to 14 at a source event
-  abbrev pub Clean₁ : List Event → List Item → Event → ℕ → List Item → Type 0
+  abbrev Clean₁ : List Event → List Item → Event → ℕ → List Item → Type 0
   Clean₁ t b e n a =
       T (not (unlike t e (fate n))) × Sound₁ b (item (view e) (fate n)) a × Each (λ y. Clash y (item (view e) (fate n))) b
-
-  abbrev pub Clean : List Event → List Item → List Event → List ℕ → Type 0
-  Clean t b [] ns = Unit {0}
-  Clean t b (e ∷ s) [] = Unit {0}
-  Clean t b (e ∷ s) (n ∷ ns) = Clean₁ t b e n (items view s ns) × Clean t (item (view e) (fate n) ∷ b) s ns
 
   module _ (t : List Event) (b : List Item) (e : Event) (n : ℕ) (a : List Item) where
     abbrev x : Item
@@ -101,25 +102,27 @@ module _ (view : Event → View) where
         (pass (unlike t e (fate n)) _ _ (f .0) (pass (wallGone x) _ _ (l .0) (pass (crossed b x) _ _ (crossed? b x .1 (f .2)) tt)))
         (pass (loadGone b x) _ _ (l .1) (pass (storeGone b x a) _ _ (l .2) tt))
 
-  pub source-clean : (t : List Event) (i : ℕ) (b : List Item) (s : List Event) (ns : List ℕ) → T (eqb (sourceAnswer view t i b s ns .number) 0) → Clean t b s ns
+  pub source-clean : (t : List Event) (i : ℕ) (b : List Item) (s : List Event) (ns : List ℕ) → T (eqb (sourceAnswer view t i b s ns .number) 0)
+      → Clean view t b s ns
   unfolding sourceAnswer
-  source-clean t i b [] ns h = tt
-  source-clean t i b (e ∷ s) [] h = tt
+  source-clean t i b [] ns h = record { faithful = tt; sound = tt; ordered = tt }
+  source-clean t i b (e ∷ s) [] h = record { faithful = tt; sound = tt; ordered = tt }
   source-clean t i b (e ∷ s) (n ∷ ns) h =
       let x = item (view e) (fate n) in
-      let k = sourceFault t b e x (items view s ns) in
-      let q = onward (eqb k 0) _ (sourceAnswer view t (suc i) (x ∷ b) s ns) refl h in
-      (clean₁ t b e n (items view s ns) (q .0), source-clean t (suc i) (x ∷ b) s ns (q .1))
+      let q = onward (eqb (sourceFault t b e x (items view s ns)) 0) _ (sourceAnswer view t (suc i) (x ∷ b) s ns) refl h in
+      let f = clean₁ t b e n (items view s ns) (q .0) in
+      let r = source-clean t (suc i) (x ∷ b) s ns (q .1) in
+      record { faithful = (f .0, r .faithful); sound = (f .1, r .sound); ordered = (f .2, r .ordered) }
 
-  pub clean-source : (t : List Event) (i : ℕ) (b : List Item) (s : List Event) (ns : List ℕ) → Clean t b s ns → sourceAnswer view t i b s ns ≡ done
+  pub clean-source : (t : List Event) (i : ℕ) (b : List Item) (s : List Event) (ns : List ℕ) → Clean view t b s ns → sourceAnswer view t i b s ns ≡ done
   unfolding sourceAnswer
   clean-source t i b [] ns h = refl
   clean-source t i b (e ∷ s) [] h = refl
   clean-source t i b (e ∷ s) (n ∷ ns) h =
       let x = item (view e) (fate n) in
       let k = sourceFault t b e x (items view s ns) in
-      taken (sourceAnswer view t (suc i) (x ∷ b) s ns) _ (eqb k 0) (clean₁′ t b e n (items view s ns) (h .0))
-      ∙ clean-source t (suc i) (x ∷ b) s ns (h .1)
+      taken (sourceAnswer view t (suc i) (x ∷ b) s ns) _ (eqb k 0) (clean₁′ t b e n (items view s ns) (h .faithful .0, h .sound .0, h .ordered .0))
+      ∙ clean-source t (suc i) (x ∷ b) s ns (record { faithful = h .faithful .1; sound = h .sound .1; ordered = h .ordered .1 })
 
   -- ---- the target
 
@@ -144,19 +147,3 @@ module _ (view : Event → View) where
       let f = targetFault (e .kind) b x in
       taken (targetAnswer view ns (suc k) (x ∷ b) t) _ (eqb f 0) (pass (unsupported b x) _ _ (extra? b x .1 (h .0)) tt)
       ∙ clean-target ns (suc k) (x ∷ b) t (h .1)
-
-  -- ---- the source's faults, each kind by itself
-
-  pub split : (t : List Event) (b : List Item) (s : List Event) (ns : List ℕ) → Clean t b s ns
-      → Faithful t s ns × Sound b (items view s ns) × Ordered b (items view s ns)
-  split t b [] ns h = (tt, tt, tt)
-  split t b (e ∷ s) [] h = (tt, tt, tt)
-  split t b (e ∷ s) (n ∷ ns) h =
-      let r = split t (item (view e) (fate n) ∷ b) s ns (h .1) in
-      ((h .0 .0, r .0), (h .0 .1, r .1), (h .0 .2, r .2))
-
-  pub merge : (t : List Event) (b : List Item) (s : List Event) (ns : List ℕ) → Faithful t s ns → Sound b (items view s ns)
-      → Ordered b (items view s ns) → Clean t b s ns
-  merge t b [] ns f g o = tt
-  merge t b (e ∷ s) [] f g o = tt
-  merge t b (e ∷ s) (n ∷ ns) f g o = ((f .0, g .0, o .0), merge t (item (view e) (fate n) ∷ b) s ns (f .1) (g .1) (o .1))

@@ -18,7 +18,7 @@ use Rattle.rules.proofs.Place.{Agrees}
 use Rattle.rules.proofs.Matching.{Alike}
 use Rattle.rules.proofs.Chain.{all-ins, all-ones}
 use Rattle.rules.proofs.Canonical.{canonical}
-use Rattle.rules.proofs.Clean.{Clean, Faithful, merge, placeds, split}
+use Rattle.rules.proofs.Clean.{Clean, Faithful, placeds}
 use Rattle.rules.proofs.Entries.{Entries, from-start}
 use Rattle.rules.proofs.Target.{Given, kept}
 use Rattle.rules.proofs.Image.{Over, run-over, over-nil, by-views}
@@ -69,9 +69,9 @@ module _ (view : Event → View) (alike : (e f : Event) → T (same e f) → Ali
   -- without faults
   pub in-order : Faultfree view s t ns → FixedOrder view s t ns
   in-order f =
-      let r = split view t [] s ns (f .at-source) in
-      let o = orderly-of (items view s ns) (r .2) in
-      let c = canonical (items view s ns) (placeds view ns 1 t) (given (r .0)) (record { lost = r .1; order = o; extra = f .at-target }) in
+      let r = f .at-source in
+      let o = orderly-of (items view s ns) (r .ordered) in
+      let c = canonical (items view s ns) (placeds view ns 1 t) (given (r .faithful)) (record { lost = r .sound; order = o; extra = f .at-target }) in
       let w = by-views (Shows view s t ns) (viewed view) viewOf (shows-view view s t ns) Inserted New in
       let a = lasts-over w (Leaves view s t ns) Gone (shows-gone view s t ns) (c .2 .removing) started in
       let b = lows-over w (Overtakes view s t ns) Above (shows-above view s t ns) (c .2 .sorting) (a .2) in
@@ -79,7 +79,7 @@ module _ (view : Event → View) (alike : (e f : Event) → T (same e f) → Ali
       record {
         last = d .0;
         order = record { kept = a .0; sorted = b .0; removing = a .1; sorting = b .1; inserting = d .1 };
-        ends-there = ends view s t ns (ready .entries .used-once) (faithful-at t s ns (ready .entries .many) (r .0)) 0 t (d .2) (c .1) (from-start noEvent t);
+        ends-there = ends view s t ns (ready .entries .used-once) (faithful-at t s ns (ready .entries .many) (r .faithful)) 0 t (d .2) (c .1) (from-start noEvent t);
         genuine = genuines view s t ns (d .2);
         orderly = orderly-over w (Overtakes view s t ns) Above (shows-above view s t ns) started o;
       }
@@ -105,6 +105,6 @@ module _ (view : Event → View) (alike : (e f : Event) → T (same e f) → Ali
       let v = run-over w (has-item view s t ns) run (turn view s t ns started) in
       let g = faultless (items view s ns) (placeds view ns 1 t) (given f) (v .0, likes view s t ns alike 0 t (v .2) (r .2), v .1) in
       record {
-        at-source = merge view t [] s ns f (g .lost) (ordered-of [] (items view s ns) tt (g .order));
+        at-source = record { faithful = f; sound = g .lost; ordered = ordered-of [] (items view s ns) tt (g .order) };
         at-target = g .extra;
       }
