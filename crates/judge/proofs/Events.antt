@@ -9,7 +9,7 @@ use lib.ListN.{length, getD, drop}
 use lib.Seq.{drop-cons}
 use borrow.Author.Tests.{le-ltb}
 use Rattle.laws.proofs.Cases.{cases, side}
-use Rattle.event.specs.Room.{eventAt, onward, noEvent}
+use Rattle.event.specs.Room.{Placed, eventAt, onward, noEvent}
 use Rattle.event.specs.declared.Event.{Event}
 
 module _ (l : List ℕ) where
@@ -39,6 +39,10 @@ module _ (l : List ℕ) where
   pub onward-next : (n i : ℕ) (e : Event) → i < n → e ≡ eventAt l i → onward l i (n - i) ≡ e ∷ onward l (i + 1) (n - (i + 1))
   unfolding onward
   onward-next n i e h q = let m : n - i ≡ suc (n - (i + 1)) = omega arith in rw (m, q)
+
+  -- a room whose places are below 256, and an index that is an event's place
+  pub place-in : Placed l → (i : ℕ) → i < length l / 6 → (e : Event) → e ≡ eventAt l i → {p : ℕ} → p ≡ e .place → p < 256
+  place-in placed i h e q r = rw (r, q) (placed i h)
 
   pub onward-length : (i n : ℕ) → length (onward l i n) ≡ n
   unfolding onward

@@ -5,7 +5,7 @@ use mathlib.Core.Logic.{_≢_}
 use mathlib.Core.Bool.{Bool, true, false, not, cond, _&&_, _||_}
 use mathlib.Core.List.{List, _∷_}
 use Prim.Native.Nat.{ℕ, suc}
-use lib.Dec.{eqb·suc-zero, T, eqb, ltb, eqb-refl}
+use lib.Dec.{T, eqb, ltb, eqb-refl}
 use borrow.Author.Tests.{ne-eqb}
 use Rattle.event.specs.Kind.{has}
 use Rattle.event.specs.Answer.{answer}
@@ -44,10 +44,10 @@ module _ (view : Event → View) where
     unfolding sourceAnswer
     source-goes h = rw h
 
-    pub source-stops : (k : ℕ) → sourceFault t b e (item (view e) (fate n)) (items view s ns) ≡ suc k
-        → sourceAnswer view t i b (e ∷ s) (n ∷ ns) ≡ answer (suc k) 1 i
+    pub source-stops : {k : ℕ} → (k ≡ 0 → ⊥) → sourceFault t b e (item (view e) (fate n)) (items view s ns) ≡ k
+        → sourceAnswer view t i b (e ∷ s) (n ∷ ns) ≡ answer k 1 i
     unfolding sourceAnswer
-    source-stops k h = rw (h, eqb·suc-zero)
+    source-stops {k} z h = rw (h, ne-eqb k 0 z)
 
   -- 15, 16
   module _ (ns : List ℕ) (k : ℕ) (b : List Item) (e : Event) (t : List Event) where
@@ -56,6 +56,6 @@ module _ (view : Event → View) where
     unfolding targetAnswer
     target-goes h = rw h
 
-    pub target-stops : (f : ℕ) → targetFault (e .kind) b (placed view ns k e) ≡ suc f → targetAnswer view ns k b (e ∷ t) ≡ answer (suc f) 2 k
+    pub target-stops : {f : ℕ} → (f ≡ 0 → ⊥) → targetFault (e .kind) b (placed view ns k e) ≡ f → targetAnswer view ns k b (e ∷ t) ≡ answer f 2 k
     unfolding targetAnswer
-    target-stops f h = rw (h, eqb·suc-zero)
+    target-stops {f} z h = rw (h, ne-eqb f 0 z)

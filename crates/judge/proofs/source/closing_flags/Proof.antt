@@ -3,15 +3,15 @@
 use Prim.Native.Nat.{ℕ, _+_, _-_, _/_, _≤_, _<_}
 use mathlib.Core.Bool.{Bool, true, false}
 use mathlib.Core.List.{List, _∷_}
-use mathlib.Core.Path.{_≡_, refl, sym, _∙_, ap}
+use mathlib.Core.Path.{_≡_, refl, sym, _∙_}
 use native.Mathlib.Omega.{arith}
 use lib.ListN.{length, getD, set, replicate, length-set}
 use Rattle.event.specs.declared.Event.{Event}
-use Rattle.event.specs.Room.{eventAt}
 use Rattle.rules.specs.View.{view, isWall}
 use Rattle.rules.specs.Fault.{Item, fate, item}
 use Rattle.judge.specs.Pass.{closingAt, itemsFrom}
 use Rattle.judge.proofs.Closed.{Closed, closed-is, closed-plain, closed-start, closed-wall, flag-is, flags-next, items-before, items-end}
+use Rattle.judge.proofs.Events.{place-in}
 use Rattle.judge.proofs.Passes.{plain}
 use Rattle.judge.proofs.Sight.{sees}
 use Rattle.judge.proofs.source.closing_flags.Statement.{statement}
@@ -57,11 +57,8 @@ module _ (c : tie.After-index-of Inv-loop μ-loop) where
   abbrev behind : List Item
   behind = itemsFrom room entries (turn .loop .i)
 
-  place-in : c .index-of .result < 256
-  place-in =
-      let p : eventAt room index .place < 256 = begin .pre .1 .0 index (omega arith) in
-      let q : event .place ≡ eventAt room index .place = ap (λ (e : Event). e .place) (c .before .get .ensures) in
-      omega (arith, c .index-of .ensures)
+  in-room : c .index-of .result < 256
+  in-room = place-in room (begin .pre .1 .0) index (omega arith) event (c .before .get .ensures) (c .index-of .ensures)
 
   step : turn .loop .i ≡ index + 1
   step = omega arith
@@ -72,7 +69,7 @@ module _ (c : tie.After-index-of Inv-loop μ-loop) where
   flags-are : (k : ℕ) → index ≤ k → k < length room / 6 → getD (set (turn .loop .flags) index was) k false ≡ closingAt room entries k
   flags-are =
       flags-next (turn .loop .flags) (closingAt room entries) index (length room / 6) step (omega arith)
-      (flag-is room entries index event step (c .before .get .ensures) (c .index-of .ensures) (turn .loop .inv .closed (c .index-of .result) place-in))
+      (flag-is room entries index event step (c .before .get .ensures) (c .index-of .ensures) (turn .loop .inv .closed (c .index-of .result) in-room))
       (turn .loop .inv .flagged)
 
   passed : (cells : List Bool) → length cells ≡ 256 → Closed cells (item (view event) (fate entry) ∷ behind)
@@ -114,7 +111,7 @@ loop-again-2 c =
     let t = turn a .loop in
     passed a _ (simp length-set (t .inv .closing-size))
     (closed-plain (plain (sees (event a)) (wall-is w (c .before .before .before .if1 .left))) (entry a) (behind a) (t .closing) (a .index-of .ensures)
-    (place-in a) (t .inv .closing-size) (t .inv .closed) (c .before .before .is-load .ensures) (c .closing-after .ensures))
+    (in-room a) (t .inv .closing-size) (t .inv .closed) (c .before .before .is-load .ensures) (c .closing-after .ensures))
 
 pub closing-flags-spec : {M : Type 1} → statement M
 closing-flags-spec =
@@ -126,7 +123,7 @@ closing-flags-spec =
     (λ c. omega arith)
     (λ c κs. tt)
     (λ c κs. tt)
-    (λ c. place-in c)
+    (λ c. in-room c)
     (λ c. omega arith)
     (λ c κs. tt)
     (λ c. omega arith)
@@ -135,7 +132,7 @@ closing-flags-spec =
     (λ c. omega arith)
     (λ c. omega arith)
     (λ c κs. tt)
-    (λ c. place-in (c .before .before .before .before .before))
+    (λ c. in-room (c .before .before .before .before .before))
     (λ c. omega arith)
     loop-again-2
     (λ c k h. c .before .loop .inv .flagged k (omega arith) h))

@@ -1,23 +1,23 @@
 -- From each source event on the answer is that from the next event on, until an event is refused or none is left. The arrays and the greatest numbers
 -- are the tallies of the events passed, and with the event's flag they hold all that its fault asks. Assumes nothing.
-use Prim.Native.Nat.{ℕ, suc, zero, _+_, _-_, _/_, _≤_, _<_}
+use Prim.Native.Nat.{ℕ, _+_, _-_, _/_, _≤_, _<_}
 use mathlib.Core.Bool.{Bool, false, cond}
 use mathlib.Core.Option.{some}
 use mathlib.Core.List.{List, [], _∷_}
-use mathlib.Core.Path.{_≡_, refl, sym, _∙_, ap}
+use mathlib.Core.Path.{_≡_, refl, sym, _∙_}
 use native.Mathlib.Numerals.{add-one}
 use native.Mathlib.Omega.{arith}
 use lib.ListN.{length, getD, drop}
-use Rattle.event.specs.Answer.{answer, done}
+use Rattle.event.specs.Answer.{done}
 use Rattle.event.specs.declared.Answer.{Answer}
 use Rattle.event.specs.declared.Event.{Event}
 use Rattle.event.specs.Room.{eventAt, onward}
 use Rattle.rules.specs.View.{View, view, isLoad, isWall}
 use Rattle.rules.specs.Fault.{Item, closing, fate, group, item}
-use Rattle.rules.specs.Verdict.{items, sourceAnswer, sourceFault}
+use Rattle.rules.specs.Verdict.{sourceAnswer, sourceFault}
 use Rattle.judge.specs.Pass.{closingAt, itemsFrom, takesOver, witnessOf, witnessed}
 use Rattle.judge.specs.declared.source.Witness.{Witness}
-use Rattle.judge.proofs.Events.{drop-next, onward-next}
+use Rattle.judge.proofs.Events.{drop-next, onward-next, place-in}
 use Rattle.judge.proofs.Onward.{source-goes, source-stops}
 use Rattle.judge.proofs.Passes.{plain}
 use Rattle.judge.proofs.Sight.{sees, sees-at}
@@ -51,11 +51,6 @@ abbrev μ-loop : tie.MeasureT-loop
 flag-told : (l ns : List ℕ) (j : ℕ) (e : Event) {p : ℕ} {w : Bool} → w ≡ closingAt l ns j → e ≡ eventAt l j → p ≡ e .place
     → w ≡ closing (group p (itemsFrom l ns (j + 1)))
 flag-told l ns j e g q h = g ∙ rw (h, q)
-
-stops : (t : List Event) (i : ℕ) (b : List Item) (e : Event) (s : List Event) (k : ℕ) (ns : List ℕ) (n : ℕ) → (n ≡ 0 → ⊥)
-    → sourceFault t b e (item (view e) (fate k)) (items view s ns) ≡ n → sourceAnswer view t i b (e ∷ s) (k ∷ ns) ≡ answer n 1 i
-stops t i b e s k ns zero z h = absurd (z refl)
-stops t i b e s k ns (suc n) z h = source-stops view t i b e s k ns n h
 
 none-left : (t : List Event) (k : ℕ) (b : List Item) (l : List ℕ) (i n : ℕ) (ns : List ℕ) → n ≡ 0 → sourceAnswer view t k b (onward l i n) ns ≡ done
 unfolding onward sourceAnswer
@@ -113,11 +108,8 @@ module _ (c : tie.After-index-of Inv-loop μ-loop) where
         drop-next entries index entry (omega arith) refl,
       )
 
-  place-in : c .index-of .result < 256
-  place-in =
-      let p : eventAt room index .place < 256 = begin .pre .1 .0 index (omega arith) in
-      let q : event .place ≡ eventAt room index .place = ap (λ (e : Event). e .place) (c .before .before .get .ensures) in
-      omega (arith, c .index-of .ensures)
+  in-room : c .index-of .result < 256
+  in-room = place-in room (begin .pre .1 .0) index (omega arith) event (c .before .before .get .ensures) (c .index-of .ensures)
 
   few : index < 800
   few = omega arith
@@ -134,7 +126,7 @@ module _ (c : tie.After-event-fault Inv-loop μ-loop) where
   told =
       fault-at (events (target (at c))) (event (at c)) (behind (at c)) (ahead (at c)) _ _ _ (entry (at c))
       (sees-at (event (at c)) (at c .index-of .ensures))
-      (right (turn (at c) .loop .inv .tallied) (ahead (at c)) (at c .index-of .result) (place-in (at c)) (flag-is (at c))
+      (right (turn (at c) .loop .inv .tallied) (ahead (at c)) (at c .index-of .result) (in-room (at c)) (flag-is (at c))
       (c .before .before .new2 .ensures) (c .before .before .before .before .new .ensures) (c .before .new3 .ensures))
       ∙ sym (c .event-fault .ensures)
 
@@ -161,7 +153,7 @@ loop-holds c =
 returns : tie.Need-returns Inv-loop μ-loop
 returns c =
     let f = c .before .before in
-    c .new4 .ensures ∙ sym (from-here (at f) ∙ stops _ _ _ _ _ _ _ _ (c .before .if1 .taken) (told f))
+    c .new4 .ensures ∙ sym (from-here (at f) ∙ source-stops view _ _ _ _ _ _ _ (c .before .if1 .taken) (told f))
 
 loop-again : tie.Need-loop-again Inv-loop μ-loop
 loop-again c =
@@ -180,7 +172,7 @@ loop-again-2 c =
     let p = a .index-of .result in
     let h = wall-is w (c .before .before .before .before .if2 .left) in
     goes-on f (w .before .before .if1 .left)
-    (tallied-plain (entry a) (t .inv .tallied) (plain (sees (event a)) h) h (a .index-of .ensures) (place-in a) (w .before .top-after .ensures)
+    (tallied-plain (entry a) (t .inv .tallied) (plain (sees (event a)) h) h (a .index-of .ensures) (in-room a) (w .before .top-after .ensures)
     (c .top-after3 .ensures) (c .before .witness-after .result)
     (over-told (view (event a)) (entry a) (event a .first) (getD (t .fresh) p false) (getD (t .present) p false) (getD (t .value) p 0)
     (c .before .witness-after .result) (c .before .witness-after .ensures) (c .before .before .takes-over .ensures)
@@ -203,15 +195,15 @@ source-pass-spec =
     (λ c. omega arith)
     (λ c. omega arith)
     (λ c κs. tt)
-    (λ c. place-in c)
-    (λ c. place-in c)
-    (λ c. omega (arith, place-in c))
-    (λ c. place-in c)
+    (λ c. in-room c)
+    (λ c. in-room c)
+    (λ c. omega (arith, in-room c))
+    (λ c. in-room c)
     (λ c κs. tt)
     (λ c. omega arith)
     (λ c κs. tt)
-    (λ c. omega (arith, place-in (c .before .before .before)))
-    (λ c. place-in (c .before .before .before))
+    (λ c. omega (arith, in-room (c .before .before .before)))
+    (λ c. in-room (c .before .before .before))
     (λ c κs. tt)
     (λ c κs. tt)
     (λ c. omega (arith, few (at c)))
@@ -225,15 +217,15 @@ source-pass-spec =
     (λ c κs. tt)
     (λ c κs. tt)
     (λ c κs. tt)
-    (λ c. place-in (at (c .before .before .before .before .before .before .before)))
-    (λ c. place-in (at (c .before .before .before .before .before .before .before)))
-    (λ c. omega (arith, place-in (at (c .before .before .before .before .before .before .before))))
-    (λ c. place-in (at (c .before .before .before .before .before .before .before)))
-    (λ c. omega (arith, place-in (at (c .before .before .before .before .before .before .before))))
-    (λ c. place-in (at (c .before .before .before .before .before .before .before)))
+    (λ c. in-room (at (c .before .before .before .before .before .before .before)))
+    (λ c. in-room (at (c .before .before .before .before .before .before .before)))
+    (λ c. omega (arith, in-room (at (c .before .before .before .before .before .before .before))))
+    (λ c. in-room (at (c .before .before .before .before .before .before .before)))
+    (λ c. omega (arith, in-room (at (c .before .before .before .before .before .before .before))))
+    (λ c. in-room (at (c .before .before .before .before .before .before .before)))
     (λ c κs. tt)
-    (λ c. omega (arith, place-in (at (c .before .before .before .before .before .before .before .before))))
-    (λ c. place-in (at (c .before .before .before .before .before .before .before .before)))
+    (λ c. omega (arith, in-room (at (c .before .before .before .before .before .before .before .before))))
+    (λ c. in-room (at (c .before .before .before .before .before .before .before .before)))
     (λ c. omega arith)
     loop-again-2
     (λ c κs. tt)

@@ -1,24 +1,24 @@
 -- From each target event on the answer is that from the next event on, until an event is refused or none is left; the array says which locations
 -- had no access since the last synchronising event, which is all that 16 asks. Assumes nothing.
-use Prim.Native.Nat.{ℕ, suc, zero, _+_, _-_, _/_, _≤_, _<_}
+use Prim.Native.Nat.{ℕ, _+_, _-_, _/_, _≤_, _<_}
 use mathlib.Core.Bool.{Bool}
 use mathlib.Core.List.{List, [], _∷_}
 use mathlib.Core.Path.{_≡_, refl, sym, _∙_, ap}
 use native.Mathlib.Numerals.{add-one}
 use native.Mathlib.Omega.{arith}
 use lib.ListN.{length, length-set}
-use Rattle.event.specs.Answer.{answer, done}
+use Rattle.event.specs.Answer.{done}
 use Rattle.event.specs.declared.Answer.{Answer}
 use Rattle.event.specs.declared.Event.{Event}
 use Rattle.event.specs.Kind.{has}
-use Rattle.event.specs.Room.{eventAt, onward}
+use Rattle.event.specs.Room.{onward}
 use Rattle.rules.specs.View.{view, isLoad, isWall}
 use Rattle.rules.specs.Fault.{Item, isNone, near}
 use Rattle.rules.specs.Verdict.{placed, targetAnswer, targetFault}
 use Rattle.judge.specs.Pass.{Marked, targetFaultBy, unsupportedBy}
 use Rattle.judge.proofs.Arrays.{Fresh, fresh-plain, fresh-start, fresh-wall}
 use Rattle.judge.proofs.Cells.{unsupported-at}
-use Rattle.judge.proofs.Events.{onward-next}
+use Rattle.judge.proofs.Events.{onward-next, place-in}
 use Rattle.judge.proofs.Onward.{target-goes, target-stops}
 use Rattle.judge.proofs.Passes.{plain}
 use Rattle.judge.proofs.Sight.{sees}
@@ -51,11 +51,6 @@ fault-told : (b : List Item) (ns : List ℕ) (k : ℕ) (e : Event) {i r : ℕ} {
 fault-told b ns k e p q i g u r =
     ap (targetFaultBy (e .kind)) (unsupported-at b (has k ns) k (sees e) ∙ sym (u ∙ rw (p, q, g, i))) ∙ sym r
 
-stops : (ns : List ℕ) (k : ℕ) (b : List Item) (e : Event) (t : List Event) (n : ℕ) → (n ≡ 0 → ⊥) → targetFault (e .kind) b (placed view ns k e) ≡ n
-    → targetAnswer view ns k b (e ∷ t) ≡ answer n 2 k
-stops ns k b e t zero z h = absurd (z refl)
-stops ns k b e t (suc n) z h = target-stops view ns k b e t n h
-
 none-left : (ns : List ℕ) (k : ℕ) (b : List Item) (l : List ℕ) (i n : ℕ) → n ≡ 0 → targetAnswer view ns k b (onward l i n) ≡ done
 unfolding onward targetAnswer
 none-left ns k b l i n e = rw e
@@ -80,11 +75,8 @@ module _ (c : tie.After-index-of Inv-loop μ-loop) where
   abbrev rest : List Event
   rest = onward room (index + 1) (length room / 6 - (index + 1))
 
-  place-in : c .index-of .result < 256
-  place-in =
-      let p : eventAt room index .place < 256 = begin .pre .1 index (omega arith) in
-      let q : event .place ≡ eventAt room index .place = ap (λ (e : Event). e .place) (c .before .get .ensures) in
-      omega (arith, c .index-of .ensures)
+  in-room : c .index-of .result < 256
+  in-room = place-in room (begin .pre .1) index (omega arith) event (c .before .get .ensures) (c .index-of .ensures)
 
 -- its fault, by the numbers that the entries name
 abbrev at : tie.After-target-fault Inv-loop μ-loop → tie.After-index-of Inv-loop μ-loop
@@ -100,7 +92,7 @@ module _ (c : tie.After-target-fault Inv-loop μ-loop) (ns : List ℕ) (m : Mark
   told : targetFault (event (at c) .kind) (before .behind) here ≡ c .target-fault .result
   told =
       fault-told (before .behind) ns (index (at c) + 1) (event (at c)) (m (index (at c) + 1) (omega arith) (omega arith))
-      (c .before .before .is-load .ensures) (at c .index-of .ensures) (before .fresh-is (at c .index-of .result) (place-in (at c)))
+      (c .before .before .is-load .ensures) (at c .index-of .ensures) (before .fresh-is (at c .index-of .result) (in-room (at c)))
       (c .before .is-unsupported .ensures) (c .target-fault .ensures)
 
   from-here : whole ns (room (at c)) ≡ targetAnswer view ns (index (at c) + 1) (before .behind) (event (at c) ∷ rest (at c))
@@ -128,7 +120,7 @@ loop-holds c =
 returns : tie.Need-returns Inv-loop μ-loop
 returns c ns m =
     let f = c .before .before in
-    c .new .ensures ∙ sym (from-here f ns m ∙ stops ns _ _ _ _ _ (c .before .if1 .taken) (told f ns m))
+    c .new .ensures ∙ sym (from-here f ns m ∙ target-stops view ns _ _ _ _ (c .before .if1 .taken) (told f ns m))
 
 loop-again : tie.Need-loop-again Inv-loop μ-loop
 loop-again c =
@@ -149,7 +141,7 @@ loop-again-2 c =
       size = simp length-set (t .inv .size);
       passed = λ ns m. goes-on f ns m (c .before .before .if1 .left)
           (fresh-plain (plain (sees (event (at f))) (wall-is (c .before) (c .if2 .left))) _ (before f ns m .behind) (t .fresh) (at f .index-of .ensures)
-          (place-in (at f)) (t .inv .size) (before f ns m .fresh-is));
+          (in-room (at f)) (t .inv .size) (before f ns m .fresh-is));
     }
 
 returns-2 : tie.Need-returns-2 Inv-loop μ-loop
@@ -170,7 +162,7 @@ target-answer-spec =
     (λ c. omega arith)
     (λ c. omega arith)
     (λ c κs. tt)
-    (λ c. place-in (c .before .before))
+    (λ c. in-room (c .before .before))
     (λ c κs. tt)
     (λ c κs. tt)
     (λ c. omega arith)
@@ -180,7 +172,7 @@ target-answer-spec =
     (λ c κs. tt)
     (λ c. omega arith)
     loop-again
-    (λ c. place-in (at (c .before .before .before)))
+    (λ c. in-room (at (c .before .before .before)))
     (λ c. omega arith)
     loop-again-2
     (λ c κs. tt)
