@@ -32,71 +32,55 @@ unfolding countAnswer
 count-goes l ns h = rw (onward-length l 0 (length l / 6), eq-eqb (length ns) (length l / 6) h)
 
 -- the answers in their order
-module _ (m n l t ns : List ℕ) where
-  abbrev events : List ℕ → List Event
-  events r = onward r 0 (length r / 6)
+abbrev events : List ℕ → List Event
+events r = onward r 0 (length r / 6)
 
-  abbrev after-start : Answer
-  after-start = first (countAnswer (events l) ns) (first (entryAnswer (length (events t)) 1 [] ns) (first (sourceAnswer view (events t) 1 []
-      (events l) ns) (targetAnswer view ns 1 [] (events t))))
+abbrev after-count : List ℕ → List ℕ → List ℕ → Answer
+after-count l t ns =
+    first (entryAnswer (length t / 6) 1 [] ns) (first (sourceAnswer view (events t) 1 [] (events l) ns) (targetAnswer view ns 1 [] (events t)))
 
-  abbrev whole : Answer
-  whole = verdict view m n (events l) (events t) ns
-
-  by-start : {r : Answer} → r ≡ startAnswer 0 m n → (r .number ≡ 0 → ⊥) → r ≡ whole
-  unfolding verdict
-  by-start e z = stops (startAnswer 0 m n) after-start e z
-
-  module _ {x : Answer} (begun : x ≡ startAnswer 0 m n) (same-start : x .number ≡ 0) where
-    by-count : {r : Answer} → r ≡ answer 8 3 (length ns) → (length ns ≡ length l / 6 → ⊥) → r ≡ whole
-    unfolding verdict
-    by-count e z =
-        goes (startAnswer 0 m n) after-start begun same-start
-        (stops (countAnswer (events l) ns) _ (e ∙ count-stops l ns z) (λ q. let o : _≡_ {A = ℕ} 8 0 = ap (λ (a : Answer). a .number) (sym e)
-        ∙ q in omega arith))
-
-    module _ (count : length ns ≡ length l / 6) where
-      by-rest : {r : Answer}
-          → r ≡ first (entryAnswer (length t / 6) 1 [] ns) (first (sourceAnswer view (events t) 1 [] (events l) ns) (targetAnswer view ns 1 []
-          (events t))) → r ≡ whole
-      unfolding verdict
-      by-rest e =
-          goes (startAnswer 0 m n) after-start begun same-start
-          (goes (countAnswer (events l) ns) _ (count-goes l ns count) refl (e ∙ rw (onward-length t 0 (length t / 6))))
+in-order : (m n l t ns : List ℕ) {r : Answer} → r ≡ first (startAnswer 0 m n) (first (countAnswer (events l) ns) (after-count l t ns))
+    → r ≡ verdict view m n (events l) (events t) ns
+unfolding verdict
+in-order m n l t ns e = rw (onward-length t 0 (length t / 6)) e
 
 -- the arguments
-abbrev start : tie.After-start-answer → tie.Start
-start c = c .before .before .before .before
-
 module _ (c : tie.After-start-answer) where
+  abbrev start : tie.Start
+  start = c .before .before .before .before
+
   abbrev source : List ℕ
-  source = start c .args .source .now
+  source = start .args .source .now
 
   abbrev target : List ℕ
-  target = start c .args .target .now
+  target = start .args .target .now
 
   abbrev entries : List ℕ
-  entries = start c .args .entries .now
+  entries = start .args .entries .now
 
 returns : tie.Need-returns
-returns c = by-start _ _ (source (c .before .before)) (target (c .before .before)) _ (c .before .before .start-answer .ensures) (c .if1 .taken)
+returns c =
+    let s = c .before .before in
+    in-order _ _ (source s) (target s) (entries s) (stops _ _ (s .start-answer .ensures) (c .if1 .taken))
 
 returns-2 : tie.Need-returns-2
 returns-2 c =
     let s = c .before .before .before .before in
-    by-count _ _ (source s) (target s) _ (s .start-answer .ensures) (c .before .before .if1 .left) (c .new .ensures) (c .before .if2 .taken)
+    let eight : c .new .result .number ≡ 0 → ⊥ = λ q. let o : _≡_ {A = ℕ} 8 0 = ap (λ (a : Answer). a .number) (sym (c .new .ensures)) ∙ q in omega arith in
+    in-order _ _ (source s) (target s) (entries s) (goes _ _ (s .start-answer .ensures) (c .before .before .if1 .left)
+    (stops _ _ (c .new .ensures ∙ count-stops (source s) (entries s) (c .before .if2 .taken)) eight))
 
 -- the entries are as many as the source events
 module _ (c : tie.Else2) where
   abbrev begun : tie.After-start-answer
   begun = c .before .before .before
 
-  on : {r : Answer}
-      → r ≡ first (entryAnswer (length (target begun) / 6) 1 [] (entries begun)) (first (sourceAnswer view (onward (target begun) 0 (length
-      (target begun) / 6)) 1 [] (onward (source begun) 0 (length (source begun) / 6)) (entries begun)) (targetAnswer view (entries begun) 1 [] (onward
-      (target begun) 0 (length (target begun) / 6))))
-      → r ≡ whole (start begun .args .start .cells) (start begun .args .target-start .cells) (source begun) (target begun) (entries begun)
-  on e = by-rest _ _ (source begun) (target begun) _ (begun .start-answer .ensures) (c .before .if1 .left) (c .if2 .left) e
+  on : {r : Answer} → r ≡ after-count (source begun) (target begun) (entries begun)
+      → r ≡ verdict view (start begun .args .start .cells) (start begun .args .target-start .cells) (events (source begun)) (events (target begun))
+      (entries begun)
+  on e =
+      in-order _ _ (source begun) (target begun) (entries begun) (goes _ _ (begun .start-answer .ensures) (c .before .if1 .left)
+      (goes _ _ (count-goes (source begun) (entries begun) (c .if2 .left)) refl e))
 
 returns-3 : tie.Need-returns-3
 returns-3 c =
