@@ -42,7 +42,7 @@ module _ (l : List ℕ) where
 
   -- a room whose places are below 256, and an index that is an event's place
   pub place-in : Placed l → (i : ℕ) → i < length l / 6 → (e : Event) → e ≡ eventAt l i → {p : ℕ} → p ≡ e .place → p < 256
-  place-in placed i h e q r = rw (r, q) (placed i h)
+  place-in low i h e q r = rw (r, q) (low i h)
 
   pub onward-length : (i n : ℕ) → length (onward l i n) ≡ n
   unfolding onward

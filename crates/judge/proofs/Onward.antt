@@ -12,7 +12,7 @@ use Rattle.event.specs.Answer.{answer}
 use Rattle.event.specs.declared.Event.{Event}
 use Rattle.rules.specs.Fault.{Item, fate, isGone, item}
 use Rattle.rules.specs.View.{View}
-use Rattle.rules.specs.Verdict.{entryAnswer, items, placed, sourceAnswer, sourceFault, startAnswer, targetAnswer, targetFault}
+use Rattle.rules.specs.Verdict.{entryAnswer, items, targetItem, sourceAnswer, sourceFault, startAnswer, targetAnswer, targetFault}
 use Rattle.rules.proofs.Truth.{taken}
 
 not-taken : {A : Type 0} (x y : A) (c : Bool) → c ≡ false → cond c x y ≡ y
@@ -51,11 +51,11 @@ module _ (view : Event → View) where
 
   -- 15, 16
   module _ (ns : List ℕ) (k : ℕ) (b : List Item) (e : Event) (t : List Event) where
-    pub target-goes : targetFault (e .kind) b (placed view ns k e) ≡ 0
-        → targetAnswer view ns k b (e ∷ t) ≡ targetAnswer view ns (suc k) (placed view ns k e ∷ b) t
+    pub target-goes : targetFault (e .kind) b (targetItem view ns k e) ≡ 0
+        → targetAnswer view ns k b (e ∷ t) ≡ targetAnswer view ns (suc k) (targetItem view ns k e ∷ b) t
     unfolding targetAnswer
     target-goes h = rw h
 
-    pub target-stops : {f : ℕ} → (f ≡ 0 → ⊥) → targetFault (e .kind) b (placed view ns k e) ≡ f → targetAnswer view ns k b (e ∷ t) ≡ answer f 2 k
+    pub target-stops : {f : ℕ} → (f ≡ 0 → ⊥) → targetFault (e .kind) b (targetItem view ns k e) ≡ f → targetAnswer view ns k b (e ∷ t) ≡ answer f 2 k
     unfolding targetAnswer
     target-stops {f} z h = rw (h, ne-eqb f 0 z)

@@ -15,7 +15,7 @@ use Rattle.event.proofs.Answers.{Among, Given, none, one, among-cond, given-con
 use Rattle.laws.proofs.Cases.{by-cond}
 use Rattle.rules.specs.View.{View}
 use Rattle.rules.specs.Fault.{Item, item, fate, fateOf, isGone, unlike, wallGone, crossed, loadGone, storeGone, unsupported}
-use Rattle.rules.specs.Verdict.{startAnswer, countAnswer, entryAnswer, keepFault, removalFault, sourceFault, targetFault, items, placed, sourceAnswer, targetAnswer, verdict}
+use Rattle.rules.specs.Verdict.{startAnswer, countAnswer, entryAnswer, keepFault, removalFault, sourceFault, targetFault, items, targetItem, sourceAnswer, targetAnswer, verdict}
 
 -- the numbers of the tests over source events and target events
 abbrev pub sourceFaults : List ℕ
@@ -60,7 +60,7 @@ module _ (view : Event → View) where
   unfolding targetAnswer
   target-given ns k b [] h = none
   target-given ns k b (e ∷ t) h =
-      let x = placed view ns k e in
+      let x = targetItem view ns k e in
       given-fault _ _ (targetFault (e .kind) b x) k (target-fault (e .kind) b x) h (target-given ns (suc k) (x ∷ b) t (omega arith))
 
   -- 7 and 8 by their numbers alone

@@ -12,7 +12,7 @@ use Rattle.event.specs.declared.Answer.{Answer}
 use Rattle.event.specs.Kind.{isLoadKind}
 use Rattle.rules.specs.Fault.{Item, crossed, fate, item, loadGone, storeGone, unlike, unsupported, wallGone}
 use Rattle.rules.specs.View.{View}
-use Rattle.rules.specs.Verdict.{firstFault, items, keepFault, placed, removalFault, sourceAnswer, sourceFault, targetAnswer, targetFault}
+use Rattle.rules.specs.Verdict.{firstFault, items, keepFault, targetItem, removalFault, sourceAnswer, sourceFault, targetAnswer, targetFault}
 use Rattle.rules.proofs.Item.{Clash, Sound, Sound₁, Supported, Ordered}
 use Rattle.rules.proofs.Test.{crossed?, extra?, lost?}
 use Rattle.rules.proofs.Truth.{T-true, taken}
@@ -127,23 +127,23 @@ module _ (view : Event → View) where
   -- ---- the target
 
   -- the target's events as items: each at its number, new if no entry names it
-  abbrev pub placeds : List ℕ → ℕ → List Event → List Item
-  placeds ns k [] = []
-  placeds ns k (e ∷ t) = placed view ns k e ∷ placeds ns (suc k) t
+  abbrev pub targetItems : List ℕ → ℕ → List Event → List Item
+  targetItems ns k [] = []
+  targetItems ns k (e ∷ t) = targetItem view ns k e ∷ targetItems ns (suc k) t
 
-  pub target-clean : (ns : List ℕ) (k : ℕ) (b : List Item) (t : List Event) → T (eqb (targetAnswer view ns k b t .number) 0) → Supported b (placeds ns k t)
+  pub target-clean : (ns : List ℕ) (k : ℕ) (b : List Item) (t : List Event) → T (eqb (targetAnswer view ns k b t .number) 0) → Supported b (targetItems ns k t)
   unfolding targetAnswer
   target-clean ns k b [] h = tt
   target-clean ns k b (e ∷ t) h =
-      let x = placed view ns k e in
+      let x = targetItem view ns k e in
       let q = onward (eqb (targetFault (e .kind) b x) 0) _ (targetAnswer view ns (suc k) (x ∷ b) t) refl h in
       (extra? b x .0 (passed (unsupported b x) _ _ (some-fault (e .kind)) (q .0) .0), target-clean ns (suc k) (x ∷ b) t (q .1))
 
-  pub clean-target : (ns : List ℕ) (k : ℕ) (b : List Item) (t : List Event) → Supported b (placeds ns k t) → targetAnswer view ns k b t ≡ done
+  pub clean-target : (ns : List ℕ) (k : ℕ) (b : List Item) (t : List Event) → Supported b (targetItems ns k t) → targetAnswer view ns k b t ≡ done
   unfolding targetAnswer
   clean-target ns k b [] h = refl
   clean-target ns k b (e ∷ t) h =
-      let x = placed view ns k e in
+      let x = targetItem view ns k e in
       let f = targetFault (e .kind) b x in
       taken (targetAnswer view ns (suc k) (x ∷ b) t) _ (eqb f 0) (pass (unsupported b x) _ _ (extra? b x .1 (h .0)) tt)
       ∙ clean-target ns (suc k) (x ∷ b) t (h .1)

@@ -23,7 +23,7 @@ use Rattle.rules.proofs.Word.{Agree, Letter, far, fits, goneLoad, goneS
 use Rattle.rules.proofs.Place.{Agrees, by-place, letter, word}
 use Rattle.rules.proofs.Effect.{put, cell, right-lawful, step-length, Bound, Plain, Truthful, act}
 use Rattle.rules.proofs.Image.{Over, over-cons, over-nil}
-use Rattle.rules.proofs.Clean.{placeds}
+use Rattle.rules.proofs.Clean.{targetItems}
 use Rattle.rules.proofs.Truth.{and-left, and-right}
 
 -- how the cells after an event follow from those before it
@@ -90,15 +90,15 @@ module _ (look : Event → View) (truthful : Truthful look) where
   over-items (e ∷ s) [] h = absurd (omega arith)
   over-items (e ∷ s) (n ∷ ns) h = over-cons refl (over-items s ns (omega arith))
 
-  over-placeds : (ns : List ℕ) (k : ℕ) (t : List Event) → Over (Faces look) t (placeds look ns k t)
-  over-placeds ns k [] = over-nil
-  over-placeds ns k (e ∷ t) = over-cons refl (over-placeds ns (suc k) t)
+  over-targets : (ns : List ℕ) (k : ℕ) (t : List Event) → Over (Faces look) t (targetItems look ns k t)
+  over-targets ns k [] = over-nil
+  over-targets ns k (e ∷ t) = over-cons refl (over-targets ns (suc k) t)
 
   pub agrees-source : (m : Memory) (s : List Event) (ns : List ℕ) → length (m .cells) ≡ 256 → length ns ≡ length s → T (right m s) → Agrees (items look s ns)
   agrees-source m s ns c h r l = agree l m none (over-items s ns h) c r tt
 
-  pub agrees-target : (m : Memory) (ns : List ℕ) (t : List Event) → length (m .cells) ≡ 256 → T (right m t) → Agrees (placeds look ns 1 t)
-  agrees-target m ns t c r l = agree l m none (over-placeds ns 1 t) c r tt
+  pub agrees-target : (m : Memory) (ns : List ℕ) (t : List Event) → length (m .cells) ≡ 256 → T (right m t) → Agrees (targetItems look ns 1 t)
+  agrees-target m ns t c r l = agree l m none (over-targets ns 1 t) c r tt
 
 pub all-lawful : (m : Memory) (s : List Event) → T (right m s) → Each (λ e. T (lawful e)) s
 all-lawful m [] h = tt

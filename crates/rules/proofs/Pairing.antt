@@ -15,10 +15,10 @@ use Rattle.event.specs.declared.Event.{Event}
 use Rattle.event.specs.Room.{noEvent}
 use Rattle.rules.specs.View.{same, View}
 use Rattle.rules.specs.Fault.{Item, fate, item, stays, unlike}
-use Rattle.rules.specs.Verdict.{items, placed}
+use Rattle.rules.specs.Verdict.{items, targetItem}
 use Rattle.rules.proofs.Matching.{Alike, Distinct, Lands, hit, label, matching}
 use Rattle.rules.proofs.Entries.{Entries, Once, Within}
-use Rattle.rules.proofs.Clean.{Faithful, placeds}
+use Rattle.rules.proofs.Clean.{Faithful, targetItems}
 use Rattle.rules.proofs.Item.{Match, Numbered, keep, sourced}
 use Rattle.rules.proofs.Truth.{no-cond, not-not, yes-cond}
 
@@ -60,15 +60,15 @@ module _ (view : Event → View) where
 
   -- ---- the target
 
-  pub label-placeds : (x : List Item) (ns : List ℕ) (k : ℕ) (t : List Event) → ((j : ℕ) → k ≤ j → hit j x ≡ has j ns)
-      → label x k (map view t) ≡ placeds view ns k t
-  label-placeds x ns k [] h = refl
-  label-placeds x ns k (e ∷ t) h =
-      rw (h k (omega arith)) (ap (λ r. placed view ns k e ∷ r) (label-placeds x ns (suc k) t (λ j i. h j (omega arith))))
+  pub label-targets : (x : List Item) (ns : List ℕ) (k : ℕ) (t : List Event) → ((j : ℕ) → k ≤ j → hit j x ≡ has j ns)
+      → label x k (map view t) ≡ targetItems view ns k t
+  label-targets x ns k [] h = refl
+  label-targets x ns k (e ∷ t) h =
+      rw (h k (omega arith)) (ap (λ r. targetItem view ns k e ∷ r) (label-targets x ns (suc k) t (λ j i. h j (omega arith))))
 
-  pub numbered-placeds : (ns : List ℕ) (k : ℕ) (t : List Event) → Numbered k (placeds view ns k t)
-  numbered-placeds ns k [] = tt
-  numbered-placeds ns k (e ∷ t) = (refl, numbered-placeds ns (suc k) t)
+  pub numbered-targets : (ns : List ℕ) (k : ℕ) (t : List Event) → Numbered k (targetItems view ns k t)
+  numbered-targets ns k [] = tt
+  numbered-targets ns k (e ∷ t) = (refl, numbered-targets ns (suc k) t)
 
   -- ---- both
 
@@ -94,9 +94,9 @@ module _ (view : Event → View) where
           lands-items s ns (f .1) (w .1),
         )
 
-    pub paired : (s : List Event) (ns : List ℕ) → Entries (length t) s ns → Faithful t s ns → Match (keep (items view s ns)) (sourced (placeds view ns 1 t))
+    pub paired : (s : List Event) (ns : List ℕ) → Entries (length t) s ns → Faithful t s ns → Match (keep (items view s ns)) (sourced (targetItems view ns 1 t))
     paired s ns i f =
         let x = items view s ns in
-        let e : label x 1 (map view t) ≡ placeds view ns 1 t =
-        label-placeds x ns 1 t (λ j h. hit-items j s ns (λ z. omega arith) (i .many)) in
+        let e : label x 1 (map view t) ≡ targetItems view ns 1 t =
+        label-targets x ns 1 t (λ j h. hit-items j s ns (λ z. omega arith) (i .many)) in
         rw e at (matching x (map view t) (distinct-items s ns (i .many) (i .used-once)) (lands-items s ns f (i .within-n)))

@@ -18,13 +18,13 @@ use Rattle.rules.proofs.Place.{Agrees}
 use Rattle.rules.proofs.Matching.{Alike}
 use Rattle.rules.proofs.Chain.{all-ins, all-ones}
 use Rattle.rules.proofs.Canonical.{canonical}
-use Rattle.rules.proofs.Clean.{Clean, Faithful, placeds}
+use Rattle.rules.proofs.Clean.{Clean, Faithful, targetItems}
 use Rattle.rules.proofs.Entries.{Entries, from-start}
 use Rattle.rules.proofs.Target.{Given, kept}
 use Rattle.rules.proofs.Image.{Over, run-over, over-nil, by-views}
 use Rattle.rules.proofs.Traced.{Known, Of, Shows, ends, faithful-run, has-item, has-target, known-new, known-source, likes, of-view, shows-view}
 use Rattle.rules.proofs.Traced.{starts, turn, Leaves, Overtakes, image, shows-above, shows-gone, Genuine, genuines}
-use Rattle.rules.proofs.Pairing.{at-faithful, faithful-at, numbered-placeds, paired}
+use Rattle.rules.proofs.Pairing.{at-faithful, faithful-at, numbered-targets, paired}
 use Rattle.rules.proofs.Reach.{faultless}
 use Rattle.rules.proofs.Order.{ordered-of, orderly-of}
 use Rattle.rules.proofs.Fixed.{InOrder, Orderly}
@@ -36,13 +36,13 @@ use Rattle.rules.proofs.FixedRun.{run-in-order}
 pub record Ready (view : Event → View) (s t : List Event) (ns : List ℕ) : Type 0 where
   pub entries : Entries (length t) s ns
   pub source : Agrees (items view s ns)
-  pub target : Agrees (placeds view ns 1 t)
+  pub target : Agrees (targetItems view ns 1 t)
   pub lawfuls : Each (λ e. T (lawful e)) t
 
 -- no event shows a fault
 pub record Faultfree (view : Event → View) (s t : List Event) (ns : List ℕ) : Type 0 where
   pub at-source : Clean view t [] s ns
-  pub at-target : Supported [] (placeds view ns 1 t)
+  pub at-target : Supported [] (targetItems view ns 1 t)
 
 -- the fixed order leads to the target; the events there are those of their numbers, marks included, and at the start an event that stands above a
 -- later one may be swapped with it
@@ -55,11 +55,11 @@ pub record FixedOrder (view : Event → View) (s t : List Event) (ns : List ℕ)
 
 module _ (view : Event → View) (alike : (e f : Event) → T (same e f) → Alike (view e) (view f)) (s t : List Event) (ns : List ℕ)
     (ready : Ready view s t ns) where
-  given : Faithful t s ns → Given (items view s ns) (placeds view ns 1 t)
+  given : Faithful t s ns → Given (items view s ns) (targetItems view ns 1 t)
   given f = record {
     source = ready .source;
     target = ready .target;
-    numbered = numbered-placeds view ns 1 t;
+    numbered = numbered-targets view ns 1 t;
     matched = paired view alike t s ns (ready .entries) f;
   }
 
@@ -71,7 +71,7 @@ module _ (view : Event → View) (alike : (e f : Event) → T (same e f) → Ali
   in-order f =
       let r = f .at-source in
       let o = orderly-of (items view s ns) (r .ordered) in
-      let c = canonical (items view s ns) (placeds view ns 1 t) (given (r .faithful)) (record { lost = r .sound; order = o; extra = f .at-target }) in
+      let c = canonical (items view s ns) (targetItems view ns 1 t) (given (r .faithful)) (record { lost = r .sound; order = o; extra = f .at-target }) in
       let w = by-views (Shows view s t ns) (viewed view) viewOf (shows-view view s t ns) Inserted New in
       let a = lasts-over w (Leaves view s t ns) Gone (shows-gone view s t ns) (c .2 .removing) started in
       let b = lows-over w (Overtakes view s t ns) Above (shows-above view s t ns) (c .2 .sorting) (a .2) in
@@ -103,7 +103,7 @@ module _ (view : Event → View) (alike : (e f : Event) → T (same e f) → Ali
       let f : Faithful t s ns = at-faithful t s ns (faithful-run view s t ns (ready .entries) u (r .2) known) in
       let w = by-views (Of view s t ns) viewOf (viewed view) (of-view view s t ns) New Inserted in
       let v = run-over w (has-item view s t ns) run (turn view s t ns started) in
-      let g = faultless (items view s ns) (placeds view ns 1 t) (given f) (v .0, likes view s t ns alike 0 t (v .2) (r .2), v .1) in
+      let g = faultless (items view s ns) (targetItems view ns 1 t) (given f) (v .0, likes view s t ns alike 0 t (v .2) (r .2), v .1) in
       record {
         at-source = record { faithful = f; sound = g .lost; ordered = ordered-of [] (items view s ns) tt (g .order) };
         at-target = g .extra;

@@ -15,14 +15,14 @@ use Rattle.event.specs.Room.{noEvent}
 use Rattle.rules.specs.Run.{old, new, Traced, traced, tagOf, eventOf, Inserted, number, origin, Ends, viewed}
 use Rattle.rules.specs.View.{same, View}
 use Rattle.rules.specs.Fault.{Item, fate, fateOf, item, nth, stays, viewOf, unlike}
-use Rattle.rules.specs.Verdict.{items, placed}
+use Rattle.rules.specs.Verdict.{items, targetItem}
 use Rattle.rules.proofs.Matching.{Alike, like-of}
 use Rattle.rules.proofs.Entries.{From, from-here, from-next, from-start, Entries, Once, within-at}
 use Rattle.rules.proofs.Image.{Has, Over, over-cons, over-nil}
 use Rattle.rules.proofs.Item.{Like, Likes, New, like-cons, like-nil, marks, Above, Gone}
 use Rattle.rules.proofs.Target.{Print, exact, kept, print-like}
 use Rattle.rules.proofs.Origin.{fates, origin-fate, fate-at, origin-new, origin-old}
-use Rattle.rules.proofs.Clean.{placeds}
+use Rattle.rules.proofs.Clean.{targetItems}
 use Rattle.rules.proofs.Same.{same-refl}
 use Rattle.rules.proofs.Truth.{not-not, yes-not}
 
@@ -94,12 +94,12 @@ module _ (view : Event → View) (s t : List Event) (ns : List ℕ) where
 
   module _ (alike : (e f : Event) → T (same e f) → Alike (view e) (view f)) where
     likely : (k : ℕ) (e : Event) (y : Item) (x : Traced) → Of y x → tagOf x ≡ origin (suc k) 1 ns → T (same (eventOf x) e)
-        → Like y (placed view ns (suc k) e)
+        → Like y (targetItem view ns (suc k) e)
     likely k e y (traced g f) q h m =
         let c : fates ns g ≡ stays (not (has (suc k) ns)) (suc k) = ap (fates ns) h ∙ origin-fate ns k 0 ns (from-start 0 ns) in
         rw (q, c) (like-of refl (alike f e m))
 
-    pub likes : (k : ℕ) (r : List Event) {v : List Item} {u : List Traced} → Over Of v u → Ends ns (suc k) u r → Likes v (placeds view ns (suc k) r)
+    pub likes : (k : ℕ) (r : List Event) {v : List Item} {u : List Traced} → Over Of v u → Ends ns (suc k) u r → Likes v (targetItems view ns (suc k) r)
     likes k [] over-nil h = like-nil
     likes k [] (over-cons q o) h = absurd h
     likes k (e ∷ r) over-nil h = absurd h
@@ -122,7 +122,7 @@ module _ (view : Event → View) (s t : List Event) (ns : List ℕ) where
   has-print exact h = h
   has-print (kept q no-new) h = λ w. absurd (no-new (new-like q w))
 
-  pub has-target : (k : ℕ) (r : List Event) {v : List Item} → Over Print v (placeds view ns (suc k) r) → From noEvent t k r → Each (λ e. T (lawful e)) r
+  pub has-target : (k : ℕ) (r : List Event) {v : List Item} → Over Print v (targetItems view ns (suc k) r) → From noEvent t k r → Each (λ e. T (lawful e)) r
       → Each (Has Shows Inserted New) v
   has-target k [] over-nil f l = tt
   has-target k (e ∷ r) (over-cons q o) f l =
@@ -152,7 +152,7 @@ module _ (view : Event → View) (s t : List Event) (ns : List ℕ) where
         ended-old k i e f (fate-at (nth 0 ns i) (not (has (suc k) ns)) (suc k) (ap fateOf (q .0) ∙ h)) (q .1) g
     ended k (traced (new n) f) y e q h g = ended-new k n e f (has (suc k) ns) refl (ap fateOf (q .0) ∙ h) (q .1) g
 
-    pub ends : (k : ℕ) (r : List Event) {u : List Traced} {v : List Item} → Over Shows u v → Over Print v (placeds view ns (suc k) r)
+    pub ends : (k : ℕ) (r : List Event) {u : List Traced} {v : List Item} → Over Shows u v → Over Print v (targetItems view ns (suc k) r)
         → From noEvent t k r → Ends ns (suc k) u r
     ends k [] over-nil over-nil f = tt
     ends k (e ∷ r) (over-cons {x = x} {y = y} q o) (over-cons p i) f =

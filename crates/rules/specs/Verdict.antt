@@ -56,8 +56,8 @@ module _ (view : Event → View) where
   items (e ∷ s) (n ∷ ns) = item (view e) (fate n) ∷ items s ns
 
   -- A target event of number k as the faults see it: it has a source if an entry names it.
-  abbrev pub placed : List ℕ → ℕ → Event → Item
-  placed ns k e = item (view e) (stays (not (has k ns)) k)
+  abbrev pub targetItem : List ℕ → ℕ → Event → Item
+  targetItem ns k e = item (view e) (stays (not (has k ns)) k)
 
   -- 10 to 14 over the source events upward, from the number i on, behind b.
   unfoldable pub sourceAnswer : List Event → ℕ → List Item → List Event → List ℕ → Answer
@@ -72,7 +72,7 @@ module _ (view : Event → View) where
   unfoldable pub targetAnswer : List ℕ → ℕ → List Item → List Event → Answer
   targetAnswer ns k b [] = done
   targetAnswer ns k b (e ∷ t) =
-      let x = placed ns k e in
+      let x = targetItem ns k e in
       let f = targetFault (e .kind) b x in
       cond (eqb f 0) (targetAnswer ns (suc k) (x ∷ b) t) (answer f 2 k)
 

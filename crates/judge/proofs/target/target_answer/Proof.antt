@@ -14,7 +14,7 @@ use Rattle.event.specs.Kind.{has}
 use Rattle.event.specs.Room.{onward}
 use Rattle.rules.specs.View.{view, isLoad, isWall}
 use Rattle.rules.specs.Fault.{Item, isNone, near}
-use Rattle.rules.specs.Verdict.{placed, targetAnswer, targetFault}
+use Rattle.rules.specs.Verdict.{targetItem, targetAnswer, targetFault}
 use Rattle.judge.specs.Pass.{Marked, targetFaultBy, unsupportedBy}
 use Rattle.judge.proofs.Arrays.{Fresh, fresh-plain, fresh-start, fresh-wall}
 use Rattle.judge.proofs.Cells.{unsupported-at}
@@ -47,7 +47,7 @@ abbrev μ-loop : tie.MeasureT-loop
 μ-loop target marks fresh₀ k₀ fresh k = length target / 6 - k
 
 fault-told : (b : List Item) (ns : List ℕ) (k : ℕ) (e : Event) {i r : ℕ} {u s l f : Bool} → s ≡ has k ns → l ≡ isLoad (view e) → i ≡ e .place
-    → f ≡ isNone (near i b) → u ≡ unsupportedBy s l f → r ≡ targetFaultBy (e .kind) u → targetFault (e .kind) b (placed view ns k e) ≡ r
+    → f ≡ isNone (near i b) → u ≡ unsupportedBy s l f → r ≡ targetFaultBy (e .kind) u → targetFault (e .kind) b (targetItem view ns k e) ≡ r
 fault-told b ns k e p q i g u r =
     ap (targetFaultBy (e .kind)) (unsupported-at b (has k ns) k (sees e) ∙ sym (u ∙ rw (p, q, g, i))) ∙ sym r
 
@@ -87,7 +87,7 @@ module _ (c : tie.After-target-fault Inv-loop μ-loop) (ns : List ℕ) (m : Mark
   before = turn (at c) .loop .inv .passed ns m
 
   abbrev here : Item
-  here = placed view ns (index (at c) + 1) (event (at c))
+  here = targetItem view ns (index (at c) + 1) (event (at c))
 
   told : targetFault (event (at c) .kind) (before .behind) here ≡ c .target-fault .result
   told =
