@@ -13,29 +13,30 @@ use Rattle.event.specs.Answer.{answer}
 use Rattle.event.specs.Room.{onward}
 use Rattle.event.specs.declared.Answer.{Answer}
 use Rattle.event.specs.declared.memory.Memory.{Memory}
+use Rattle.trace.specs.Reading.{eventLimit}
 use Rattle.trace.specs.Fault.{eventFault}
 use Rattle.trace.specs.Put.{Put}
 use Rattle.trace.specs.Writing.{countOf, layoutFault, roomFault, traceText, writeOf, outAfter}
 
 module _ (m : Memory) (room : List ℕ) {n : ℕ} (c : n ≡ countOf room) where
-  pub room-full : 800 < n → roomFault m room ≡ answer 3 0 801
+  pub room-full : eventLimit < n → roomFault m room ≡ answer 3 0 (eventLimit + 1)
   unfolding roomFault
-  room-full h = rw (← c, lt-ltb 800 n h)
+  room-full h = rw (← c, lt-ltb eventLimit n h)
 
-  pub room-layout : n ≤ 800 → (layoutFault 1 (onward room 0 n) .number ≡ 0 → ⊥) → roomFault m room ≡ layoutFault 1 (onward room 0 n)
+  pub room-layout : n ≤ eventLimit → (layoutFault 1 (onward room 0 n) .number ≡ 0 → ⊥) → roomFault m room ≡ layoutFault 1 (onward room 0 n)
   unfolding roomFault
-  room-layout h x = rw (← c, le-ltb 800 n h, ne-eqb (layoutFault 1 (onward room 0 n) .number) 0 x)
+  room-layout h x = rw (← c, le-ltb eventLimit n h, ne-eqb (layoutFault 1 (onward room 0 n) .number) 0 x)
 
-  pub room-events : n ≤ 800 → layoutFault 1 (onward room 0 n) .number ≡ 0 → roomFault m room ≡ eventFault 0 1 m [] (onward room 0 n)
+  pub room-events : n ≤ eventLimit → layoutFault 1 (onward room 0 n) .number ≡ 0 → roomFault m room ≡ eventFault 0 1 m [] (onward room 0 n)
   unfolding roomFault
-  room-events h x = rw (← c, le-ltb 800 n h, x)
+  room-events h x = rw (← c, le-ltb eventLimit n h, x)
 
   -- no refusal so far: the events are few, and all are lawful
-  pub room-sound : roomFault m room .number ≡ 0 → (n ≤ 800) × (layoutFault 1 (onward room 0 n) .number ≡ 0)
+  pub room-sound : roomFault m room .number ≡ 0 → (n ≤ eventLimit) × (layoutFault 1 (onward room 0 n) .number ≡ 0)
   room-sound z =
-      cases (either (ltb 800 n))
-      (λ y. let d : _≡_ {A = ℕ} 3 0 = rw (room-full (ltb-true 800 n y)) at z in absurd (omega arith))
-      (λ y. let h : n ≤ 800 = ltb-false 800 n y in (
+      cases (either (ltb eventLimit n))
+      (λ y. let d : _≡_ {A = ℕ} 3 0 = rw (room-full (ltb-true eventLimit n y)) at z in absurd (omega arith))
+      (λ y. let h : n ≤ eventLimit = ltb-false eventLimit n y in (
         h,
         cases (either (eqb (layoutFault 1 (onward room 0 n) .number) 0)) (λ e. eqb-true _ _ e)
             (λ e. absurd (eqb-false _ _ e (rw (room-layout h (eqb-false _ _ e)) at z))),
