@@ -15,7 +15,7 @@ use Rattle.text.proofs.Walk.{Some}
 use Rattle.frame.specs.Reading.{linesFault, settle}
 use Rattle.frame.proofs.Lines.{lines-open, lines-end, lines-stop, lines-go}
 use Rattle.matching.specs.Entry.{entryOf}
-use Rattle.matching.specs.Reading.{matchingKind, entriesIn, refused, counted}
+use Rattle.matching.specs.Reading.{matchingKind, entriesIn, refused, readAs}
 use Rattle.matching.specs.Survey.{surveyLines}
 use Rattle.matching.specs.declared.entry.EntryRead.the-variants.{Entry, Refused}
 
@@ -25,7 +25,7 @@ unfolding entryOf cut same
 blank = refl
 
 -- all lines
-pub read-all : (ls : List (List ℕ)) → surveyLines 0 ls ≡ settle refused (linesFault matchingKind 3 2 0 ls) (counted (length (entriesIn ls)))
+pub read-all : (ls : List (List ℕ)) → surveyLines 0 ls ≡ settle refused (linesFault matchingKind 3 2 0 ls) (readAs (length (entriesIn ls)))
 unfolding surveyLines
 read-all ls = let z : 0 + length (entriesIn ls) ≡ length (entriesIn ls) = omega arith in rw z
 
@@ -38,7 +38,7 @@ module _ (n : ℕ) (l : List ℕ) where
   pub read-open : isEmpty l ≡ false → surveyLines n (l ∷ []) ≡ refused (answer 2 3 (n + 2))
   read-open h = stop (l ∷ []) 2 refl (lines-open matchingKind 3 (n + 2) n l h)
 
-  pub read-end : isEmpty l ≡ true → l ≡ [] → surveyLines n (l ∷ []) ≡ counted n
+  pub read-end : isEmpty l ≡ true → l ≡ [] → surveyLines n (l ∷ []) ≡ readAs n
   unfolding surveyLines saidIn
   read-end h e = let z : n + 0 ≡ n = omega arith in rw (lines-end matchingKind 3 (n + 2) n l h, e, blank, z)
 

@@ -18,7 +18,7 @@ use Rattle.text.proofs.Walk.{Some}
 use Rattle.frame.proofs.Heads.{framed, by-lines}
 use Rattle.frame.proofs.Lines.{lines-pass}
 use Rattle.matching.specs.Entry.{header, entryOf, entryLine}
-use Rattle.matching.specs.Reading.{matchingKind, entryFault, entriesIn, counted, surveyOf, entriesOf}
+use Rattle.matching.specs.Reading.{matchingKind, entryFault, entriesIn, readAs, surveyOf, entriesOf}
 use Rattle.matching.specs.Survey.{surveyLines}
 use Rattle.matching.specs.declared.entry.EntryRead.{EntryRead}
 use Rattle.matching.specs.declared.entry.EntryRead.the-variants.{Entry, Refused}
@@ -73,7 +73,7 @@ some-end : (es : List ℕ) → Some (tail es)
 some-end [] = tt
 some-end (e ∷ es) = tt
 
-tail-lines : (n : ℕ) (es : List ℕ) → Fits n es → surveyLines n (tail es) ≡ counted (n + length es)
+tail-lines : (n : ℕ) (es : List ℕ) → Fits n es → surveyLines n (tail es) ≡ readAs (n + length es)
 tail-lines n [] f = let z : n + 0 ≡ n = omega arith in rw z (read-end n [] refl refl)
 tail-lines n (e ∷ es) f =
     let z : n + suc (length es) ≡ n + 1 + length es = omega arith in
@@ -113,7 +113,7 @@ header-free = (
   ((λ z. omega arith), ((λ z. omega arith), ((λ z. omega arith), ((λ z. omega arith), ((λ z. omega arith), ((λ z. omega arith), tt)))))),
 )
 
-pub text-read : (es : List ℕ) → Fits 0 es → (surveyOf (matchText es) ≡ counted (length es)) × (entriesOf (matchText es) ≡ es)
+pub text-read : (es : List ℕ) → Fits 0 es → (surveyOf (matchText es) ≡ readAs (length es)) × (entriesOf (matchText es) ≡ es)
 unfolding surveyOf entriesOf
 text-read es f =
     let short : length (matchText es) ≤ 32400 = omega (arith, tail-length header es (f .numbers), f .few) in

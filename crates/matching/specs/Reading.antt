@@ -41,12 +41,12 @@ entriesOf t = entriesIn (body (split t))
 abbrev pub refused : Answer → MatchingRead
 refused a = record { answer = a; entries = 0 }
 
-abbrev pub counted : ℕ → MatchingRead
-counted n = record { answer = done; entries = n }
+abbrev pub readAs : ℕ → MatchingRead
+readAs n = record { answer = done; entries = n }
 
 -- Answers 1 to 3 of a text, with its number of entries.
 unfoldable pub surveyOf : List ℕ → MatchingRead
-surveyOf t = settle refused (textFault matchingKind 3 t) (counted (length (entriesOf t)))
+surveyOf t = settle refused (textFault matchingKind 3 t) (readAs (length (entriesOf t)))
 
 -- 17, after the others: a room of so many words does not hold the entries.
 abbrev pub roomFor : ℕ → MatchingRead → MatchingRead

@@ -61,13 +61,13 @@ module _ (s : ℕ) where
     pub until-in : i ≤ length t → i + until s (drop i t) ≤ length t
     until-in h = omega (arith, until-le (drop i t), length-drop i t)
 
-  -- after a part that ends at e: the parts after its s
   -- another byte stands k places on
   pub until-on : (t : List ℕ) (i k : ℕ) → i + k < length t → (getD t (i + k) 0 ≡ s → ⊥)
       → until s (drop (i + k) t) ≡ until s (drop (i + (k + 1)) t) + 1
   until-on t i k h e =
       let one-on : i + k + 1 ≡ i + (k + 1) = omega arith in until-go t (i + k) h e ∙ ap (λ (j : ℕ). until s (drop j t) + 1) one-on
 
+  -- after a part that ends at e: the parts after its s
   pub after-part : (t : List ℕ) (e : ℕ) → e < length t → more s (drop e t) ≡ cut s (drop (e + 1) t)
   unfolding more
   after-part t e k = rw (drop-cons t e 0 k, add-one e)

@@ -41,16 +41,6 @@ module _ (t : List ℕ) (at e : ℕ) (p : e ≡ at + lineLen (drop at t)) where
   pub line-in : at ≤ length t → (at ≤ e) × (e ≤ length t)
   line-in h = omega (arith, until-in 10 t at h)
 
-  -- the last line has no LF
-  pub parts-open : at < length t → length t ≤ e → (splitFrom t at ≡ line ∷ []) × (isEmpty line ≡ false)
-  parts-open h k =
-      let o : length t < e + 1 = omega arith in
-      let d : length (drop at t) ≤ e - at = omega (arith, length-drop at t) in
-      let z : 0 < length (drop at t) = omega (arith, length-drop at t) in (
-        parts-line (omega arith) ∙ rw (from-out 10 t (e + 1) o),
-        rw (take-all (e - at) (drop at t) d) (not-empty (drop at t) z),
-      )
-
 -- some part starts at a place within the text
 pub parts-some : (t : List ℕ) (at : ℕ) → at ≤ length t → Some (splitFrom t at)
 parts-some t at h = rw (parts-line t at (at + lineLen (drop at t)) refl h) tt

@@ -1,7 +1,7 @@
 -- The events of a room one by one: the first of those that are left, what 18 says of it, and what 5 and 6 say of it. Assumes nothing.
 use Prim.Native.Nat.{ℕ, suc, _+_, _-_, _≤_, _<_}
 use mathlib.Core.Bool.{Bool, true, false}
-use mathlib.Core.Path.{_≡_, refl}
+use mathlib.Core.Path.{_≡_, refl, sym}
 use mathlib.Core.List.{List, [], _∷_}
 use native.Mathlib.Omega.{arith}
 use lib.Dec.{eqb}
@@ -86,3 +86,13 @@ first-assoc a b c = cases (either (eqb (a .number) 0)) (λ e. rw e) (λ e. rw (e
 
 pub first-same : (a b c : Answer) → (a .number ≡ 0 → b ≡ c) → first a b ≡ first a c
 first-same a b c h = cases (either (eqb (a .number) 0)) (λ e. rw e (h (eqb-true (a .number) 0 e))) (λ e. rw e)
+
+pub first-none : (a : Answer) → (a .number ≡ 0 → a ≡ done) → first a done ≡ a
+first-none a h = cases (either (eqb (a .number) 0)) (λ e. rw e (sym (h (eqb-true (a .number) 0 e)))) (λ e. rw e)
+
+-- what is no refusal is done, and stays so
+pub first-stays : (a : Answer) (side k : ℕ) (clash right : Bool) {r : Answer} → r ≡ first a (faultAt side k clash right) → r .number ≡ 0 → r ≡ done
+first-stays a side k clash right q z =
+    let d = first-done a (faultAt side k clash right) (rw q at z) in
+    let f = fault-free side k clash right (d .1) in
+    rw (q, d .0, f .0, f .1)

@@ -1,7 +1,7 @@
 // Answers 5 and 6 of one event: how its location was used, and whether its value is the latest.
 ghost use mathlib.Core.Path.{_≡_};
 ghost use Prim.Native.Nat.{_<_};
-ghost use Rattle.event.specs.Answer.{first};
+ghost use Rattle.event.specs.Answer.{done, first};
 ghost use Rattle.trace.specs.Fault.{faultAt};
 ghost use Rattle.trace.specs.Way.{wayOf, opposed, joined, clashing, waysAfter};
 use event::Answer;
@@ -71,18 +71,26 @@ pub(crate) fn use_place(ways: &mut [Way; 256], e: Event) -> bool
     are_opposed(was, way)
 }
 
+// The first of two answers that refuses.
+fn first_of(a: Answer, b: Answer) -> Answer
+    ensures { λ r. ⌜ r ≡ first a b ⌝ }
+{
+    if a.number != 0 {
+        return a;
+    }
+    b
+}
+
 // 5 or 6 of the event of a number, by whether it clashes and whether its value is the latest, unless something was found before.
 pub(crate) fn fault_at(found: Answer, clash: bool, right: bool, side: Number, k: usize) -> Answer
+    requires { ⌜ (found .number ≡ 0 → found ≡ done) ⌝ }
     ensures { λ r. ⌜ r ≡ first found (faultAt side k clash right) ⌝ }
 {
-    if found.number != 0 {
-        return found;
-    }
     if clash {
-        return Answer::new(5, side, k);
+        return first_of(found, Answer::new(5, side, k));
     }
     if right {
-        return Answer::new(0, 0, 0);
+        return found;
     }
-    Answer::new(6, side, k)
+    first_of(found, Answer::new(6, side, k))
 }

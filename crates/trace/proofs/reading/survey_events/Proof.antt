@@ -8,7 +8,7 @@ use native.Mathlib.Omega.{arith}
 use borrow.Author.Needs.{needs}
 use borrow.Author.Tests.{ne-eqb}
 use lib.ListN.{length, take, drop, length-set, drop-of-length-le}
-use Rattle.event.specs.Answer.{first}
+use Rattle.event.specs.Answer.{done, first}
 use Rattle.event.specs.declared.Answer.{Answer}
 use Rattle.event.specs.declared.Event.{Event}
 use Rattle.event.specs.declared.memory.Memory.{Memory}
@@ -25,7 +25,7 @@ use Rattle.trace.specs.Fault.{clashes, faultAt}
 use Rattle.trace.specs.Reading.{refused}
 use Rattle.trace.specs.Survey.{surveyEvents}
 use Rattle.trace.specs.declared.reading.TraceRead.{TraceRead}
-use Rattle.trace.proofs.Judged.{fault-free}
+use Rattle.trace.proofs.Judged.{fault-free, first-stays}
 use Rattle.trace.proofs.Surveys.{surveyOn, on-start, on-open, on-found, on-end, on-bad, on-init, on-full, on-go}
 use Rattle.trace.proofs.Ways.{Marks, marks-start, marks-told, clash, marks-next}
 use Rattle.trace.proofs.reading.survey_events.Statement.{statement}
@@ -37,6 +37,7 @@ record Inv (text : List ℕ) (from line side : ℕ) (start m : Memory) (ways : L
   counted : n < at
   size : length ways ≡ 256
   before : List Event
+  none : found .number ≡ 0 → found ≡ done
   marks : found .number ≡ 0 → Marks ways before
   same : surveyEvents side line start (splitFrom text from) ≡ surveyOn side k n m before found start (splitFrom text at)
 
@@ -152,6 +153,10 @@ module _ (c : tie.After-fault-at Inv-loop μ-loop) where
       (on-go _ _ _ _ _ _ _ _ _ (line (t (r v)) .some) (event v) (its v) (u .before .before .if1 .left) (u .use-place .result) clash-is
       ∙ on-told _ _ _ _ _ _ (u .use-place .result) found (c .before .step .ensures) (c .fault-at .ensures))
 
+  none-after : c .fault-at .result .number ≡ 0 → c .fault-at .result ≡ done
+  none-after z =
+      first-stays found (begin p .args .side) (p .before .loop .n + 1) (u .use-place .result) (c .before .step .result .right) (c .fault-at .ensures) z
+
   marks-after : c .fault-at .result .number ≡ 0 → Marks (u .use-place .last .0) (event v ∷ inv p .before)
   marks-after z =
       let f = first-done found _ (ap (λ (a : Answer). a .number) (sym (c .fault-at .ensures)) ∙ z) in
@@ -165,6 +170,7 @@ loop-holds c = record {
   counted = omega arith;
   size = refl;
   before = [];
+  none = λ z. c .new .ensures;
   marks = λ z. marks-start;
   same = rw (c .new .ensures) (on-start _ _ _ _);
 }
@@ -196,6 +202,7 @@ loop-again c =
       counted = omega (arith, n, inv (p c));
       size = ap length (u c .use-place .ensures .1) ∙ simp length-set (inv (p c) .size);
       before = event (v c) ∷ inv (p c) .before;
+      none = none-after c;
       marks = marks-after c;
       same = goes-on c;
     }
@@ -256,7 +263,7 @@ survey-events-spec =
     (λ c. omega arith)
     (λ c κs. inside (c .before .before .before))
     (search needs)
-    (search needs)
+    (λ c κs. inv (l (t (r (c .before .before .before .before .before)))) .none)
     (λ c. omega (arith, line (t (r (v c))), inv (p c), begin (p c) .good))
     (λ c. omega (arith, line (t (r (v c))), begin (p c) .good))
     (λ c. omega (arith, line (t (r (v c))), begin (p c) .good))

@@ -151,7 +151,7 @@ event-fault-spec =
     (λ c κs. inside (c .before))
     (search needs)
     (λ c. omega arith)
-    (search needs)
+    (λ c κs z. l (c .before .before .before) .before .new .ensures)
     returns
     (λ c. omega arith)
     (λ c. omega arith)

@@ -3,6 +3,7 @@ use Prim.Native.Nat.{ℕ, _+_, _-_, _≤_}
 use mathlib.Core.List.{List, _∷_}
 use mathlib.Core.Path.{_≡_, sym, _∙_}
 use native.Mathlib.Omega.{arith}
+use borrow.Author.Needs.{needs}
 use borrow.Author.Tests.{not-true, not-false}
 use Rattle.event.specs.Kind.{lawful}
 use Rattle.event.specs.Room.{eventAt, onward}
@@ -38,15 +39,6 @@ module _ (c : tie.After-is-lawful Inv-loop μ-loop) where
 loop-holds : tie.Need-loop-holds Inv-loop μ-loop
 loop-holds c = (omega arith, rw (onward-all (c .before .args .room .now) (c .before .args .n)))
 
-get-requires : tie.Need-get-requires Inv-loop μ-loop
-get-requires c κs = tt
-
-is-lawful-requires : tie.Need-is-lawful-requires Inv-loop μ-loop
-is-lawful-requires c κs = tt
-
-new-requires : tie.Need-new-requires Inv-loop μ-loop
-new-requires c κs = tt
-
 returns : tie.Need-returns Inv-loop μ-loop
 returns c =
     let p = c .before .before in
@@ -54,9 +46,6 @@ returns c =
 
 loop-again : tie.Need-loop-again Inv-loop μ-loop
 loop-again c = (omega arith, whole (c .before) (layout-go _ _ _ (lawful-is (c .before) ∙ not-false _ (c .if1 .left))))
-
-new-requires-2 : tie.Need-new-requires-2 Inv-loop μ-loop
-new-requires-2 c κs = tt
 
 returns-2 : tie.Need-returns-2 Inv-loop μ-loop
 returns-2 c =
@@ -71,13 +60,13 @@ layout-fault-spec =
     Inv-loop
     μ-loop
     loop-holds
-    get-requires
-    is-lawful-requires
+    (search needs)
+    (search needs)
     (λ c. omega arith)
-    new-requires
+    (search needs)
     returns
     (λ c. omega arith)
     (λ c. omega arith)
     loop-again
-    new-requires-2
+    (search needs)
     returns-2)
