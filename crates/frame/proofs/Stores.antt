@@ -81,7 +81,8 @@ module _ {A : Type 0} (put : List ℕ → ℕ → A → List ℕ) (P : Puts A pu
   held-start = rw (← body-from t) (stored-start put P all room₀)
 
   -- the line that starts at a place, by where it ends, says bs
-  pub held-step : P .room (length all) ≤ length room₀ → (at e : ℕ) → at ≤ length t → (p : e ≡ at + lineLen (drop at t)) (i j : ℕ) (room room′ : List ℕ) (bs : List A)
+  pub held-step : P .room (length all) ≤ length room₀ → (at e : ℕ) → at ≤ length t → (p : e ≡ at + lineLen (drop at t)) (i j : ℕ)
+      (room room′ : List ℕ) (bs : List A)
       → bs ≡ says (line t at e p) → j ≡ i + length bs → room′ ≡ placed put room i bs → Held i room at → Held j room′ (e + 1)
   held-step f at e h p i j room room′ bs q a b s =
       rw (a, b, q) (stored-line put P all room₀ f i room (says (line t at e p)) (saidIn says (splitFrom t (e + 1))) (rw (said-line says t at e p h) at s))

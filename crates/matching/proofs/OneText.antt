@@ -61,7 +61,9 @@ pub text-back : (t : List ℕ) → surveyOf t .answer .number ≡ 0 → (matchTe
 unfolding entriesOf
 text-back t h =
     let f = framed matchingKind 3 t (survey-done t h .0) in
-    let p = lines-pass matchingKind 3 Printed last-printed (λ n l ls. line-printed n l ls (entryOf l) refl) 2 0 (body (split t)) (f .some) (f .lines) (omega arith) in
+    let p =
+    lines-pass matchingKind 3 Printed last-printed (λ n l ls. line-printed n l ls (entryOf l) refl) 2 0 (body (split t)) (f .some) (f .lines)
+    (omega arith) in
     (ap (glue 10) (ap (λ (qs : List (List ℕ)). header ∷ qs) (sym (p .0)) ∙ sym (f .parts)) ∙ glue-cut 10 t, p .1)
 
 -- So one list of entries has one text.

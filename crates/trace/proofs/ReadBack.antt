@@ -152,7 +152,8 @@ module _ (side : ℕ) (m : Memory) (es : List Event) (f : Fits m es) where
   the-lines : linesFault traceKind side 2 (traceKind .start) (initLines 0 (m .cells) ++ tail es) ≡ done
   the-lines =
       inits-lines (tail es) side (some-end (map eventLine es))
-      (λ k low. tail-lines side k (record { low = low; events = 0 }) es (omega (arith, f .few)) (f .events)) 2 0 0 (m .cells) (omega arith) (omega arith) (f .values)
+      (λ k low. tail-lines side k (record { low = low; events = 0 }) es (omega (arith, f .few)) (f .events)) 2 0 0 (m .cells) (omega arith)
+      (omega arith) (f .values)
 
   -- Document 01, "Lent room": "The writer makes the `init` lines from that memory and fills exactly the bytes that it counts." What is
   -- written so is read back as that memory and those events, without refusal.

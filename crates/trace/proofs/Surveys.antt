@@ -41,7 +41,8 @@ module _ (side k n : ℕ) (m : Memory) (before : List Event) (found : Answer) (s
   abbrev here : List (List ℕ) → TraceRead
   here ls = surveyOn side k n m before found start ls
 
-  on-refused : (ls : List (List ℕ)) (x : ℕ) → eqb x 0 ≡ false → linesFault traceKind side k (closed n) ls ≡ answer x side k → here ls ≡ refused (answer x side k)
+  on-refused : (ls : List (List ℕ)) (x : ℕ) → eqb x 0 ≡ false → linesFault traceKind side k (closed n) ls ≡ answer x side k
+      → here ls ≡ refused (answer x side k)
   unfolding surveyOn
   on-refused ls x z h = rw (h, z, z)
 
@@ -84,4 +85,5 @@ module _ (side k n : ℕ) (m : Memory) (before : List Event) (found : Answer) (s
           let b : Answer = faultAt side (n + 1) (clashes before e) (stepped m e .right) in
           let w : first found a ≡ first found b = first-same found a b (λ z. rw (q z)) in
           let o : Answer = others-fault side (n + 1) m before e (eventsIn ps) in
-          rw (lines-go traceKind side k (closed n) l ps s (rw (h, lt-leb 800 n f)), h, c, fault-next side (n + 1) m before e (eventsIn ps), first-assoc found b o, w)
+          let g = lines-go traceKind side k (closed n) l ps s (rw (h, lt-leb 800 n f)) in
+          rw (g, h, c, fault-next side (n + 1) m before e (eventsIn ps), first-assoc found b o, w)

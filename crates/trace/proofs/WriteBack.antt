@@ -93,7 +93,8 @@ none-left : (l : List ℕ) → length l ≡ 0 → l ≡ []
 none-left [] h = refl
 none-left (x ∷ l) h = absurd (omega arith)
 
-start-first : (w : List ℕ) (n : ℕ) (l : List ℕ) (ls : List (List ℕ)) (e : Event) → recordOf l ≡ Line e → Started (w ++ replicate n 0) 0 ls → Started w n (l ∷ ls)
+start-first : (w : List ℕ) (n : ℕ) (l : List ℕ) (ls : List (List ℕ)) (e : Event) → recordOf l ≡ Line e
+    → Started (w ++ replicate n 0) 0 ls → Started w n (l ∷ ls)
 unfolding saidIn initLines
 start-first w n l ls e q b =
     let z = none-left (b .cells) (b .size) in record {

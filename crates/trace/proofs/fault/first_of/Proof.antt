@@ -1,6 +1,5 @@
 -- The test is the definition's. Assumes nothing.
 use borrow.Author.Tests.{eq-eqb, ne-eqb}
-use borrow.Author.Needs.{needs}
 use Rattle.trace.proofs.fault.first_of.Statement.{statement}
 use Rattle.trace.proofs.fault.first_of.Tie as tie
 

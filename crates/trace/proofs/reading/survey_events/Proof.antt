@@ -143,6 +143,9 @@ module _ (c : tie.After-fault-at Inv-loop μ-loop) where
   abbrev found : Answer
   found = p .before .loop .found
 
+  abbrev right-now : Bool
+  right-now = c .before .step .result .right
+
   clash-is : found .number ≡ 0 → u .use-place .result ≡ clashes (inv p .before) (event v)
   clash-is z = u .use-place .ensures .0 ∙ sym (clash ways (inv p .before) (event v) (inside v) (inv p .marks z))
 
@@ -155,13 +158,14 @@ module _ (c : tie.After-fault-at Inv-loop μ-loop) where
 
   none-after : c .fault-at .result .number ≡ 0 → c .fault-at .result ≡ done
   none-after z =
-      first-stays found (begin p .args .side) (p .before .loop .n + 1) (u .use-place .result) (c .before .step .result .right) (c .fault-at .ensures) z
+      first-stays found (begin p .args .side) (p .before .loop .n + 1) (u .use-place .result) right-now (c .fault-at .ensures) z
 
   marks-after : c .fault-at .result .number ≡ 0 → Marks (u .use-place .last .0) (event v ∷ inv p .before)
   marks-after z =
       let f = first-done found _ (ap (λ (a : Answer). a .number) (sym (c .fault-at .ensures)) ∙ z) in
-      let free = sym (u .use-place .ensures .0) ∙ fault-free (begin p .args .side) (p .before .loop .n + 1) (u .use-place .result) (c .before .step .result .right) (f .1) .0 in
-      marks-told (event v ∷ inv p .before) (u .use-place .ensures .1) (marks-next ways (inv p .before) (event v) (inside v) (inv p .marks (f .0)) (inv p .size) free)
+      let free = sym (u .use-place .ensures .0) ∙ fault-free (begin p .args .side) (p .before .loop .n + 1) (u .use-place .result) right-now (f .1) .0 in
+      marks-told (event v ∷ inv p .before) (u .use-place .ensures .1)
+      (marks-next ways (inv p .before) (event v) (inside v) (inv p .marks (f .0)) (inv p .size) free)
 
 loop-holds : tie.Need-loop-holds Inv-loop μ-loop
 loop-holds c = record {

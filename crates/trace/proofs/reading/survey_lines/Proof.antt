@@ -103,14 +103,17 @@ module _ (c : tie.After-place Inv-loop μ-loop) where
   inside : cell ≤ 255
   inside = init-place _ _ _ its
 
-  by-line : {w : TraceRead}
-      → surveyInits (begin (l (t r)) .args .side) (k (l (t r))) (l (t r) .before .loop .low) (start (l (t r))) (this r ∷ splitFrom (text (l (t r))) (to (t r) + 1)) ≡ w
-      → whole (l (t r)) ≡ w
-  by-line e = inv (l (t r)) .same ∙ rw (line (t r) .parts) e
+  abbrev p : tie.After-next-line Inv-loop μ-loop
+  p = l (t r)
 
-  goes-on : (i : ℕ) → i ≡ cell → l (t r) .before .loop .low ≤ cell
-      → whole (l (t r)) ≡ surveyInits (begin (l (t r)) .args .side) (k (l (t r)) + 1) (cell + 1) (record { cells = set (start (l (t r)) .cells) i value })
-      (splitFrom (text (l (t r))) (to (t r) + 1))
+  abbrev others : List (List ℕ)
+  others = splitFrom (text p) (to (t r) + 1)
+
+  by-line : {w : TraceRead} → surveyInits (begin p .args .side) (k p) (p .before .loop .low) (start p) (this r ∷ others) ≡ w → whole p ≡ w
+  by-line e = inv p .same ∙ rw (line (t r) .parts) e
+
+  goes-on : (i : ℕ) → i ≡ cell → p .before .loop .low ≤ cell
+      → whole p ≡ surveyInits (begin p .args .side) (k p + 1) (cell + 1) (record { cells = set (start p .cells) i value }) others
   goes-on i e o = rw e (by-line (inits-go _ _ _ _ _ _ (line (t r) .some) cell value its o))
 
 loop-holds : tie.Need-loop-holds Inv-loop μ-loop
@@ -130,7 +133,8 @@ handed c = (inv c .within, (inv c .lined, omega (arith, inv c)))
 returns : tie.Need-returns Inv-loop μ-loop
 returns c =
     let o = c .before .before .before in
-    rest o (last (text o) (at o) (inv o .within) (sym (o .next-line .ensures) ∙ c .before .enum-told .given .1)) (inits-last _ _ _ _ _) (c .survey-events .ensures)
+    let z = last (text o) (at o) (inv o .within) (sym (o .next-line .ensures) ∙ c .before .enum-told .given .1) in
+    rest o z (inits-last _ _ _ _ _) (c .survey-events .ensures)
 
 returns-2 : tie.Need-returns-2 Inv-loop μ-loop
 returns-2 c =

@@ -90,10 +90,16 @@ module _ (c : tie.After-fault-at Inv-loop μ-loop) where
   abbrev g : tie.After-get Inv-loop μ-loop
   g = u .before .before
 
-  abbrev its : Answer
-  its = faultAt 0 (i g + 1) (clashes (inv g .before) (e g)) (stepped (l g .loop .last .memory) (e g) .right)
+  abbrev clash-now : Bool
+  clash-now = clashes (inv g .before) (e g)
 
-  clash-is : u .use-place .result ≡ clashes (inv g .before) (e g)
+  abbrev right-now : Bool
+  right-now = stepped (l g .loop .last .memory) (e g) .right
+
+  abbrev its : Answer
+  its = faultAt 0 (i g + 1) clash-now right-now
+
+  clash-is : u .use-place .result ≡ clash-now
   clash-is = u .use-place .ensures .0 ∙ sym (clash (l g .loop .ways) (inv g .before) (e g) (inside g) (inv g .marks))
 
   found-is : c .fault-at .result ≡ its
@@ -121,7 +127,7 @@ loop-again : tie.Need-loop-again Inv-loop μ-loop
 loop-again c =
     let f = c .before .before in
     let z = ap (λ (a : Answer). a .number) (sym (found-is f)) ∙ c .if1 .left in
-    let free = sym (u f .use-place .ensures .0) ∙ (clash-is f ∙ fault-free 0 (i (g f) + 1) (clashes (inv (g f) .before) (e (g f))) (stepped (l (g f) .loop .last .memory) (e (g f)) .right) z .0) in
+    let free = sym (u f .use-place .ensures .0) ∙ (clash-is f ∙ fault-free 0 (i (g f) + 1) (clash-now f) (right-now f) z .0) in
     record {
       within = omega arith;
       size = ap length (u f .use-place .ensures .1) ∙ simp length-set (inv (g f) .size);
