@@ -19,7 +19,7 @@ use Rattle.text.specs.declared.line.LineStep.the-variants.{Line, TextEnd}
 use Rattle.text.proofs.Cuts.{from-start, from-out, cut-eq, until-le}
 use Rattle.text.proofs.Walk.{Some, next, last, body-from}
 use Rattle.text.proofs.Words.{same-eq, same-self}
-use Rattle.frame.specs.Reading.{Kind, headed, headFault, linesFault, textFault}
+use Rattle.frame.specs.Reading.{Layout, headed, headFault, linesFault, textFault}
 
 -- by line 1 and the parts after it
 head-some : (header l : List ℕ) (ps : List (List ℕ)) → Some ps → headed header (l ∷ ps) ≡ same l header
@@ -41,7 +41,7 @@ head-parts header (l ∷ []) h = absurd (false≢true h)
 head-parts header (l ∷ p ∷ ps) h = (rw (same-eq l header h), tt)
 
 -- what a text is whose size and lines are not refused
-pub record Framed {S : Type 0} (T : Kind S) (side : ℕ) (t : List ℕ) : Type 0 where
+pub record Framed {S : Type 0} (T : Layout S) (side : ℕ) (t : List ℕ) : Type 0 where
   pub short : length t ≤ T .limit
   pub parts : split t ≡ T .header ∷ body (split t)
   pub some : Some (body (split t))
@@ -54,7 +54,7 @@ head-done side limit header t h =
     let d = not-second (λ (a : Answer). a .number) (headed header (split t)) done (answer 2 side 1) (λ z. omega arith) (c .1) in
     (ltb-false limit (length t) (c .0), d .0)
 
-module _ {S : Type 0} (T : Kind S) (side : ℕ) (t : List ℕ) where
+module _ {S : Type 0} (T : Layout S) (side : ℕ) (t : List ℕ) where
   pub framed : textFault T side t .number ≡ 0 → Framed T side t
   unfolding textFault
   framed h =

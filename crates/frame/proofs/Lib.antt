@@ -1,4 +1,4 @@
--- The laws of a reading, over the kind of the text. Assumes nothing.
+-- The laws of a reading, over the layout of the text. Assumes nothing.
 pub mod Heads
 pub mod Lines
 pub mod Settled

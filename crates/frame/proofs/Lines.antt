@@ -10,9 +10,9 @@ use Rattle.laws.proofs.Cases.{cases, either}
 use Rattle.event.specs.Answer.{answer, done}
 use Rattle.text.specs.Cut.{isEmpty}
 use Rattle.text.proofs.Walk.{Some}
-use Rattle.frame.specs.Reading.{Kind, linesFault}
+use Rattle.frame.specs.Reading.{Layout, linesFault}
 
-module _ {S : Type 0} (T : Kind S) (side k : ℕ) (s : S) where
+module _ {S : Type 0} (T : Layout S) (side k : ℕ) (s : S) where
   -- what stands after the last LF
   pub lines-open : (l : List ℕ) → isEmpty l ≡ false → linesFault T side k s (l ∷ []) ≡ answer 2 side k
   unfolding linesFault
@@ -35,7 +35,7 @@ module _ {S : Type 0} (T : Kind S) (side k : ℕ) (s : S) where
   lines-go l (p ∷ ps) o h = rw h
 
 -- What holds of the end, and of a line that is not refused if it holds of those after it, holds of lines none of which is refused.
-module _ {S : Type 0} (T : Kind S) (side : ℕ) (P : S → List (List ℕ) → Type 0) (end : (s : S) → P s ([] ∷ []))
+module _ {S : Type 0} (T : Layout S) (side : ℕ) (P : S → List (List ℕ) → Type 0) (end : (s : S) → P s ([] ∷ []))
     (step : (s : S) (l : List ℕ) (ls : List (List ℕ)) → T .fault s l ≡ 0 → P (T .next s l) ls → P s (l ∷ ls)) where
   last-passes : (k : ℕ) (s : S) (l : List ℕ) → cond (isEmpty l) done (answer 2 side k) .number ≡ 0 → P s (l ∷ [])
   last-passes k s [] h = end s

@@ -1,5 +1,5 @@
 -- Document 01, "Numbers that come back": a text is tried for 1, then line by line, and whatever else its reading asks comes after that; "no final LF,
--- or empty text" is 2. What differs from text to text is its kind. Assumes nothing.
+-- or empty text" is 2. What differs from text to text is its layout. Assumes nothing.
 use Prim.Native.Nat.{ℕ, _+_}
 use mathlib.Core.Bool.{Bool, false, cond}
 use mathlib.Core.List.{List, [], _∷_}
@@ -11,9 +11,9 @@ use Rattle.text.specs.Cut.{isEmpty}
 use Rattle.text.specs.Line.{split, body}
 use Rattle.text.specs.Word.{same}
 
--- A kind of text: its limit in bytes, its line 1, what is known before line 2 (an S), and, by what is known, a line's refusal (0 for none) and what
+-- A layout of texts: its limit in bytes, its line 1, what is known before line 2 (an S), and, by what is known, a line's refusal (0 for none) and what
 -- is known after it.
-pub record Kind (S : Type 0) : Type 0 where
+pub record Layout (S : Type 0) : Type 0 where
   pub limit : ℕ
   pub header : List ℕ
   pub start : S
@@ -31,14 +31,14 @@ unfoldable pub headFault : ℕ → ℕ → List ℕ → List ℕ → Answer
 headFault side limit header t = cond (ltb limit (length t)) (answer 1 side 0) (cond (headed header (split t)) done (answer 2 side 1))
 
 -- The first refusal of the lines from line k on. After the last LF nothing may stand.
-unfoldable pub linesFault : {S : Type 0} → Kind S → ℕ → ℕ → S → List (List ℕ) → Answer
+unfoldable pub linesFault : {S : Type 0} → Layout S → ℕ → ℕ → S → List (List ℕ) → Answer
 linesFault T side k s [] = done
 linesFault T side k s (l ∷ []) = cond (isEmpty l) done (answer 2 side k)
 linesFault T side k s (l ∷ m ∷ ls) =
     cond (eqb (T .fault s l) 0) (linesFault T side (k + 1) (T .next s l) (m ∷ ls)) (answer (T .fault s l) side k)
 
 -- The first refusal of a text: 1, then line by line.
-unfoldable pub textFault : {S : Type 0} → Kind S → ℕ → List ℕ → Answer
+unfoldable pub textFault : {S : Type 0} → Layout S → ℕ → List ℕ → Answer
 textFault T side t = first (headFault side (T .limit) (T .header) t) (linesFault T side 2 (T .start) (body (split t)))
 
 -- What a reading hands back, by its first refusal.

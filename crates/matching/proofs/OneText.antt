@@ -18,7 +18,7 @@ use Rattle.text.proofs.Walk.{Some}
 use Rattle.frame.proofs.Heads.{framed, by-lines}
 use Rattle.frame.proofs.Lines.{lines-pass}
 use Rattle.matching.specs.Entry.{header, entryOf, entryLine}
-use Rattle.matching.specs.Reading.{matchingKind, entryFault, entriesIn, readAs, surveyOf, entriesOf}
+use Rattle.matching.specs.Reading.{matchingLayout, entryFault, entriesIn, readAs, surveyOf, entriesOf}
 use Rattle.matching.specs.Survey.{surveyLines}
 use Rattle.matching.specs.declared.entry.EntryRead.{EntryRead}
 use Rattle.matching.specs.declared.entry.EntryRead.the-variants.{Entry, Refused}
@@ -60,9 +60,9 @@ line-printed n l ls (Entry e) q h g b =
 pub text-back : (t : List ℕ) → surveyOf t .answer .number ≡ 0 → (matchText (entriesOf t) ≡ t) × Fits 0 (entriesOf t)
 unfolding entriesOf
 text-back t h =
-    let f = framed matchingKind 3 t (survey-done t h .0) in
+    let f = framed matchingLayout 3 t (survey-done t h .0) in
     let p =
-    lines-pass matchingKind 3 Printed last-printed (λ n l ls. line-printed n l ls (entryOf l) refl) 2 0 (body (split t)) (f .some) (f .lines)
+    lines-pass matchingLayout 3 Printed last-printed (λ n l ls. line-printed n l ls (entryOf l) refl) 2 0 (body (split t)) (f .some) (f .lines)
     (omega arith) in
     (ap (glue 10) (ap (λ (qs : List (List ℕ)). header ∷ qs) (sym (p .0)) ∙ sym (f .parts)) ∙ glue-cut 10 t, p .1)
 
@@ -121,6 +121,6 @@ text-read es f =
     let short : length (matchText es) ≤ 32400 = omega (arith, tail-length header es (f .numbers), f .few) in
     let q : split (matchText es) ≡ header ∷ tail es = cut-glue 10 header (tail es) (header-free, tail-free es) in
     let z : 0 + length es ≡ length es = omega arith in (
-      rw (by-lines matchingKind 3 (matchText es) (tail es) short q (some-end es), q) (sym (read-all (tail es)) ∙ tail-lines 0 es f ∙ rw z),
+      rw (by-lines matchingLayout 3 (matchText es) (tail es) short q (some-end es), q) (sym (read-all (tail es)) ∙ tail-lines 0 es f ∙ rw z),
       rw q (tail-entries es (f .numbers)),
     )

@@ -6,16 +6,16 @@ use native.Mathlib.Omega.{arith}
 use lib.ListN.{length}
 use Rattle.frame.specs.Reading.{textFault}
 use Rattle.frame.proofs.Settled.{settled, fits}
-use Rattle.matching.specs.Reading.{matchingKind, refused, readAs, surveyOf, entriesOf, readOf}
+use Rattle.matching.specs.Reading.{matchingLayout, refused, readAs, surveyOf, entriesOf, readOf}
 use Rattle.matching.specs.declared.MatchingRead.{MatchingRead}
 
 abbrev number : MatchingRead → ℕ
 number r = r .answer .number
 
 pub survey-done : (t : List ℕ) → surveyOf t .answer .number ≡ 0
-    → (textFault matchingKind 3 t .number ≡ 0) × (surveyOf t ≡ readAs (length (entriesOf t)))
+    → (textFault matchingLayout 3 t .number ≡ 0) × (surveyOf t ≡ readAs (length (entriesOf t)))
 unfolding surveyOf
-survey-done t h = settled refused number (λ a. refl) (textFault matchingKind 3 t) (readAs (length (entriesOf t))) h
+survey-done t h = settled refused number (λ a. refl) (textFault matchingLayout 3 t) (readAs (length (entriesOf t))) h
 
 pub counts : (t : List ℕ) → surveyOf t .answer .number ≡ 0 → surveyOf t .entries ≡ length (entriesOf t)
 counts t h = ap (λ (r : MatchingRead). r .entries) (survey-done t h .1)

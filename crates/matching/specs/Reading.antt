@@ -7,7 +7,7 @@ use lib.ListN.{length, drop}
 use Rattle.event.specs.Answer.{done}
 use Rattle.event.specs.declared.Answer.{Answer}
 use Rattle.text.specs.Line.{split, body, saidIn, textLimit}
-use Rattle.frame.specs.Reading.{Kind, textFault, settle, fitted}
+use Rattle.frame.specs.Reading.{Layout, textFault, settle, fitted}
 use Rattle.matching.specs.Entry.{header, entryOf}
 use Rattle.matching.specs.declared.entry.EntryRead.{EntryRead}
 use Rattle.matching.specs.declared.entry.EntryRead.the-variants.{Entry, Refused}
@@ -22,9 +22,9 @@ abbrev pub entryFault : ℕ → EntryRead → ℕ
 entryFault n Refused = 2
 entryFault n (Entry e) = cond (leb entryLimit n) 3 0
 
--- The kind of text: what is known is the number of entries so far.
-abbrev pub matchingKind : Kind ℕ
-matchingKind = record { limit = textLimit; header = header; start = 0; fault = λ n l. entryFault n (entryOf l); next = λ n l. n + 1 }
+-- The layout of a matching: what is known is the number of entries so far.
+abbrev pub matchingLayout : Layout ℕ
+matchingLayout = record { limit = textLimit; header = header; start = 0; fault = λ n l. entryFault n (entryOf l); next = λ n l. n + 1 }
 
 -- The entries of a text: those of the lines after line 1.
 abbrev pub entriesOn : EntryRead → List ℕ
@@ -46,7 +46,7 @@ readAs n = record { answer = done; entries = n }
 
 -- Answers 1 to 3 of a text, with its number of entries.
 unfoldable pub surveyOf : List ℕ → MatchingRead
-surveyOf t = settle refused (textFault matchingKind 3 t) (readAs (length (entriesOf t)))
+surveyOf t = settle refused (textFault matchingLayout 3 t) (readAs (length (entriesOf t)))
 
 -- 17, after the others: a room of so many words does not hold the entries.
 abbrev pub roomFor : ℕ → MatchingRead → MatchingRead

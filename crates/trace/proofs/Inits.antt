@@ -21,7 +21,7 @@ use Rattle.record.specs.declared.Record.{Record}
 use Rattle.record.specs.declared.Record.the-variants.{Init, Line, Refused}
 use Rattle.record.proofs.Records.{blank, init-place}
 use Rattle.trace.specs.Fault.{eventFault}
-use Rattle.trace.specs.Reading.{Passed, lineFault, afterLine, traceKind, eventsIn, startIn, startFrom, readAs, refused}
+use Rattle.trace.specs.Reading.{Passed, lineFault, afterLine, traceLayout, eventsIn, startIn, startFrom, readAs, refused}
 use Rattle.trace.specs.Survey.{closed, surveyInits, surveyEvents}
 
 -- where no line is refused, no line after the first event is a starting value
@@ -40,9 +40,9 @@ quiet-line s l ls (Init p v) e h g q cells =
     absurd (let z : _≡_ {A = ℕ} 4 0 = rw (lt-ltb p (s .low) b) at h in omega arith)
 quiet-line s l ls (Line v) e h g q cells = rw (e, startIn) (g refl cells)
 
-quiet : (side k : ℕ) (ls : List (List ℕ)) → Some ls → linesFault traceKind side k (closed 0) ls .number ≡ 0 → (cells : List ℕ) → startIn cells ls ≡ cells
+quiet : (side k : ℕ) (ls : List (List ℕ)) → Some ls → linesFault traceLayout side k (closed 0) ls .number ≡ 0 → (cells : List ℕ) → startIn cells ls ≡ cells
 quiet side k ls o h =
-    lines-pass traceKind side Quiet quiet-end (λ s l ls. quiet-line s l ls (recordOf l) refl) k (closed 0) ls o h refl
+    lines-pass traceLayout side Quiet quiet-end (λ s l ls. quiet-line s l ls (recordOf l) refl) k (closed 0) ls o h refl
 
 -- a refusal comes before what the memory says
 settle-same : (F : Answer) (E : Memory → Answer) (n : ℕ) (m m′ : Memory) → (F .number ≡ 0 → m′ ≡ m)
@@ -56,12 +56,12 @@ module _ (side k low : ℕ) (m : Memory) where
   abbrev opened : Passed
   opened = record { low = low; events = 0 }
 
-  inits-rest : (ls : List (List ℕ)) → Some ls → linesFault traceKind side k opened ls ≡ linesFault traceKind side k (closed 0) ls
+  inits-rest : (ls : List (List ℕ)) → Some ls → linesFault traceLayout side k opened ls ≡ linesFault traceLayout side k (closed 0) ls
       → surveyInits side k low m ls ≡ surveyEvents side k m ls
   unfolding surveyInits surveyEvents
   inits-rest ls o h =
       rw h
-      (settle-same (linesFault traceKind side k (closed 0) ls) (λ m′. eventFault side 1 m′ [] (eventsIn ls)) (length (eventsIn ls)) m (startFrom m ls)
+      (settle-same (linesFault traceLayout side k (closed 0) ls) (λ m′. eventFault side 1 m′ [] (eventsIn ls)) (length (eventsIn ls)) m (startFrom m ls)
       (λ z. start-same m ls (quiet side k ls o z (m .cells))))
 
   -- no starting value comes first: what stands after the last LF, or another line
@@ -72,18 +72,18 @@ module _ (side k low : ℕ) (m : Memory) where
   module _ (l : List ℕ) (ps : List (List ℕ)) (s : Some ps) where
     pub inits-refused : recordOf l ≡ Refused → surveyInits side k low m (l ∷ ps) ≡ surveyEvents side k m (l ∷ ps)
     inits-refused h =
-        inits-rest (l ∷ ps) tt (rw (lines-stop traceKind side k opened l ps 2 s (rw h) refl, lines-stop traceKind side k (closed 0) l ps 2 s (rw h) refl))
+        inits-rest (l ∷ ps) tt (rw (lines-stop traceLayout side k opened l ps 2 s (rw h) refl, lines-stop traceLayout side k (closed 0) l ps 2 s (rw h) refl))
 
     pub inits-event : (e : Event) → recordOf l ≡ Line e → surveyInits side k low m (l ∷ ps) ≡ surveyEvents side k m (l ∷ ps)
     inits-event e h =
-        inits-rest (l ∷ ps) tt (rw (lines-go traceKind side k opened l ps s (rw h), lines-go traceKind side k (closed 0) l ps s (rw h), h))
+        inits-rest (l ∷ ps) tt (rw (lines-go traceLayout side k opened l ps s (rw h), lines-go traceLayout side k (closed 0) l ps s (rw h), h))
 
     -- a starting value
     pub inits-low : (p v : ℕ) → recordOf l ≡ Init p v → p < low → surveyInits side k low m (l ∷ ps) ≡ refused (answer 4 side k)
     unfolding surveyInits
-    inits-low p v h o = rw (lines-stop traceKind side k opened l ps 4 s (rw (h, lt-ltb p low o)) refl)
+    inits-low p v h o = rw (lines-stop traceLayout side k opened l ps 4 s (rw (h, lt-ltb p low o)) refl)
 
     pub inits-go : (p v : ℕ) → recordOf l ≡ Init p v → low ≤ p
         → surveyInits side k low m (l ∷ ps) ≡ surveyInits side (k + 1) (p + 1) (record { cells = set (m .cells) p v }) ps
     unfolding surveyInits saidIn startIn
-    inits-go p v h o = rw (lines-go traceKind side k opened l ps s (rw (h, le-ltb p low o)), h)
+    inits-go p v h o = rw (lines-go traceLayout side k opened l ps s (rw (h, le-ltb p low o)), h)

@@ -17,7 +17,7 @@ use Rattle.trace.specs.Fault.{eventFault}
 use Rattle.frame.specs.Reading.{linesFault, textFault}
 use Rattle.frame.proofs.Heads.{framed}
 use Rattle.frame.proofs.Settled.{first-done}
-use Rattle.trace.specs.Reading.{traceKind, eventsIn, startFrom, startOf, faultOf, surveyOf, eventsOf}
+use Rattle.trace.specs.Reading.{traceLayout, eventsIn, startFrom, startOf, faultOf, surveyOf, eventsOf}
 use Rattle.trace.specs.Writing.{textOf, initLines, traceText}
 use Rattle.trace.specs.declared.reading.TraceRead.{TraceRead}
 use Rattle.trace.proofs.Readings.{survey-done}
@@ -37,20 +37,20 @@ unfolding traceText
 text-glue m es t h = sym (glue-text (header ∷ initLines 0 (m .cells) ++ map eventLine es)) ∙ rw (append-assoc, ← h) (glue-cut 10 t)
 
 -- lines that are read without refusal: what they are read as is within bounds
-lines-fit : (side : ℕ) (ls : List (List ℕ)) → Some ls → linesFault traceKind side 2 (traceKind .start) ls .number ≡ 0 → Fits (startFrom empty ls) (eventsIn ls)
+lines-fit : (side : ℕ) (ls : List (List ℕ)) → Some ls → linesFault traceLayout side 2 (traceLayout .start) ls .number ≡ 0 → Fits (startFrom empty ls) (eventsIn ls)
 lines-fit side ls s h =
     let b = bounded side 2 ls s h (empty .cells) refl (zeros 256) in
     record { size = b .size; values = b .values; few = omega (arith, b .few); events = b .events }
 
 -- and they are the lines of the trace that they are read as
-lines-printed : (side : ℕ) (ls : List (List ℕ)) → Some ls → linesFault traceKind side 2 (traceKind .start) ls .number ≡ 0
+lines-printed : (side : ℕ) (ls : List (List ℕ)) → Some ls → linesFault traceLayout side 2 (traceLayout .start) ls .number ≡ 0
     → ls ≡ initLines 0 (startFrom empty ls .cells) ++ tail (eventsIn ls)
 lines-printed side ls s h = let p = printed side 2 ls s h in rw (p .start) (p .lines)
 
 -- Document 01, "Trace text": "The longest lawful trace text is under 32,400 bytes." So it is for every text that has no line at
 -- fault, whatever its length is held to and whatever its values are.
 pub layout-length : (side : ℕ) (t : List ℕ) (ls : List (List ℕ)) → Some ls → split t ≡ header ∷ ls
-    → linesFault traceKind side 2 (traceKind .start) ls .number ≡ 0 → length t ≤ 32328
+    → linesFault traceLayout side 2 (traceLayout .start) ls .number ≡ 0 → length t ≤ 32328
 layout-length side t ls s p h =
     let m : Memory = startFrom empty ls in
     rw (text-glue m (eventsIn ls) t (p ∙ ap (λ (qs : List (List ℕ)). header ∷ qs) (lines-printed side ls s h))) at
@@ -62,9 +62,9 @@ pub record Sound (side : ℕ) (m : Memory) (es : List Event) : Type 0 where
   pub sound : eventFault side 1 m [] es .number ≡ 0
 
 module _ (side : ℕ) (t : List ℕ) (h : surveyOf side t .answer .number ≡ 0) where
-  no-fault : (textFault traceKind side t .number ≡ 0) × (eventFault side 1 (startOf t) [] (eventsOf t) .number ≡ 0)
+  no-fault : (textFault traceLayout side t .number ≡ 0) × (eventFault side 1 (startOf t) [] (eventsOf t) .number ≡ 0)
   unfolding faultOf
-  no-fault = first-done (textFault traceKind side t) (eventFault side 1 (startOf t) [] (eventsOf t)) (survey-done side t h .0)
+  no-fault = first-done (textFault traceLayout side t) (eventFault side 1 (startOf t) [] (eventsOf t)) (survey-done side t h .0)
 
   memory-is : surveyOf side t .memory ≡ startOf t
   memory-is = ap (λ (r : TraceRead). r .memory) (survey-done side t h .1)
@@ -72,13 +72,13 @@ module _ (side : ℕ) (t : List ℕ) (h : surveyOf side t .answer .number ≡ 0)
   pub text-whole : Sound side (surveyOf side t .memory) (eventsOf t)
   unfolding eventsOf
   text-whole =
-      let f = framed traceKind side t (no-fault .0) in
+      let f = framed traceLayout side t (no-fault .0) in
       rw memory-is (record { fits = lines-fit side (body (split t)) (f .some) (f .lines); sound = no-fault .1 })
 
   pub text-printed : split t ≡ header ∷ (initLines 0 (surveyOf side t .memory .cells) ++ tail (eventsOf t))
   unfolding eventsOf
   text-printed =
-      let f = framed traceKind side t (no-fault .0) in
+      let f = framed traceLayout side t (no-fault .0) in
       rw memory-is (f .parts ∙ ap (λ (qs : List (List ℕ)). header ∷ qs) (lines-printed side (body (split t)) (f .some) (f .lines)))
 
 -- Document 01, "Trace text": "`init` lines ascend strictly by location, and their value is never 0 (a 0 there is answer 2): a location without

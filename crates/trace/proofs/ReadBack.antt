@@ -24,7 +24,7 @@ use Rattle.trace.specs.Fault.{eventFault}
 use Rattle.frame.specs.Reading.{linesFault}
 use Rattle.frame.proofs.Heads.{by-lines}
 use Rattle.frame.proofs.Lines.{lines-end, lines-go}
-use Rattle.trace.specs.Reading.{Passed, traceKind, eventsIn, startIn, readAs, faultOf, surveyOf, eventsOf, readOf, front, roomAfter}
+use Rattle.trace.specs.Reading.{Passed, traceLayout, eventsIn, startIn, readAs, faultOf, surveyOf, eventsOf, readOf, front, roomAfter}
 use Rattle.trace.specs.Writing.{textOf, initLines, traceText}
 use Rattle.record.specs.declared.Record.the-variants.{Init, Line}
 use Rattle.record.proofs.Layouts.{Fit, event-read, init-read}
@@ -49,11 +49,11 @@ fit-read : (e : Event) → Fit e → recordOf (eventLine e) ≡ Line e
 fit-read e h = event-read e h
 
 -- the lines of events are read without refusal, as the events, and leave the cells alone
-tail-lines : (side k : ℕ) (s : Passed) (es : List Event) → s .events + length es ≤ 800 → Each Fit es → linesFault traceKind side k s (tail es) ≡ done
-tail-lines side k s [] b h = lines-end traceKind side k s [] refl
+tail-lines : (side k : ℕ) (s : Passed) (es : List Event) → s .events + length es ≤ 800 → Each Fit es → linesFault traceLayout side k s (tail es) ≡ done
+tail-lines side k s [] b h = lines-end traceLayout side k s [] refl
 tail-lines side k s (e ∷ es) b h =
     let q = fit-read e (h .0) in
-    lines-go traceKind side k s (eventLine e) (tail es) (some-end (map eventLine es)) (rw (q, lt-leb 800 (s .events) (omega arith)))
+    lines-go traceLayout side k s (eventLine e) (tail es) (some-end (map eventLine es)) (rw (q, lt-leb 800 (s .events) (omega arith)))
     ∙ rw q (tail-lines side (k + 1) (record { low = 256; events = s .events + 1 }) es (omega arith) (h .1))
 
 tail-events : (es : List Event) → Each Fit es → eventsIn (tail es) ≡ es
@@ -76,15 +76,15 @@ start-event cells l ls e h = rw (h, startIn)
 
 -- lines of starting values before other lines ts: none is refused, none is an event, and they fill cells that are 0
 module _ (ts : List (List ℕ)) where
-  inits-lines : (side : ℕ) → Some ts → ((k low : ℕ) → linesFault traceKind side k (record { low = low; events = 0 }) ts ≡ done) → (k low l : ℕ) (vs : List ℕ)
-      → low ≤ l → l + length vs ≤ 256 → Valued vs → linesFault traceKind side k (record { low = low; events = 0 }) (initLines l vs ++ ts) ≡ done
+  inits-lines : (side : ℕ) → Some ts → ((k low : ℕ) → linesFault traceLayout side k (record { low = low; events = 0 }) ts ≡ done) → (k low l : ℕ) (vs : List ℕ)
+      → low ≤ l → l + length vs ≤ 256 → Valued vs → linesFault traceLayout side k (record { low = low; events = 0 }) (initLines l vs ++ ts) ≡ done
   unfolding initLines
   inits-lines side s g k low l [] o b h = g k low
   inits-lines side s g k low l (v ∷ vs) o b h =
       cases (either (eqb v 0)) (λ e. rw e (inits-lines side s g k low (l + 1) vs (omega arith) (omega arith) (h .1)))
       (λ e. let q = init-read l v (omega arith) (h .0) (eqb-false v 0 e) in
       rw e
-      (lines-go traceKind side k (record { low = low; events = 0 }) (initLine l v) (initLines (l + 1) vs ++ ts) (some-after (initLines (l + 1) vs) ts s)
+      (lines-go traceLayout side k (record { low = low; events = 0 }) (initLine l v) (initLines (l + 1) vs ++ ts) (some-after (initLines (l + 1) vs) ts s)
       (rw (q, le-ltb l low o))
       ∙ rw q (inits-lines side s g (k + 1) (l + 1) (l + 1) vs (omega arith) (omega arith) (h .1))))
 
@@ -149,7 +149,7 @@ module _ (side : ℕ) (m : Memory) (es : List Event) (f : Fits m es) where
   the-start =
       rw (f .size) at (inits-start (tail es) [] (m .cells) (omega arith) (f .values) (λ cells. tail-start cells es (f .events)))
 
-  the-lines : linesFault traceKind side 2 (traceKind .start) (initLines 0 (m .cells) ++ tail es) ≡ done
+  the-lines : linesFault traceLayout side 2 (traceLayout .start) (initLines 0 (m .cells) ++ tail es) ≡ done
   the-lines =
       inits-lines (tail es) side (some-end (map eventLine es))
       (λ k low. tail-lines side k (record { low = low; events = 0 }) es (omega (arith, f .few)) (f .events)) 2 0 0 (m .cells) (omega arith)
@@ -164,7 +164,7 @@ module _ (side : ℕ) (m : Memory) (es : List Event) (f : Fits m es) where
       let short : length (traceText m es) ≤ 32400 = omega (arith, text-length m es f) in
       let p = text-parts m es in
       let ls : List (List ℕ) = initLines 0 (m .cells) ++ tail es in
-      let t = by-lines traceKind side (traceText m es) ls short p (some-after (initLines 0 (m .cells)) (tail es) (some-end (map eventLine es))) in
+      let t = by-lines traceLayout side (traceText m es) ls short p (some-after (initLines 0 (m .cells)) (tail es) (some-end (map eventLine es))) in
       (rw (t, the-lines, p, the-start, the-events, h), rw p the-events)
 
   -- so a room that holds the events has them at its front

@@ -21,7 +21,7 @@ use Rattle.record.specs.Record.{recordOf}
 use Rattle.record.specs.declared.Record.the-variants.{Init, Line, Refused}
 use Rattle.record.proofs.Records.{blank, init-place}
 use Rattle.trace.specs.Fault.{clashes, faultAt, eventFault}
-use Rattle.trace.specs.Reading.{traceKind, eventsIn, refused, readAs}
+use Rattle.trace.specs.Reading.{traceLayout, eventsIn, refused, readAs}
 use Rattle.trace.specs.Survey.{closed, surveyEvents}
 use Rattle.trace.specs.declared.reading.TraceRead.{TraceRead}
 use Rattle.trace.proofs.Judged.{fault-next, fault-end, first-assoc, first-same, others-fault}
@@ -30,7 +30,7 @@ use Rattle.trace.proofs.Judged.{fault-next, fault-end, first-assoc, fir
 unfoldable pub surveyOn : ℕ → ℕ → ℕ → Memory → List Event → Answer → Memory → List (List ℕ) → TraceRead
 surveyOn side k n m before found start ls =
     settle refused
-    (first (linesFault traceKind side k (closed n) ls) (first found (eventFault side (n + 1) m before (eventsIn ls))))
+    (first (linesFault traceLayout side k (closed n) ls) (first found (eventFault side (n + 1) m before (eventsIn ls))))
     (readAs (n + length (eventsIn ls)) start)
 
 pub on-start : (side k : ℕ) (m : Memory) (ls : List (List ℕ)) → surveyEvents side k m ls ≡ surveyOn side k 0 m [] done m ls
@@ -41,19 +41,19 @@ module _ (side k n : ℕ) (m : Memory) (before : List Event) (found : Answer) (s
   abbrev here : List (List ℕ) → TraceRead
   here ls = surveyOn side k n m before found start ls
 
-  on-refused : (ls : List (List ℕ)) (x : ℕ) → eqb x 0 ≡ false → linesFault traceKind side k (closed n) ls ≡ answer x side k
+  on-refused : (ls : List (List ℕ)) (x : ℕ) → eqb x 0 ≡ false → linesFault traceLayout side k (closed n) ls ≡ answer x side k
       → here ls ≡ refused (answer x side k)
   unfolding surveyOn
   on-refused ls x z h = rw (h, z, z)
 
   -- what stands after the last LF: something, or nothing
   pub on-open : isEmpty l ≡ false → here (l ∷ []) ≡ refused (answer 2 side k)
-  on-open h = on-refused (l ∷ []) 2 refl (lines-open traceKind side k (closed n) l h)
+  on-open h = on-refused (l ∷ []) 2 refl (lines-open traceLayout side k (closed n) l h)
 
   module _ (h : isEmpty l ≡ true) (e : l ≡ []) where
     at-end : here (l ∷ []) ≡ settle refused (first found done) (readAs (n + 0) start)
     unfolding surveyOn saidIn
-    at-end = rw (lines-end traceKind side k (closed n) l h, e, blank, fault-end side (n + 1) m before)
+    at-end = rw (lines-end traceLayout side k (closed n) l h, e, blank, fault-end side (n + 1) m before)
 
     pub on-found : eqb (found .number) 0 ≡ false → here (l ∷ []) ≡ refused found
     on-found z = at-end ∙ rw (z, z)
@@ -63,16 +63,16 @@ module _ (side k n : ℕ) (m : Memory) (before : List Event) (found : Answer) (s
 
   module _ (ps : List (List ℕ)) (s : Some ps) where
     pub on-bad : recordOf l ≡ Refused → here (l ∷ ps) ≡ refused (answer 2 side k)
-    on-bad h = on-refused (l ∷ ps) 2 refl (lines-stop traceKind side k (closed n) l ps 2 s (rw h) refl)
+    on-bad h = on-refused (l ∷ ps) 2 refl (lines-stop traceLayout side k (closed n) l ps 2 s (rw h) refl)
 
     pub on-init : (p v : ℕ) → recordOf l ≡ Init p v → here (l ∷ ps) ≡ refused (answer 4 side k)
     on-init p v h =
         let b : p < 256 = omega (arith, init-place l p v h) in
-        on-refused (l ∷ ps) 4 refl (lines-stop traceKind side k (closed n) l ps 4 s (rw (h, lt-ltb p 256 b)) refl)
+        on-refused (l ∷ ps) 4 refl (lines-stop traceLayout side k (closed n) l ps 4 s (rw (h, lt-ltb p 256 b)) refl)
 
     module _ (e : Event) (h : recordOf l ≡ Line e) where
       pub on-full : 800 ≤ n → here (l ∷ ps) ≡ refused (answer 3 side k)
-      on-full f = on-refused (l ∷ ps) 3 refl (lines-stop traceKind side k (closed n) l ps 3 s (rw (h, le-leb 800 n f)) refl)
+      on-full f = on-refused (l ∷ ps) 3 refl (lines-stop traceLayout side k (closed n) l ps 3 s (rw (h, le-leb 800 n f)) refl)
 
       -- an event, whether it clashes and whether its value is the latest being asked only where nothing was found before
       pub on-go : n < 800 → (clash : Bool) → (found .number ≡ 0 → clash ≡ clashes before e)
@@ -85,5 +85,5 @@ module _ (side k n : ℕ) (m : Memory) (before : List Event) (found : Answer) (s
           let b : Answer = faultAt side (n + 1) (clashes before e) (stepped m e .right) in
           let w : first found a ≡ first found b = first-same found a b (λ z. rw (q z)) in
           let o : Answer = others-fault side (n + 1) m before e (eventsIn ps) in
-          let g = lines-go traceKind side k (closed n) l ps s (rw (h, lt-leb 800 n f)) in
+          let g = lines-go traceLayout side k (closed n) l ps s (rw (h, lt-leb 800 n f)) in
           rw (g, h, c, fault-next side (n + 1) m before e (eventsIn ps), first-assoc found b o, w)

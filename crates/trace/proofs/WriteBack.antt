@@ -20,7 +20,7 @@ use Rattle.record.specs.declared.Record.{Record}
 use Rattle.record.specs.declared.Record.the-variants.{Init, Line, Refused}
 use Rattle.record.proofs.Layouts.{Fit, line-says, init-back}
 use Rattle.record.proofs.Records.{blank}
-use Rattle.trace.specs.Reading.{Passed, lineFault, afterLine, traceKind, eventsIn, startIn}
+use Rattle.trace.specs.Reading.{Passed, lineFault, afterLine, traceLayout, eventsIn, startIn}
 use Rattle.trace.specs.Writing.{initLines}
 use Rattle.trace.proofs.Range.{Valued}
 use Rattle.trace.proofs.ReadBack.{tail, start-init, start-event}
@@ -58,10 +58,10 @@ bounds-line s l ls (Line x) e h g cells q v b =
     let w = start-event cells l ls x e in
     record { size = rw w (d .size); values = rw w (d .values); events = rw e (line-says l x e .1, d .events); few = rw e (omega (arith, d .few)) }
 
-pub bounded : (side k : ℕ) (ls : List (List ℕ)) → Some ls → linesFault traceKind side k (traceKind .start) ls .number ≡ 0
+pub bounded : (side k : ℕ) (ls : List (List ℕ)) → Some ls → linesFault traceLayout side k (traceLayout .start) ls .number ≡ 0
     → (cells : List ℕ) → length cells ≡ 256 → Valued cells → Bounded 0 cells ls
 bounded side k ls o h cells q v =
-    lines-pass traceKind side Bounds bounds-end (λ s l ls. bounds-line s l ls (recordOf l) refl) k (traceKind .start) ls o h cells q v (omega arith)
+    lines-pass traceLayout side Bounds bounds-end (λ s l ls. bounds-line s l ls (recordOf l) refl) k (traceLayout .start) ls o h cells q v (omega arith)
 
 -- after cells w that are settled, with n more that are 0 so far: lines that are those of the cells that they make, and of their events
 pub record Started (w : List ℕ) (n : ℕ) (ls : List (List ℕ)) : Type 0 where
@@ -150,6 +150,6 @@ prints-line s l ls (Init p v) e h g w n q b =
     let d : length (next w j m v) ≡ p + 1 = next-length w j m v ∙ rw (← c) in
     rw a (start-more w j m v l ls (rw c at e) (g (next w j m v) m d (omega (arith, d, i .1 .0))))
 
-pub printed : (side k : ℕ) (ls : List (List ℕ)) → Some ls → linesFault traceKind side k (traceKind .start) ls .number ≡ 0 → Started [] 256 ls
+pub printed : (side k : ℕ) (ls : List (List ℕ)) → Some ls → linesFault traceLayout side k (traceLayout .start) ls .number ≡ 0 → Started [] 256 ls
 printed side k ls o h =
-    lines-pass traceKind side Prints (λ s w n q b. start-end w n) (λ s l ls. prints-line s l ls (recordOf l) refl) k (traceKind .start) ls o h [] 256 refl refl
+    lines-pass traceLayout side Prints (λ s w n q b. start-end w n) (λ s l ls. prints-line s l ls (recordOf l) refl) k (traceLayout .start) ls o h [] 256 refl refl

@@ -11,7 +11,7 @@ use Rattle.event.specs.declared.Answer.{Answer}
 use Rattle.event.specs.declared.Event.{Event}
 use Rattle.event.specs.declared.memory.Memory.{Memory}
 use Rattle.text.specs.Line.{split, body, saidIn, textLimit}
-use Rattle.frame.specs.Reading.{Kind, textFault, settle, fitted}
+use Rattle.frame.specs.Reading.{Layout, textFault, settle, fitted}
 use Rattle.record.specs.Layout.{header}
 use Rattle.record.specs.Record.{recordOf}
 use Rattle.trace.specs.Fault.{eventFault}
@@ -41,9 +41,9 @@ afterLine s Refused = s
 afterLine s (Init p v) = record { low = p + 1; events = s .events }
 afterLine s (Line e) = record { low = 256; events = s .events + 1 }
 
--- The kind of text.
-abbrev pub traceKind : Kind Passed
-traceKind = record {
+-- The layout of a trace.
+abbrev pub traceLayout : Layout Passed
+traceLayout = record {
   limit = textLimit;
   header = header;
   start = record { low = 0; events = 0 };
@@ -82,7 +82,7 @@ startOf t = startFrom empty (body (split t))
 
 -- The first refusal of a text: 1, then line by line 2, 4, 3, then event by event 5, 6.
 unfoldable pub faultOf : ℕ → List ℕ → Answer
-faultOf side t = first (textFault traceKind side t) (eventFault side 1 (startOf t) [] (eventsOf t))
+faultOf side t = first (textFault traceLayout side t) (eventFault side 1 (startOf t) [] (eventsOf t))
 
 -- What a refusal hands back, no event and an empty memory; and what a reading of n events does.
 abbrev pub refused : Answer → TraceRead

@@ -6,14 +6,14 @@ use Rattle.event.specs.Answer.{first}
 use Rattle.event.specs.declared.memory.Memory.{Memory}
 use Rattle.frame.specs.Reading.{linesFault, settle}
 use Rattle.trace.specs.Fault.{eventFault}
-use Rattle.trace.specs.Reading.{Passed, traceKind, eventsIn, startFrom, refused, readAs}
+use Rattle.trace.specs.Reading.{Passed, traceLayout, eventsIn, startFrom, refused, readAs}
 use Rattle.trace.specs.declared.reading.TraceRead.{TraceRead}
 
 -- Lines from line k on, before any event, where an `init` line may have the location `low` or above, and those before made the memory m.
 unfoldable pub surveyInits : ℕ → ℕ → ℕ → Memory → List (List ℕ) → TraceRead
 surveyInits side k low m ls =
     settle refused
-    (first (linesFault traceKind side k (record { low = low; events = 0 }) ls) (eventFault side 1 (startFrom m ls) [] (eventsIn ls)))
+    (first (linesFault traceLayout side k (record { low = low; events = 0 }) ls) (eventFault side 1 (startFrom m ls) [] (eventsIn ls)))
     (readAs (length (eventsIn ls)) (startFrom m ls))
 
 -- Where no `init` line may come after n events.
@@ -23,4 +23,4 @@ closed n = record { low = 256; events = n }
 -- Lines from line k on, all of which are to be events.
 unfoldable pub surveyEvents : ℕ → ℕ → Memory → List (List ℕ) → TraceRead
 surveyEvents side k m ls =
-    settle refused (first (linesFault traceKind side k (closed 0) ls) (eventFault side 1 m [] (eventsIn ls))) (readAs (length (eventsIn ls)) m)
+    settle refused (first (linesFault traceLayout side k (closed 0) ls) (eventFault side 1 m [] (eventsIn ls))) (readAs (length (eventsIn ls)) m)
