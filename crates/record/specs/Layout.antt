@@ -41,6 +41,7 @@ orderWords =
     ∷ bytes "unused"  -- 7
     ∷ []
 
+-- The word of a starting value.
 abbrev pub initWord : List ℕ
 initWord = bytes "init"
 
@@ -57,6 +58,7 @@ unfoldable pub numberIn : ℕ → List (List ℕ) → List ℕ → ℕ
 numberIn n [] w = 0
 numberIn n (v ∷ vs) w = cond (same w v) n (numberIn (suc n) vs w)
 
+-- The number of a kind's word, and of an order's or a mark's; 0 for another word.
 abbrev pub kindOf : List ℕ → ℕ
 kindOf w = numberIn 1 kindWords w
 
@@ -123,6 +125,7 @@ there (p ∷ ps) = fieldIf (p .0) (p .1) (there ps)
 unfoldable pub eventFields : Event → List (List ℕ)
 eventFields e = wordAt kindWords (e .kind) ∷ there (parts (shapeOf (e .kind)) e)
 
+-- The line of an event.
 unfoldable pub eventLine : Event → List ℕ
 eventLine e = join (eventFields e)
 

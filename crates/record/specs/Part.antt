@@ -13,6 +13,7 @@ use Rattle.record.specs.Layout.{orderOf}
 use Rattle.record.specs.declared.part.Part.{Part}
 use Rattle.record.specs.declared.part.Part.the-variants.{Given, Bad}
 
+-- A number that was taken, or none.
 abbrev pub onTaken : Taken → Part
 onTaken (Number n next) = Given n next
 onTaken NoNumber = Bad
@@ -22,6 +23,7 @@ unfoldable pub numberPart : Bool → List ℕ → ℕ → ℕ → Part
 numberPart false line at max = Given 0 at
 numberPart true line at max = onTaken (takeNumber line at max)
 
+-- The order or mark of a field that was found, or none.
 abbrev pub onOrder : List ℕ → FieldStep → Part
 onOrder line (Field from to) = Given (orderOf (take (to - from) (drop from line))) (to + 1)
 onOrder line LineEnd = Bad
