@@ -8,7 +8,7 @@ use lib.ListN.{length, take, drop, length-drop}
 use lib.Seq.{drop-drop, take-add, take-all, length-take-le}
 use Rattle.text.specs.Line.{lineLen, split, splitFrom, body, saidIn}
 use Rattle.text.proofs.Walk.{line, body-from, said-line, said-end}
-use Rattle.frame.specs.Store.{placed}
+use Rattle.frame.specs.Store.{putAll}
 
 -- how things are put: `words` of so many of them, the room for so many, and one more put behind them
 pub record Puts (A : Type 0) (put : List ℕ → ℕ → A → List ℕ) : Type 0 where
@@ -62,8 +62,8 @@ module _ {A : Type 0} (put : List ℕ → ℕ → A → List ℕ) (P : Puts A pu
       }
 
     -- what a line says
-    pub stored-line : (i : ℕ) (room : List ℕ) (bs es : List A) → Stored i room (bs ++ es) → Stored (i + length bs) (placed put room i bs) es
-    unfolding placed
+    pub stored-line : (i : ℕ) (room : List ℕ) (bs es : List A) → Stored i room (bs ++ es) → Stored (i + length bs) (putAll put room i bs) es
+    unfolding putAll
     stored-line i room [] es s = let z : i + 0 ≡ i = omega arith in rw z s
     stored-line i room (a ∷ bs) es s =
         let z : i + length (a ∷ bs) ≡ i + 1 + length bs = omega arith in
@@ -83,7 +83,7 @@ module _ {A : Type 0} (put : List ℕ → ℕ → A → List ℕ) (P : Puts A pu
   -- the line that starts at a place, by where it ends, says bs
   pub held-step : P .room (length all) ≤ length room₀ → (at e : ℕ) → at ≤ length t → (p : e ≡ at + lineLen (drop at t)) (i j : ℕ)
       (room room′ : List ℕ) (bs : List A)
-      → bs ≡ says (line t at e p) → j ≡ i + length bs → room′ ≡ placed put room i bs → Held i room at → Held j room′ (e + 1)
+      → bs ≡ says (line t at e p) → j ≡ i + length bs → room′ ≡ putAll put room i bs → Held i room at → Held j room′ (e + 1)
   held-step f at e h p i j room room′ bs q a b s =
       rw (a, b, q) (stored-line put P all room₀ f i room (says (line t at e p)) (saidIn says (splitFrom t (e + 1))) (rw (said-line says t at e p h) at s))
 

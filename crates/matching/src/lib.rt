@@ -6,7 +6,7 @@ ghost use Prim.Native.Nat.{_+_, _≤_, _<_};
 ghost use lib.ListN.{length, set};
 ghost use Rattle.text.specs.Line.{splitFrom};
 ghost use Rattle.event.specs.Answer.{answer};
-ghost use Rattle.frame.specs.Store.{placed};
+ghost use Rattle.frame.specs.Store.{putAll};
 ghost use Rattle.matching.specs.Reading.{refused, surveyOf, roomFor, entriesOn, entriesOf, front, readOf, roomAfter};
 ghost use Rattle.matching.specs.Survey.{surveyLines};
 use entry::EntryRead;
@@ -101,7 +101,7 @@ fn put(room: &mut [Entry], i: usize, e: Entry)
 // The room with a line's entry at an index; what comes back is the next index.
 fn put_entry(room: &mut [Entry], i: usize, line: EntryRead) -> usize
     requires { ⌜ i < 18446744073709551615 ⌝ }
-    ensures { λ r. ⌜ (r ≡ i + length (entriesOn line)) × (now (room .exit) ≡ placed set (now (room .entry)) i (entriesOn line)) ⌝ }
+    ensures { λ r. ⌜ (r ≡ i + length (entriesOn line)) × (now (room .exit) ≡ putAll set (now (room .entry)) i (entriesOn line)) ⌝ }
 {
     match line {
         EntryRead::Entry(e) => {

@@ -21,18 +21,18 @@ use Rattle.record.specs.declared.Record.{Record}
 use Rattle.record.specs.declared.Record.the-variants.{Init, Line, Refused}
 use Rattle.record.proofs.Records.{blank, init-place}
 use Rattle.trace.specs.Fault.{eventFault}
-use Rattle.trace.specs.Reading.{Passed, lineFault, afterLine, traceLayout, eventsIn, startIn, startFrom, readAs, refused}
+use Rattle.trace.specs.Reading.{SoFar, lineFault, afterLine, traceLayout, eventsIn, startIn, startFrom, readAs, refused}
 use Rattle.trace.specs.Survey.{closed, surveyInits, surveyEvents}
 
 -- where no line is refused, no line after the first event is a starting value
-abbrev Quiet : Passed → List (List ℕ) → Type 0
+abbrev Quiet : SoFar → List (List ℕ) → Type 0
 Quiet s ls = s .low ≡ 256 → (cells : List ℕ) → startIn cells ls ≡ cells
 
-quiet-end : (s : Passed) → Quiet s ([] ∷ [])
+quiet-end : (s : SoFar) → Quiet s ([] ∷ [])
 unfolding startIn
 quiet-end s q cells = rw blank
 
-quiet-line : (s : Passed) (l : List ℕ) (ls : List (List ℕ)) (r : Record) → recordOf l ≡ r → lineFault s r ≡ 0 → Quiet (afterLine s r) ls → Quiet s (l ∷ ls)
+quiet-line : (s : SoFar) (l : List ℕ) (ls : List (List ℕ)) (r : Record) → recordOf l ≡ r → lineFault s r ≡ 0 → Quiet (afterLine s r) ls → Quiet s (l ∷ ls)
 unfolding startIn
 quiet-line s l ls Refused e h g q cells = absurd (omega arith)
 quiet-line s l ls (Init p v) e h g q cells =
@@ -53,7 +53,7 @@ start-same : (m : Memory) (ls : List (List ℕ)) → startIn (m .cells) ls ≡ m
 start-same m ls h = rw h
 
 module _ (side k low : ℕ) (m : Memory) where
-  abbrev opened : Passed
+  abbrev opened : SoFar
   opened = record { low = low; events = 0 }
 
   inits-rest : (ls : List (List ℕ)) → Some ls → linesFault traceLayout side k opened ls ≡ linesFault traceLayout side k (closed 0) ls

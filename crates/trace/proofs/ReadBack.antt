@@ -24,7 +24,7 @@ use Rattle.trace.specs.Fault.{eventFault}
 use Rattle.frame.specs.Reading.{linesFault}
 use Rattle.frame.proofs.Heads.{by-lines}
 use Rattle.frame.proofs.Lines.{lines-end, lines-go}
-use Rattle.trace.specs.Reading.{Passed, traceLayout, eventsIn, startIn, readAs, faultOf, surveyOf, eventsOf, readOf, front, roomAfter}
+use Rattle.trace.specs.Reading.{SoFar, traceLayout, eventsIn, startIn, readAs, faultOf, surveyOf, eventsOf, readOf, front, roomAfter}
 use Rattle.trace.specs.Writing.{textOf, initLines, traceText}
 use Rattle.record.specs.declared.Record.the-variants.{Init, Line}
 use Rattle.record.proofs.Layouts.{Fit, event-read, init-read}
@@ -49,7 +49,7 @@ fit-read : (e : Event) → Fit e → recordOf (eventLine e) ≡ Line e
 fit-read e h = event-read e h
 
 -- the lines of events are read without refusal, as the events, and leave the cells alone
-tail-lines : (side k : ℕ) (s : Passed) (es : List Event) → s .events + length es ≤ 800 → Each Fit es → linesFault traceLayout side k s (tail es) ≡ done
+tail-lines : (side k : ℕ) (s : SoFar) (es : List Event) → s .events + length es ≤ 800 → Each Fit es → linesFault traceLayout side k s (tail es) ≡ done
 tail-lines side k s [] b h = lines-end traceLayout side k s [] refl
 tail-lines side k s (e ∷ es) b h =
     let q = fit-read e (h .0) in

@@ -20,7 +20,7 @@ use Rattle.record.specs.declared.Record.{Record}
 use Rattle.record.specs.declared.Record.the-variants.{Init, Line, Refused}
 use Rattle.record.proofs.Layouts.{Fit, line-says, init-back}
 use Rattle.record.proofs.Records.{blank}
-use Rattle.trace.specs.Reading.{Passed, lineFault, afterLine, traceLayout, eventsIn, startIn}
+use Rattle.trace.specs.Reading.{SoFar, lineFault, afterLine, traceLayout, eventsIn, startIn}
 use Rattle.trace.specs.Writing.{initLines}
 use Rattle.trace.proofs.Range.{Valued}
 use Rattle.trace.proofs.ReadBack.{tail, start-init, start-event}
@@ -32,10 +32,10 @@ pub record Bounded (n : ℕ) (cells : List ℕ) (ls : List (List ℕ)) : Type 0 
   pub events : Each Fit (eventsIn ls)
   pub few : n + length (eventsIn ls) ≤ 800
 
-abbrev Bounds : Passed → List (List ℕ) → Type 0
+abbrev Bounds : SoFar → List (List ℕ) → Type 0
 Bounds s ls = (cells : List ℕ) → length cells ≡ 256 → Valued cells → s .events ≤ 800 → Bounded (s .events) cells ls
 
-bounds-end : (s : Passed) → Bounds s ([] ∷ [])
+bounds-end : (s : SoFar) → Bounds s ([] ∷ [])
 unfolding saidIn startIn
 bounds-end s cells q h b = record { size = rw blank q; values = rw blank h; events = rw blank tt; few = rw blank (omega arith) }
 
@@ -44,7 +44,7 @@ set-valued [] p v h k = tt
 set-valued (c ∷ cells) zero v h k = (k, h .1)
 set-valued (c ∷ cells) (suc p) v h k = (h .0, set-valued cells p v (h .1) k)
 
-bounds-line : (s : Passed) (l : List ℕ) (ls : List (List ℕ)) (r : Record) → recordOf l ≡ r → lineFault s r ≡ 0 → Bounds (afterLine s r) ls → Bounds s (l ∷ ls)
+bounds-line : (s : SoFar) (l : List ℕ) (ls : List (List ℕ)) (r : Record) → recordOf l ≡ r → lineFault s r ≡ 0 → Bounds (afterLine s r) ls → Bounds s (l ∷ ls)
 unfolding saidIn
 bounds-line s l ls Refused e h g cells q v b = absurd (omega arith)
 bounds-line s l ls (Init p x) e h g cells q v b =
@@ -132,10 +132,10 @@ module _ (w : List ℕ) (j m v : ℕ) where
       }
 
 -- where no line is refused
-abbrev Prints : Passed → List (List ℕ) → Type 0
+abbrev Prints : SoFar → List (List ℕ) → Type 0
 Prints s ls = (w : List ℕ) (n : ℕ) → length w ≡ s .low → length w + n ≡ 256 → Started w n ls
 
-prints-line : (s : Passed) (l : List ℕ) (ls : List (List ℕ)) (r : Record) → recordOf l ≡ r → lineFault s r ≡ 0 → Prints (afterLine s r) ls → Prints s (l ∷ ls)
+prints-line : (s : SoFar) (l : List ℕ) (ls : List (List ℕ)) (r : Record) → recordOf l ≡ r → lineFault s r ≡ 0 → Prints (afterLine s r) ls → Prints s (l ∷ ls)
 prints-line s l ls Refused e h g w n q b = absurd (omega arith)
 prints-line s l ls (Line v) e h g w n q b =
     let k : length (w ++ replicate n 0) ≡ 256 = simp (length-append, length-replicate) b in

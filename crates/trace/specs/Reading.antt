@@ -25,24 +25,24 @@ eventLimit = 800
 
 -- What is known of the lines so far: the lowest location that an `init` line may have, 256 (which none has) once an event has come; and the
 -- number of events.
-pub record Passed : Type 0 where
+pub record SoFar : Type 0 where
   pub low : ℕ
   pub events : ℕ
 
 -- The refusal of a line, 2, 4 or 3; 0 for none.
-abbrev pub lineFault : Passed → Record → ℕ
+abbrev pub lineFault : SoFar → Record → ℕ
 lineFault s Refused = 2
 lineFault s (Init p v) = cond (ltb p (s .low)) 4 0
 lineFault s (Line e) = cond (leb eventLimit (s .events)) 3 0
 
 -- What is known after it.
-abbrev pub afterLine : Passed → Record → Passed
+abbrev pub afterLine : SoFar → Record → SoFar
 afterLine s Refused = s
 afterLine s (Init p v) = record { low = p + 1; events = s .events }
 afterLine s (Line e) = record { low = 256; events = s .events + 1 }
 
 -- The layout of a trace.
-abbrev pub traceLayout : Layout Passed
+abbrev pub traceLayout : Layout SoFar
 traceLayout = record {
   limit = textLimit;
   header = header;

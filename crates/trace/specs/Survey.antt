@@ -6,7 +6,7 @@ use Rattle.event.specs.Answer.{first}
 use Rattle.event.specs.declared.memory.Memory.{Memory}
 use Rattle.frame.specs.Reading.{linesFault, settle}
 use Rattle.trace.specs.Fault.{eventFault}
-use Rattle.trace.specs.Reading.{Passed, traceLayout, eventsIn, startFrom, refused, readAs}
+use Rattle.trace.specs.Reading.{SoFar, traceLayout, eventsIn, startFrom, refused, readAs}
 use Rattle.trace.specs.declared.reading.TraceRead.{TraceRead}
 
 -- Lines from line k on, before any event, where an `init` line may have the location `low` or above, and those before made the memory m.
@@ -17,7 +17,7 @@ surveyInits side k low m ls =
     (readAs (length (eventsIn ls)) (startFrom m ls))
 
 -- Where no `init` line may come after n events.
-abbrev pub closed : ℕ → Passed
+abbrev pub closed : ℕ → SoFar
 closed n = record { low = 256; events = n }
 
 -- Lines from line k on, all of which are to be events.

@@ -5,7 +5,7 @@ ghost use lib.ListN.{length};
 ghost use Rattle.event.specs.Memory.{empty as emptyMemory};
 ghost use Rattle.event.specs.Room.{putAt};
 ghost use Rattle.text.specs.Line.{splitFrom};
-ghost use Rattle.frame.specs.Store.{placed};
+ghost use Rattle.frame.specs.Store.{putAll};
 ghost use Rattle.trace.specs.Reading.{surveyOf, refused, roomFor, eventsOn, eventsOf, front};
 ghost use Rattle.trace.specs.Survey.{surveyInits, surveyEvents};
 use crate::fault::UNTOUCHED;
@@ -163,7 +163,7 @@ pub fn survey_in(text: &[u8], side: Number, words: usize) -> TraceRead
 // The room with a line's event at an index; what comes back is the next index.
 fn put_record(room: &mut [Word], i: usize, line: Record) -> usize
     requires { ⌜ i < 18446744073709551615 ⌝ }
-    ensures { λ r. ⌜ (r ≡ i + length (eventsOn line)) × (now (room .exit) ≡ placed putAt (now (room .entry)) i (eventsOn line)) ⌝ }
+    ensures { λ r. ⌜ (r ≡ i + length (eventsOn line)) × (now (room .exit) ≡ putAll putAt (now (room .entry)) i (eventsOn line)) ⌝ }
 {
     match line {
         Record::Line(e) => {

@@ -2,20 +2,20 @@
 use mathlib.Core.Path.{refl}
 use native.Mathlib.Omega.{arith}
 use borrow.Author.Needs.{needs}
-use Rattle.frame.specs.Store.{placed}
+use Rattle.frame.specs.Store.{putAll}
 use Rattle.trace.proofs.reading.put_record.Statement.{statement}
 use Rattle.trace.proofs.reading.put_record.Tie as tie
 
 returns : tie.Need-returns
-unfolding placed
+unfolding putAll
 returns c = rw (c .before .before .before .before .before .line .given .1) (refl, c .before .before .put .ensures)
 
 returns-2 : tie.Need-returns-2
-unfolding placed
+unfolding putAll
 returns-2 c = rw (c .enum-told .given .1) (omega arith, refl)
 
 returns-3 : tie.Need-returns-3
-unfolding placed
+unfolding putAll
 returns-3 c = rw (c .enum-told2 .given .1) (omega arith, refl)
 
 pub put-record-spec : {M : Type 1} → statement M
