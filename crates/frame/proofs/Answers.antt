@@ -12,9 +12,9 @@ use Rattle.event.specs.Answer.{answer, done, InTable}
 use Rattle.event.proofs.Answers.{Among, Given, none, one, among-cond, given-cond, given-fault, in-cond}
 use Rattle.text.specs.Cut.{isEmpty}
 use Rattle.text.specs.Line.{split}
-use Rattle.frame.specs.Reading.{Kind, headed, headFault, linesFault}
+use Rattle.frame.specs.Reading.{Layout, headed, headFault, linesFault}
 
-module _ {S : Type 0} (T : Kind S) (ns : List ℕ) (side : ℕ) (two : has 2 ns ≡ true)
+module _ {S : Type 0} (T : Layout S) (ns : List ℕ) (side : ℕ) (two : has 2 ns ≡ true)
     (known : (s : S) (l : List ℕ) → (T .fault s l ≡ 0) ⊎ (has (T .fault s l) ns ≡ true)) where
   pub lines-given : (k : ℕ) (s : S) (ls : List (List ℕ)) → 1 ≤ k → Given ns side (linesFault T side k s ls)
   unfolding linesFault

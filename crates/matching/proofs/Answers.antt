@@ -16,7 +16,7 @@ use Rattle.text.specs.Line.{split, body, textLimit}
 use Rattle.frame.specs.Reading.{headFault, linesFault, textFault}
 use Rattle.frame.proofs.Answers.{lines-given, head-among, head-in}
 use Rattle.matching.specs.Entry.{header, entryOf}
-use Rattle.matching.specs.Reading.{entryLimit, entryFault, matchingKind, surveyOf, readOf}
+use Rattle.matching.specs.Reading.{entryLimit, entryFault, matchingLayout, surveyOf, readOf}
 use Rattle.matching.specs.declared.entry.EntryRead.{EntryRead}
 use Rattle.matching.specs.declared.entry.EntryRead.the-variants.{Entry, Refused}
 use Rattle.matching.specs.declared.MatchingRead.{MatchingRead}
@@ -31,10 +31,10 @@ line-fault n (Entry e) = by-cond (λ (f : ℕ). (f ≡ 0) ⊎ (has f (2 ∷ 3 �
 
 module _ (t room : List ℕ) where
   abbrev lines : Answer
-  lines = linesFault matchingKind 3 2 0 (body (split t))
+  lines = linesFault matchingLayout 3 2 0 (body (split t))
 
   lines-are : Given (2 ∷ 3 ∷ []) 3 lines
-  lines-are = lines-given matchingKind (2 ∷ 3 ∷ []) 3 refl (λ n l. line-fault n (entryOf l)) 2 0 (body (split t)) (omega arith)
+  lines-are = lines-given matchingLayout (2 ∷ 3 ∷ []) 3 refl (λ n l. line-fault n (entryOf l)) 2 0 (body (split t)) (omega arith)
 
   -- what holds of its first refusal, and of 17, holds of what it answers
   by-fault : (P : Answer → Type 0) → P done → P (first (headFault 3 textLimit header t) lines) → ((n : ℕ) → P (answer 17 3 n)) → P (readOf t room .answer)

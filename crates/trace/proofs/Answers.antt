@@ -24,7 +24,7 @@ use Rattle.record.specs.Record.{recordOf}
 use Rattle.record.specs.declared.Record.{Record}
 use Rattle.record.specs.declared.Record.the-variants.{Init, Line, Refused}
 use Rattle.trace.specs.Fault.{clashes, faultAt, eventFault}
-use Rattle.trace.specs.Reading.{Passed, eventLimit, lineFault, traceKind, startOf, eventsOf, faultOf, surveyOf, readOf}
+use Rattle.trace.specs.Reading.{SoFar, eventLimit, lineFault, traceLayout, startOf, eventsOf, faultOf, surveyOf, readOf}
 use Rattle.trace.specs.Writing.{countOf, roomEvents, layoutFault, roomFault, bytesOf, inOut, writeOf}
 use Rattle.trace.specs.declared.reading.TraceRead.{TraceRead}
 
@@ -38,7 +38,7 @@ lineFaults = 2 ∷ 3 ∷ 4 ∷ []
 abbrev eventFaults : List ℕ
 eventFaults = 5 ∷ 6 ∷ []
 
-line-fault : (s : Passed) (r : Record) → (lineFault s r ≡ 0) ⊎ (has (lineFault s r) lineFaults ≡ true)
+line-fault : (s : SoFar) (r : Record) → (lineFault s r ≡ 0) ⊎ (has (lineFault s r) lineFaults ≡ true)
 line-fault s Refused = inr refl
 line-fault s (Init p v) = by-cond (λ (f : ℕ). (f ≡ 0) ⊎ (has f lineFaults ≡ true)) (ltb p (s .low)) (inr refl) (inl refl)
 line-fault s (Line e) = by-cond (λ (f : ℕ). (f ≡ 0) ⊎ (has f lineFaults ≡ true)) (leb eventLimit (s .events)) (inr refl) (inl refl)
@@ -56,13 +56,13 @@ module _ (side : ℕ) (t room : List ℕ) where
   head = headFault side textLimit header t
 
   abbrev lines : Answer
-  lines = linesFault traceKind side 2 (record { low = 0; events = 0 }) (body (split t))
+  lines = linesFault traceLayout side 2 (record { low = 0; events = 0 }) (body (split t))
 
   abbrev events : Answer
   events = eventFault side 1 (startOf t) [] (eventsOf t)
 
   lines-are : Given lineFaults side lines
-  lines-are = lines-given traceKind lineFaults side refl (λ s l. line-fault s (recordOf l)) 2 _ (body (split t)) (omega arith)
+  lines-are = lines-given traceLayout lineFaults side refl (λ s l. line-fault s (recordOf l)) 2 _ (body (split t)) (omega arith)
 
   events-are : Given eventFaults side events
   events-are = events-given side 1 (startOf t) [] (eventsOf t) (omega arith)
