@@ -47,5 +47,8 @@ check-target-room κ a x y s t h k = h .targetEvents ∙ sym (k .targetEvents)
 check-entry-room : OneOf check.Post (λ κ r s. s .1 .1 .1 .1 .1 .0 .now)
 check-entry-room κ a x y s t h k = h .entries ∙ sym (k .entries)
 
-offending-line-span : OneOf offending-line.Post (λ κ r s. (s .1 .1 .1 .1 .1 .0 .now, s .1 .1 .1 .1 .1 .1 .0 .now))
-offending-line-span κ a x y s t h k = ap (λ (p : Span). (p .from, p .to)) (h .1 ∙ sym (k .1))
+offending-line-from : OneOf offending-line.Post (λ κ r s. s .1 .1 .1 .1 .1 .0 .now)
+offending-line-from κ a x y s t h k = ap (λ (p : Span). p .from) (h .1 ∙ sym (k .1))
+
+offending-line-to : OneOf offending-line.Post (λ κ r s. s .1 .1 .1 .1 .1 .1 .0 .now)
+offending-line-to κ a x y s t h k = ap (λ (p : Span). p .to) (h .1 ∙ sym (k .1))

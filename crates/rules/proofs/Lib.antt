@@ -40,4 +40,5 @@ pub mod Along
 pub mod Theorem
 pub mod Outcome
 pub mod Answers
+pub mod Kept
 pub mod Sync

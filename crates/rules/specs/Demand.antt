@@ -1,7 +1,7 @@
 -- Demand 3, in checkable words: what is left of two traces and a matching once answers 1 to 9 are not given, and what accepting them has to mean.
 -- Assumes nothing.
 use mathlib.Core.Path.{_≡_}
-use mathlib.Core.Logic.{_↔_, _⊎_}
+use mathlib.Core.Logic.{_↔_, _⊎_, _≢_}
 use mathlib.Core.Bool.{Bool, true, _&&_}
 use mathlib.Core.List.{List, [], _∷_, map}
 use Prim.Native.Nat.{ℕ}
@@ -13,7 +13,8 @@ use Rattle.event.specs.Answer.{done}
 use Rattle.event.specs.declared.memory.Memory.{Memory}
 use Rattle.rules.specs.View.{view}
 use Rattle.rules.specs.Moves.{Run, By}
-use Rattle.rules.specs.Run.{Traced, eventOf, changes, Realises}
+use Rattle.rules.specs.Run.{Ends, Realises, Traced, changes, eventOf, new, old, tagOf}
+use Rattle.rules.specs.Fault.{nth}
 use Rattle.rules.specs.Verdict.{startAnswer, countAnswer, entryAnswer, verdict}
 
 -- Every event of a trace is lawful and has the latest value, from a memory on.
@@ -50,3 +51,11 @@ Values =
     (m : Memory) (s u : List Traced) (r : Run (changes view) s u) → length (m .cells) ≡ 256 → T (right m (map eventOf s))
     → (x : List Traced) → By (changes view) x (r .1) ⊎ By (changes view) x (r .2)
     → T (right m (map eventOf x)) × (final m (map eventOf x) ≡ final m (map eventOf s))
+
+-- "keeps what it keeps, each at its target number, and removes what it calls gone": in the trace that a run ends with, the event of a source number
+-- that is kept stands at the place that its entry names, and one that is gone stands nowhere.
+abbrev pub KeptAndGone : Type 0
+KeptAndGone =
+    (m n : Memory) (s t : List Event) (ns : List ℕ) → Passed m n s t ns → (u : List Traced) → Ends ns 1 u t
+    → ((i : ℕ) → nth 0 ns i ≢ 0 → nth (new 0) (map tagOf u) (nth 0 ns i) ≡ old i)
+    × ((i : ℕ) → nth 0 ns i ≡ 0 → (k : ℕ) → nth (new 0) (map tagOf u) k ≢ old i)
