@@ -79,7 +79,8 @@ module _ (view : Event → View) (alike : (e f : Event) → T (same e f) → Ali
       record {
         last = d .0;
         order = record { kept = a .0; sorted = b .0; removing = a .1; sorting = b .1; inserting = d .1 };
-        ends-there = ends view s t ns (ready .entries .used-once) (faithful-at t s ns (ready .entries .many) (r .faithful)) 0 t (d .2) (c .1) (from-start noEvent t);
+        ends-there =
+            ends view s t ns (ready .entries .used-once) (faithful-at t s ns (ready .entries .many) (r .faithful)) 0 t (d .2) (c .1) (from-start noEvent t);
         genuine = genuines view s t ns (d .2);
         orderly = orderly-over w (Overtakes view s t ns) Above (shows-above view s t ns) started o;
       }
