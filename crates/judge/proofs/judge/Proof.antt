@@ -113,14 +113,5 @@ returns-5 c =
 pub judge-spec : {M : Type 1} → statement M
 judge-spec =
     tie.close
-    (tie.spec
-    (λ c κs. tt)
-    returns
-    (λ c κs. tt)
-    returns-2
-    (λ c κs. omega arith)
-    returns-3
-    source-answer-requires
-    returns-4
-    target-answer-requires
-    returns-5)
+    (tie.spec (λ c κs. tt) returns (λ c κs. tt) returns-2 (λ c κs. omega arith) returns-3 source-answer-requires returns-4
+    target-answer-requires returns-5)

@@ -152,24 +152,6 @@ returns-3 c =
 pub entry-answer-spec : {M : Type 1} → statement M
 entry-answer-spec =
     tie.close
-    (tie.spec
-    Inv-loop
-    μ-loop
-    loop-holds
-    (λ c. omega arith)
-    (λ c. omega arith)
-    (λ c. omega arith)
-    (λ c κs. tt)
-    (λ c. omega arith)
-    loop-again
-    (λ c κs. tt)
-    (λ c κs. tt)
-    returns
-    (λ c. omega arith)
-    (λ c κs. tt)
-    returns-2
-    (λ c. omega arith)
-    (λ c. omega arith)
-    loop-again-2
-    (λ c κs. tt)
-    returns-3)
+    (tie.spec Inv-loop μ-loop loop-holds (λ c. omega arith) (λ c. omega arith) (λ c. omega arith) (λ c κs. tt) (λ c. omega arith) loop-again
+    (λ c κs. tt) (λ c κs. tt) returns (λ c. omega arith) (λ c κs. tt) returns-2 (λ c. omega arith) (λ c. omega arith) loop-again-2
+    (λ c κs. tt) returns-3)

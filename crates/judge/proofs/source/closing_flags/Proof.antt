@@ -116,23 +116,7 @@ loop-again-2 c =
 pub closing-flags-spec : {M : Type 1} → statement M
 closing-flags-spec =
     tie.close
-    (tie.spec
-    Inv-loop
-    μ-loop
-    loop-holds
-    (λ c. omega arith)
-    (λ c κs. tt)
-    (λ c κs. tt)
-    (λ c. in-room c)
-    (λ c. omega arith)
-    (λ c κs. tt)
-    (λ c. omega arith)
-    loop-again
-    (λ c κs. tt)
-    (λ c. omega arith)
-    (λ c. omega arith)
-    (λ c κs. tt)
-    (λ c. in-room (c .before .before .before .before .before))
-    (λ c. omega arith)
-    loop-again-2
+    (tie.spec Inv-loop μ-loop loop-holds (λ c. omega arith) (λ c κs. tt) (λ c κs. tt) (λ c. in-room c) (λ c. omega arith) (λ c κs. tt)
+    (λ c. omega arith) loop-again (λ c κs. tt) (λ c. omega arith) (λ c. omega arith) (λ c κs. tt)
+    (λ c. in-room (c .before .before .before .before .before)) (λ c. omega arith) loop-again-2
     (λ c k h. c .before .loop .inv .flagged k (omega arith) h))

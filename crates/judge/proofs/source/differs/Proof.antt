@@ -33,9 +33,5 @@ returns c =
 pub differs-spec : {M : Type 1} → statement M
 differs-spec =
     tie.close
-    (tie.spec
-    (search needs)
-    (λ c. let h = kept-number (c .before .before .args .n) (c .before .before .pre) in omega arith)
-    (search needs)
-    (search needs)
-    returns)
+    (tie.spec (search needs) (λ c. let h = kept-number (c .before .before .args .n) (c .before .before .pre) in omega arith) (search needs)
+    (search needs) returns)

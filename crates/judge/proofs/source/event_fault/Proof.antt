@@ -16,8 +16,5 @@ goes f g e z h = rw (← e, eq-eqb _ 0 z) h
 pub event-fault-spec : {M : Type 1} → statement M
 event-fault-spec =
     tie.close
-    (tie.spec
-    (search needs)
-    (λ c. stops _ _ (c .before .keep-fault .ensures) (c .if1 .taken))
-    (search needs)
+    (tie.spec (search needs) (λ c. stops _ _ (c .before .keep-fault .ensures) (c .if1 .taken)) (search needs)
     (λ c. goes _ _ (c .before .before .keep-fault .ensures) (c .before .if1 .left) (c .removal-fault .ensures)))

@@ -39,13 +39,5 @@ returns-5 c =
 pub keep-fault-spec : {M : Type 1} → statement M
 keep-fault-spec =
     tie.close
-    (tie.spec
-    (search needs)
-    (search needs)
-    returns
-    returns-2
-    (λ c κs. gone-is (c .before) (c .if1 .left))
-    returns-3
-    (search needs)
-    returns-4
-    returns-5)
+    (tie.spec (search needs) (search needs) returns returns-2 (λ c κs. gone-is (c .before) (c .if1 .left)) returns-3 (search needs)
+    returns-4 returns-5)

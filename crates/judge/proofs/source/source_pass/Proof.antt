@@ -187,46 +187,16 @@ returns-2 c =
 pub source-pass-spec : {M : Type 1} → statement M
 source-pass-spec =
     tie.close
-    (tie.spec
-    Inv-loop
-    μ-loop
-    loop-holds
-    (λ c κs. tt)
-    (λ c. omega arith)
-    (λ c. omega arith)
-    (λ c κs. tt)
-    (λ c. in-room c)
-    (λ c. in-room c)
-    (λ c. omega (arith, in-room c))
-    (λ c. in-room c)
-    (λ c κs. tt)
-    (λ c. omega arith)
-    (λ c κs. tt)
-    (λ c. omega (arith, in-room (c .before .before .before)))
-    (λ c. in-room (c .before .before .before))
-    (λ c κs. tt)
-    (λ c κs. tt)
-    (λ c. omega (arith, few (at c)))
-    (λ c κs. tt)
-    returns
-    (λ c κs. tt)
-    (λ c κs. tt)
-    (λ c κs. tt)
-    (λ c. omega arith)
-    loop-again
-    (λ c κs. tt)
-    (λ c κs. tt)
-    (λ c κs. tt)
-    (λ c. in-room (at (c .before .before .before .before .before .before .before)))
+    (tie.spec Inv-loop μ-loop loop-holds (λ c κs. tt) (λ c. omega arith) (λ c. omega arith) (λ c κs. tt) (λ c. in-room c) (λ c. in-room c)
+    (λ c. omega (arith, in-room c)) (λ c. in-room c) (λ c κs. tt) (λ c. omega arith) (λ c κs. tt)
+    (λ c. omega (arith, in-room (c .before .before .before))) (λ c. in-room (c .before .before .before)) (λ c κs. tt) (λ c κs. tt)
+    (λ c. omega (arith, few (at c))) (λ c κs. tt) returns (λ c κs. tt) (λ c κs. tt) (λ c κs. tt) (λ c. omega arith) loop-again (λ c κs. tt)
+    (λ c κs. tt) (λ c κs. tt) (λ c. in-room (at (c .before .before .before .before .before .before .before)))
     (λ c. in-room (at (c .before .before .before .before .before .before .before)))
     (λ c. omega (arith, in-room (at (c .before .before .before .before .before .before .before))))
     (λ c. in-room (at (c .before .before .before .before .before .before .before)))
     (λ c. omega (arith, in-room (at (c .before .before .before .before .before .before .before))))
-    (λ c. in-room (at (c .before .before .before .before .before .before .before)))
-    (λ c κs. tt)
+    (λ c. in-room (at (c .before .before .before .before .before .before .before))) (λ c κs. tt)
     (λ c. omega (arith, in-room (at (c .before .before .before .before .before .before .before .before))))
-    (λ c. in-room (at (c .before .before .before .before .before .before .before .before)))
-    (λ c. omega arith)
-    loop-again-2
-    (λ c κs. tt)
+    (λ c. in-room (at (c .before .before .before .before .before .before .before .before))) (λ c. omega arith) loop-again-2 (λ c κs. tt)
     returns-2)

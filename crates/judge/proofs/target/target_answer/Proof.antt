@@ -153,27 +153,6 @@ returns-2 c ns m =
 pub target-answer-spec : {M : Type 1} → statement M
 target-answer-spec =
     tie.close
-    (tie.spec
-    Inv-loop
-    μ-loop
-    loop-holds
-    (λ c κs. tt)
-    (λ c κs. tt)
-    (λ c. omega arith)
-    (λ c. omega arith)
-    (λ c κs. tt)
-    (λ c. in-room (c .before .before))
-    (λ c κs. tt)
-    (λ c κs. tt)
-    (λ c. omega arith)
-    (λ c κs. tt)
-    returns
-    (λ c. omega arith)
-    (λ c κs. tt)
-    (λ c. omega arith)
-    loop-again
-    (λ c. in-room (at (c .before .before .before)))
-    (λ c. omega arith)
-    loop-again-2
-    (λ c κs. tt)
-    returns-2)
+    (tie.spec Inv-loop μ-loop loop-holds (λ c κs. tt) (λ c κs. tt) (λ c. omega arith) (λ c. omega arith) (λ c κs. tt)
+    (λ c. in-room (c .before .before)) (λ c κs. tt) (λ c κs. tt) (λ c. omega arith) (λ c κs. tt) returns (λ c. omega arith) (λ c κs. tt)
+    (λ c. omega arith) loop-again (λ c. in-room (at (c .before .before .before))) (λ c. omega arith) loop-again-2 (λ c κs. tt) returns-2)

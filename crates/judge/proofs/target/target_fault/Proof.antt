@@ -7,8 +7,5 @@ use Rattle.judge.proofs.target.target_fault.Tie as tie
 pub target-fault-spec : {M : Type 1} → statement M
 target-fault-spec =
     tie.close
-    (tie.spec
-    (search needs)
-    (λ c. rw (c .before .before .if1 .taken, sym (c .before .is-load-kind .ensures) ∙ c .if2 .taken))
-    (λ c. rw (c .before .before .if1 .taken, sym (c .before .is-load-kind .ensures) ∙ c .if2 .left))
-    (λ c. rw (c .if1 .left)))
+    (tie.spec (search needs) (λ c. rw (c .before .before .if1 .taken, sym (c .before .is-load-kind .ensures) ∙ c .if2 .taken))
+    (λ c. rw (c .before .before .if1 .taken, sym (c .before .is-load-kind .ensures) ∙ c .if2 .left)) (λ c. rw (c .if1 .left)))
