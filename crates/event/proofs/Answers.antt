@@ -6,7 +6,7 @@ use mathlib.Core.List.{List, [], _∷_}
 use mathlib.Core.Logic.{_⊎_, inl, inr}
 use mathlib.Core.Path.{_≡_, refl, sym, _∙_}
 use lib.Dec.{eqb}
-use lib.ListN.{getD}
+use lib.ListN.{getD, length}
 use borrow.Author.Tests.{eqb-false, le-leb, not-true}
 use Rattle.laws.proofs.Bools.{and-left, and-right}
 use Rattle.laws.proofs.Cases.{by-cond, cases, either}
@@ -15,6 +15,10 @@ use Rattle.event.specs.Kind.{has}
 use Rattle.event.proofs.Has.{has-every}
 use Rattle.event.specs.Answer.{answer, done, first, answers, InTable, Where, nowhere, ordinal, location, amount}
 use Rattle.event.specs.declared.Answer.{Answer}
+
+-- the table has the numbers 0 to 18
+nineteen : length answers ≡ 19
+nineteen = refl
 
 -- the table has a number with a side and a place from 1 on
 abbrev pub isOrdinal : Where → Bool

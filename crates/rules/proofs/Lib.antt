@@ -41,4 +41,5 @@ pub mod Theorem
 pub mod Outcome
 pub mod Answers
 pub mod Kept
+pub mod Looks
 pub mod Sync

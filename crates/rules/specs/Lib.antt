@@ -5,3 +5,4 @@ pub mod Run
 pub mod Fault
 pub mod Verdict
 pub mod Demand
+pub mod Looks

@@ -48,9 +48,9 @@ module _ {E : Type 0} (view : E → View) where
   -- Removal of what is seen as the second argument, between what came before and what comes after.
   abbrev pub Removable : List E → View → List E → Type 0
   Removable b wall a = ⊥
-  Removable b (load p v true) a = Holds v (near p b)
-  Removable b (load p v false) a = Unit {0}
-  Removable b (store p v) a = Holds v (near p b) ⊎ Stores (near p a)
+  Removable b (load p v true) a = Holds v (near p b)  -- RaR, RaW
+  Removable b (load p v false) a = Unit {0}  -- it is `unused`
+  Removable b (store p v) a = Holds v (near p b) ⊎ Stores (near p a)  -- WaR, WaW; OW
 
   -- Insertion of what is seen, behind what came before.
   abbrev pub Insertable : List E → View → Type 0
