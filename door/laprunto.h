@@ -74,8 +74,9 @@ void laprunto_check(const uint8_t *source, size_t source_bytes, const uint8_t *t
                     laprunto_word target_memory[LAPRUNTO_CELLS], size_t result[LAPRUNTO_CHECKED]);
 
 /* The line that an answer of a check finds fault with: the bytes from *from to before *to, of the target text where side is 2, else
- * of the source text. *from and *to are equal where there is none. The line has no LF. Any three numbers may be handed in; *from is
- * never above *to, nor *to above the length of the text. */
+ * of the source text, without its LF. Any three numbers may be handed in: where the number is one that has a line and the side is 1
+ * or 2 it is the line of that text that the place names, and *from and *to are 0 if it has no such line; for every other number or
+ * side they are 0. *from is never above *to, nor *to above the length of the text. */
 void laprunto_offending_line(const uint8_t *source, size_t source_bytes, const uint8_t *target, size_t target_bytes,
                              laprunto_number number, laprunto_number side, size_t place, size_t *from, size_t *to);
 
