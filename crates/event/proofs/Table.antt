@@ -1,12 +1,10 @@
 -- What a test finds of every row of the fixed table holds of every kind. Each law about kinds is one such test, which the check computes, so that a
 -- kind more is a row and no law. Assumes nothing.
-use Prim.Native.Nat.{ℕ, zero, suc}
+use Prim.Native.Nat.{ℕ}
 use mathlib.Core.Bool.{Bool, true, false, _&&_, not, cond, _||_, false≢true}
-use mathlib.Core.List.{List, [], _∷_}
 use mathlib.Core.Path.{_≡_, refl}
-use lib.ListN.{getD}
-use Rattle.laws.proofs.Bools.{and-left, and-right}
-use Rattle.laws.proofs.Lists.{every}
+use Rattle.laws.proofs.Bools.{and-left}
+use Rattle.laws.proofs.Lists.{every, every-at}
 use Rattle.event.specs.Kind.{row, rows, noKind, isLocation}
 use Rattle.event.specs.declared.kind.Row.{Row}
 use Rattle.event.specs.declared.kind.Place.{Place}
@@ -14,14 +12,9 @@ use Rattle.event.specs.declared.kind.Place.the-variants.{Location, Mutex
 use Rattle.event.specs.declared.kind.Sets.{Sets}
 use Rattle.event.specs.declared.kind.Sets.the-variants.{Nothing, First, Second, Sum}
 
-found : (test : Row → Bool) (l : List Row) → every test l ≡ true → test noKind ≡ true → (k : ℕ) → test (getD l k noKind) ≡ true
-found test [] h n k = n
-found test (r ∷ l) h n zero = and-left _ _ h
-found test (r ∷ l) h n (suc k) = found test l (and-right (test r) _ h) n k
-
 pub each-row : (test : Row → Bool) → every test rows ≡ true → (k : ℕ) → test (row k) ≡ true
 unfolding row
-each-row test h k = found test rows h (and-left _ _ h) k
+each-row test h k = every-at test noKind rows (and-left _ _ h) h k
 
 -- a row that is plain
 abbrev plainRow : Row → Bool

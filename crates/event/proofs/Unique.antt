@@ -8,6 +8,7 @@ use Rattle.event.proofs.kind.row_of.Reads as row-of
 use Rattle.event.proofs.kind.is_in.Reads as is-in
 use Rattle.event.proofs.kind.suits.Reads as suits
 use Rattle.event.proofs.kind.is_load_kind.Reads as is-load-kind
+use Rattle.event.proofs.kind.is_marks.Reads as is-marks
 use Rattle.event.proofs.kind.is_plain.Reads as is-plain
 use Rattle.event.proofs.kind.is_lawful.Reads as is-lawful
 use Rattle.event.proofs.memory.Memory.empty.Reads as empty
@@ -35,6 +36,9 @@ suits-one κ a x y s t h k = h ∙ sym k
 
 is-load-kind-one : OneAnswer is-load-kind.Post
 is-load-kind-one κ a x y s t h k = h ∙ sym k
+
+is-marks-one : OneAnswer is-marks.Post
+is-marks-one κ a x y s t h k = h ∙ sym k
 
 is-plain-one : OneAnswer is-plain.Post
 is-plain-one κ a x y s t h k = h ∙ sym k

@@ -192,7 +192,8 @@ pub fn suits(kind: Word, place: Word, order: Word, first: Word, second: Word) ->
     fits_values(row.values, first, second)
 }
 
-fn is_marks(orders: Orders) -> bool
+// Whether these are marks, not orders.
+pub fn is_marks(orders: Orders) -> bool
     ensures { λ r. ⌜ r ≡ isMarks orders ⌝ }
 {
     match orders {

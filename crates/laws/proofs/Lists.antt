@@ -1,8 +1,10 @@
 -- What holds of each element of a list, and what a test finds of each. Assumes nothing.
-use Prim.Native.Nat.{ℕ}
+use Prim.Native.Nat.{ℕ, zero, suc}
 use mathlib.Core.Bool.{Bool, true, _&&_}
 use mathlib.Core.List.{List, [], _∷_, _++_}
 use mathlib.Core.Path.{_≡_}
+use lib.ListN.{getD}
+use Rattle.laws.proofs.Bools.{and-left, and-right}
 
 -- P holds of each element
 abbrev pub Each : {A : Type 0} → (A → Type 0) → List A → Type 0
@@ -32,3 +34,13 @@ module _ {A : Type 0} (P : A → Type 0) where
   pub each-imp : (Q : A → Type 0) → ((a : A) → P a → Q a) → (l : List A) → Each P l → Each Q l
   each-imp Q f [] h = tt
   each-imp Q f (a ∷ l) h = (f a (h .0), each-imp Q f l (h .1))
+
+-- what a test finds of every element holds of each
+pub every-each : {A : Type 0} (t : A → Bool) (P : A → Type 0) → ((a : A) → t a ≡ true → P a) → (l : List A) → every t l ≡ true → Each P l
+every-each t P f [] h = tt
+every-each t P f (a ∷ l) h = (f a (and-left (t a) (every t l) h), every-each t P f l (and-right (t a) (every t l) h))
+
+pub every-at : {A : Type 0} (t : A → Bool) (d : A) (l : List A) → t d ≡ true → every t l ≡ true → (i : ℕ) → t (getD l i d) ≡ true
+every-at t d [] p h i = p
+every-at t d (a ∷ l) p h zero = and-left (t a) (every t l) h
+every-at t d (a ∷ l) p h (suc i) = every-at t d l p (and-right (t a) (every t l) h) i

@@ -9,16 +9,17 @@ use lib.ListN.{length, List·getD-eq-default}
 use borrow.Author.Tests.{eqb-true, eqb-false, leb-true, not-true}
 use Rattle.laws.proofs.Bools.{and-left, and-right}
 use Rattle.laws.proofs.Cases.{cases, either, side}
-use Rattle.event.specs.Kind.{row, rows, noKind, has, ordersOf, takes, fitsPlace, lastPlace, lawful}
+use Rattle.event.proofs.Has.{has-every}
+use Rattle.event.specs.Kind.{isMarks, row, rows, noKind, has, ordersOf, takes, fitsPlace, lastPlace, lawful}
 use Rattle.event.specs.declared.Event.{Event}
 use Rattle.event.specs.declared.kind.Orders.{Orders}
 use Rattle.event.specs.declared.kind.Orders.the-variants.{Bare, Marks, Reads, Writes, Updates, Fences, NoKind}
 use Rattle.event.specs.declared.kind.Place.{Place}
 use Rattle.event.specs.declared.kind.Place.the-variants.{Location, Mutex, Nowhere}
 use Rattle.event.proofs.Lawful.{order-of, place-of, values-of}
-use Rattle.record.specs.Layout.{kindWords, orderWords, wordAt, orderOf, hasPlace, hasOrder, hasMark, shapeOf, fieldIf}
+use Rattle.record.specs.Layout.{kindWords, orderWords, wordAt, orderOf, hasPlace, hasOrder, shapeOf, fieldIf}
 use Rattle.record.specs.declared.shape.Shape.{Shape}
-use Rattle.record.proofs.Tables.{word-of, every}
+use Rattle.record.proofs.Tables.{word-of}
 
 -- the number of a word that has at most n letters
 abbrev named : ℕ → ℕ → Bool
@@ -51,20 +52,14 @@ pub data Stand : Bool → Bool → ℕ → Type 0 where
   behind : {o : ℕ} → Named markMost o → Stand false true o
   nowhere : Stand false false 0
 
-has-every : (t : ℕ → Bool) (o : ℕ) (l : List ℕ) → every t l ≡ true → has o l ≡ true → t o ≡ true
-has-every t o [] h k = absurd (false≢true k)
-has-every t o (m ∷ l) h k =
-    cases (either (eqb o m)) (λ e. rw (eqb-true o m e) (and-left (t m) (every t l) h))
-    (λ e. has-every t o l (and-right (t m) (every t l) h) (rw e at k))
-
-stand : (os : Orders) (o : ℕ) → takes os o ≡ true → Stand (hasOrder os) (hasMark os) o
+stand : (os : Orders) (o : ℕ) → takes os o ≡ true → Stand (hasOrder os) (isMarks os) o
 unfolding takes
-stand Bare o h = rw (eqb-true o 0 (has-every (λ n. eqb n 0) o (ordersOf Bare) refl h)) nowhere
-stand Marks o h = behind (is-named markMost o (has-every (named markMost) o (ordersOf Marks) refl h))
-stand Reads o h = ahead (is-named orderMost o (has-every (named orderMost) o (ordersOf Reads) refl h))
-stand Writes o h = ahead (is-named orderMost o (has-every (named orderMost) o (ordersOf Writes) refl h))
-stand Updates o h = ahead (is-named orderMost o (has-every (named orderMost) o (ordersOf Updates) refl h))
-stand Fences o h = ahead (is-named orderMost o (has-every (named orderMost) o (ordersOf Fences) refl h))
+stand Bare o h = rw (eqb-true o 0 (has-every (λ n. eqb n 0) (ordersOf Bare) refl o h)) nowhere
+stand Marks o h = behind (is-named markMost o (has-every (named markMost) (ordersOf Marks) refl o h))
+stand Reads o h = ahead (is-named orderMost o (has-every (named orderMost) (ordersOf Reads) refl o h))
+stand Writes o h = ahead (is-named orderMost o (has-every (named orderMost) (ordersOf Writes) refl o h))
+stand Updates o h = ahead (is-named orderMost o (has-every (named orderMost) (ordersOf Updates) refl o h))
+stand Fences o h = ahead (is-named orderMost o (has-every (named orderMost) (ordersOf Fences) refl o h))
 stand NoKind o h = absurd (false≢true h)
 
 -- the order that is read of both places is the event's, and has a word

@@ -12,7 +12,7 @@ use lib.Seq.{drop-cons}
 use borrow.Author.Tests.{eqb-true, leb-true, not-true}
 use Rattle.laws.proofs.Bools.{and-left, and-right}
 use Rattle.laws.proofs.Cases.{cases, either, side}
-use Rattle.laws.proofs.Lists.{Each, Free}
+use Rattle.laws.proofs.Lists.{Each, Free, every, every-at, every-each}
 use Rattle.text.specs.Word.{same}
 use Rattle.text.proofs.Words.{same-eq}
 use Rattle.record.specs.Table.{wordIn}
@@ -77,20 +77,6 @@ each-to t zero h k l = let e : k ≡ zero = omega arith in rw e h
 each-to t (suc n) h k l =
     cases (side k (suc n)) (λ p. each-to t n (and-right (t (suc n)) (upTo t n) h) k (omega arith))
     (λ p. let e : k ≡ suc n = omega arith in rw e (and-left (t (suc n)) (upTo t n) h))
-
--- whether each element passes a test
-abbrev pub every : {A : Type 0} → (A → Bool) → List A → Bool
-every t [] = true
-every t (a ∷ l) = t a && every t l
-
-every-each : {A : Type 0} (t : A → Bool) (P : A → Type 0) → ((a : A) → t a ≡ true → P a) → (l : List A) → every t l ≡ true → Each P l
-every-each t P f [] h = tt
-every-each t P f (a ∷ l) h = (f a (and-left (t a) (every t l) h), every-each t P f l (and-right (t a) (every t l) h))
-
-every-at : {A : Type 0} (t : A → Bool) (d : A) (l : List A) → t d ≡ true → every t l ≡ true → (i : ℕ) → t (getD l i d) ≡ true
-every-at t d [] p h i = p
-every-at t d (a ∷ l) p h zero = and-left (t a) (every t l) h
-every-at t d (a ∷ l) p h (suc i) = every-at t d l p (and-right (t a) (every t l) h) i
 
 -- the words of the kinds and of the orders are numbered right
 pub kind-number : (k : ℕ) → k ≤ length kindWords → kindOf (wordAt kindWords k) ≡ k

@@ -4,7 +4,7 @@ use mathlib.Core.Bool.{Bool, true, false, cond}
 use mathlib.Core.List.{List, [], _∷_}
 use lib.Dec.{leb}
 use lib.ListN.{getD}
-use Rattle.event.specs.Kind.{row}
+use Rattle.event.specs.Kind.{row, isMarks}
 use Rattle.event.specs.declared.Event.{Event}
 use Rattle.event.specs.declared.kind.Orders.{Orders}
 use Rattle.event.specs.declared.kind.Orders.the-variants.{Bare, Marks, Reads, Writes, Updates, Fences, NoKind}
@@ -81,16 +81,6 @@ hasOrder Updates = true
 hasOrder Fences = true
 hasOrder NoKind = false
 
--- Whether the line has a mark, after its values.
-abbrev pub hasMark : Orders → Bool
-hasMark Bare = false
-hasMark Marks = true
-hasMark Reads = false
-hasMark Writes = false
-hasMark Updates = false
-hasMark Fences = false
-hasMark NoKind = false
-
 -- Which fields the line of a kind has after its word.
 abbrev pub shapeOf : ℕ → Shape
 shapeOf k = record {
@@ -98,7 +88,7 @@ shapeOf k = record {
   order = hasOrder (row k .orders);
   first = leb 1 (row k .values);
   second = leb 2 (row k .values);
-  mark = hasMark (row k .orders);
+  mark = isMarks (row k .orders);
 }
 
 -- The fields of an event's line after its word, each with whether it is there: its place, its order, its values, its mark.

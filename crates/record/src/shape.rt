@@ -1,9 +1,10 @@
 // Which fields the line of a kind has after its word.
 ghost use mathlib.Core.Path.{_≡_};
-ghost use Rattle.record.specs.Layout.{shapeOf, hasPlace, hasOrder, hasMark};
+ghost use Rattle.record.specs.Layout.{shapeOf, hasPlace, hasOrder};
 use event::Word;
 use event::kind::Orders;
 use event::kind::Place;
+use event::kind::is_marks;
 use event::kind::row_of;
 
 // The fields in their order, and whether they are there.
@@ -41,21 +42,6 @@ fn has_order(orders: Orders) -> bool
     }
 }
 
-// Whether it has a mark after them.
-fn has_mark(orders: Orders) -> bool
-    ensures { λ r. ⌜ r ≡ hasMark orders ⌝ }
-{
-    match orders {
-        Orders::Bare => false,
-        Orders::Marks => true,
-        Orders::Reads => false,
-        Orders::Writes => false,
-        Orders::Updates => false,
-        Orders::Fences => false,
-        Orders::NoKind => false,
-    }
-}
-
 // Those of a kind.
 pub fn shape_of(kind: Word) -> Shape
     ensures { λ r. ⌜ r ≡ shapeOf kind ⌝ }
@@ -69,6 +55,6 @@ pub fn shape_of(kind: Word) -> Shape
         order: has_order(orders),
         first: 1 <= values,
         second: 2 <= values,
-        mark: has_mark(orders),
+        mark: is_marks(orders),
     }
 }

@@ -3,7 +3,7 @@ use Rattle.record.proofs.shape.shape_of.Statement.{statement}
 use Rattle.record.proofs.shape.shape_of.Tie as tie
 
 returns : tie.Need-returns
-returns c = rw (c .has-mark .ensures, c .before .has-order .ensures, c .before .before .has-place .ensures, c .before .before .before .row-of .ensures)
+returns c = rw (c .is-marks .ensures, c .before .has-order .ensures, c .before .before .has-place .ensures, c .before .before .before .row-of .ensures)
 
 pub shape-of-spec : {M : Type 1} → statement M
 shape-of-spec = tie.close (tie.spec (λ c κs. tt) (λ c κs. tt) (λ c κs. tt) (λ c κs. tt) returns)
