@@ -1,37 +1,30 @@
--- Laws of what is written into a room: one byte, and a word after another. Assumes nothing.
-use Prim.Native.Nat.{ℕ, _+_, _≤_}
+-- Laws of bytes stored in a room: a word after another, and what a word at the front leaves. Assumes nothing.
+use Prim.Native.Nat.{ℕ, suc, _+_, _≤_}
 use mathlib.Core.Path.{_≡_, sym, _∙_}
-use mathlib.Core.List.{List, [], _∷_, _++_, append-assoc}
+use mathlib.Core.List.{List, [], _∷_, _++_}
 use native.Mathlib.Omega.{arith}
-use lib.ListN.{length, take, drop, set, length-append, length-drop}
-use lib.Seq.{take-at, drop-at, drop-drop, length-take-le, sets-eq}
+use lib.ListN.{length, take, drop, set}
+use lib.Seq.{sets, sets-eq, length-sets, take-at}
 use Rattle.text.specs.Write.{wrote}
 
--- one byte stored
-pub wrote-one : (room : List ℕ) (at b : ℕ) → at + 1 ≤ length room → set room at b ≡ wrote room at (b ∷ [])
-wrote-one room at b h = sets-eq (b ∷ []) room at h
+-- a word stored after a word: both stored as one
+pub sets-append : (room : List ℕ) (at : ℕ) (v w : List ℕ) → sets room at (v ++ w) ≡ sets (sets room at v) (at + length v) w
+sets-append room at [] w = let z : at + 0 ≡ at = omega arith in rw z
+sets-append room at (b ∷ v) w =
+    let z : at + suc (length v) ≡ suc at + length v = omega arith in
+    rw z (sets-append (set room at b) (suc at) v w)
 
-module _ (room : List ℕ) (at : ℕ) (v : List ℕ) (h : at + length v ≤ length room) where
-  head : length (take at room ++ v) ≡ at + length v
-  head = length-append (take at room) v ∙ rw (length-take-le at room (omega arith))
+-- a byte stored after a word at the front
+pub wrote-next : (room v : List ℕ) (b : ℕ) → set (wrote room v) (length v) b ≡ wrote room (v ++ b ∷ [])
+wrote-next room v b =
+    let z : 0 + length v ≡ length v = omega arith in
+    sym (sets-append room 0 v (b ∷ []) ∙ rw z)
 
+module _ (room v : List ℕ) where
   -- the room stays as long as it was
-  pub length-wrote : length (wrote room at v) ≡ length room
-  length-wrote = omega (arith, length-append (take at room ++ v) (drop (at + length v) room), head, length-drop (at + length v) room)
+  pub length-wrote : length (wrote room v) ≡ length room
+  length-wrote = length-sets room 0 v
 
-  -- up to the word's end: what stood before it, and the word
-  pub take-wrote : take (at + length v) (wrote room at v) ≡ take at room ++ v
-  take-wrote = take-at (take at room ++ v) (drop (at + length v) room) (at + length v) head
-
-  -- after the word: what stood there
-  pub drop-wrote : drop (at + length v) (wrote room at v) ≡ drop (at + length v) room
-  drop-wrote = drop-at (take at room ++ v) (drop (at + length v) room) (at + length v) head
-
-  -- a word written after a word: both written as one
-  pub wrote-next : (w : List ℕ) → wrote (wrote room at v) (at + length v) w ≡ wrote room at (v ++ w)
-  wrote-next w =
-      let e : ℕ = at + length v in
-      let d : drop (e + length w) (wrote room at v) ≡ drop (e + length w) room =
-      sym (drop-drop (length w) e (wrote room at v)) ∙ rw drop-wrote (drop-drop (length w) e room) in
-      let n : at + length (v ++ w) ≡ e + length w = omega (arith, length-append v w) in
-      rw (take-wrote, d, n, append-assoc (take at room) v w)
+  -- up to the end of a word for which there is room: the word
+  pub take-wrote : length v ≤ length room → take (length v) (wrote room v) ≡ v
+  take-wrote h = rw (sets-eq v room 0 (omega arith)) (take-at v (drop (0 + length v) room) (length v) (omega arith))

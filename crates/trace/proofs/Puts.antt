@@ -6,7 +6,7 @@ use native.Mathlib.Omega.{arith}
 use lib.ListN.{length, set, take, length-append}
 use lib.Seq.{sets, length-sets}
 use Rattle.text.specs.Write.{wrote}
-use Rattle.text.proofs.Writes.{length-wrote, take-wrote}
+use Rattle.text.proofs.Writes.{sets-append, length-wrote, take-wrote}
 use Rattle.trace.specs.Put.{Put, Small}
 
 -- a byte stored beyond the end changes nothing, and so do bytes
@@ -18,12 +18,6 @@ set-beyond (a ∷ l) (suc i) b h = ap (λ (m : List ℕ). a ∷ m) (set-beyond l
 pub sets-beyond : (room : List ℕ) (at : ℕ) (v : List ℕ) → length room ≤ at → sets room at v ≡ room
 sets-beyond room at [] h = refl
 sets-beyond room at (b ∷ v) h = rw (set-beyond room at b h) (sets-beyond room (suc at) v (omega arith))
-
-sets-append : (room : List ℕ) (at : ℕ) (v w : List ℕ) → sets room at (v ++ w) ≡ sets (sets room at v) (at + length v) w
-sets-append room at [] w = let z : at + 0 ≡ at = omega arith in rw z
-sets-append room at (b ∷ v) w =
-    let z : at + suc (length v) ≡ suc at + length v = omega arith in
-    rw z (sets-append (set room at b) (suc at) v w)
 
 -- nothing put
 pub put-none : (room : List ℕ) (at : ℕ) → Put room at [] room at
@@ -96,8 +90,6 @@ module _ {whole room now : List ℕ} {rest : ℕ → List ℕ} {n at here i : �
   going-end e = let m = rw e at (g .left) in record { counted = omega (arith, m .counts); stored = m .stores }
 
 -- what was written at the front of a room, read back
-pub front-put : {r : ℕ} {after : List ℕ} (room v : List ℕ) → length v ≤ length room → (r ≡ 0 + length v) × (after ≡ wrote room 0 v)
+pub front-put : {r : ℕ} {after : List ℕ} (room v : List ℕ) → length v ≤ length room → (r ≡ length v) × (after ≡ wrote room v)
     → (r ≤ length after) × (take r after ≡ v)
-front-put room v h p =
-    let l : 0 + length v ≤ length room = omega arith in
-    rw (p .1, p .0) (omega (arith, length-wrote room 0 v l), take-wrote room 0 v l)
+front-put room v h p = rw (p .1, p .0) (omega (arith, length-wrote room v), take-wrote room v h)

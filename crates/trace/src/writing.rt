@@ -31,6 +31,7 @@ use record::word::KIND_WORDS;
 use record::word::ORDER_WORDS;
 use record::word::ROW;
 use record::word::word_in;
+use text::write::DIGITS;
 use text::write::put_number;
 
 // How many events a part of a room has: one that is cut short at its end counts.
@@ -164,9 +165,6 @@ fn wide(w: Word) -> u64
     w as u64
 }
 
-// The most digits of a number.
-const DIGITS: usize = 20;
-
 // A TAB and a number, if the line is to have it.
 fn put_number_if(wanted: bool, out: &mut [u8], at: usize, n: Word) -> usize
     requires { ⌜ Small at (tabIf wanted (decimal n)) ⌝ }
@@ -176,7 +174,7 @@ fn put_number_if(wanted: bool, out: &mut [u8], at: usize, n: Word) -> usize
         return at;
     }
     let mut digits: [u8; DIGITS] = [0; DIGITS];
-    let size = put_number(&mut digits, 0, wide(n));
+    let size = put_number(&mut digits, wide(n));
     let next = put(out, at, b"\t");
     put(out, next, &digits[..size])
 }

@@ -31,20 +31,20 @@ digits-are c = rw (← c .before .wide .ensures) (front-put (replicate 20 0) _ (
 
 slice-aggregate-put-2 : tie.Need-slice-aggregate-put-2
 slice-aggregate-put-2 c =
-    let p = c .before .before .before .before .before .before .before .before in
+    let p = c .before .before .before .before .before .before .before in
     sym (length-take-le (p .put-number .result) (p .put-number .last .0) (digits-are p .0))
 
 put-requires-2 : tie.Need-put-requires-2
 put-requires-2 c κs =
     let p = c .before .before .before .before in
-    let d = p .before .before .before .before in
+    let d = p .before .before .before in
     rw (digits-are d .1) (omega (arith, p .put .ensures .counted, small (d .before .before .before)))
 
 returns-2 : tie.Need-returns-2
 returns-2 c =
     let p = c .before .before in
     let q = p .before .before .before .before .before in
-    let d = q .before .before .before .before in
+    let d = q .before .before .before in
     rw (wanted (d .before .before .before)) (then (q .put .ensures) (rw (digits-are d .1) at (p .put2 .ensures)))
 
 pub put-number-if-spec : {M : Type 1} → statement M
@@ -52,12 +52,11 @@ put-number-if-spec =
     tie.close
     (tie.spec
     (λ c. rw (not-true (c .before .before .args .wanted) (c .if1 .taken)) (put-none _ _))
-    (λ c. refl)
     (λ c κs. tt)
-    (λ c κs. omega (arith, digits-fit c))
+    (λ c κs. tt)
     (λ c. refl)
-    (λ c κs. omega (arith, small (c .before .before .before .before .before .before)))
-    (λ c. digits-are (c .before .before .before .before .before .before .before) .0)
+    (λ c κs. omega (arith, small (c .before .before .before .before .before)))
+    (λ c. digits-are (c .before .before .before .before .before .before) .0)
     slice-aggregate-put-2
     put-requires-2
     (λ c. c .before .before .put2 .kept .0 ∙ c .before .before .before .before .before .before .before .put .kept .0)
