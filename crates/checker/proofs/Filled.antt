@@ -11,8 +11,7 @@ use Rattle.event.specs.declared.Event.{Event}
 use Rattle.event.proofs.Rooms.{flat-length, onward-flat, each-event}
 use Rattle.event.proofs.Lawful.{place-below}
 use Rattle.trace.specs.Reading.{eventsOf, surveyOf, front, readOf}
-use Rattle.record.proofs.Layouts.{Fit}
-use Rattle.trace.proofs.Range.{Fits}
+use Rattle.trace.specs.Text.{Fit, Fits}
 use Rattle.trace.proofs.OneText.{text-whole}
 use Rattle.trace.proofs.Readings.{counts, read-passed}
 use Rattle.matching.specs.Reading.{entriesOf, front as entryFront, readOf as entriesRead}

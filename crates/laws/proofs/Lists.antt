@@ -5,11 +5,7 @@ use mathlib.Core.List.{List, [], _∷_, _++_}
 use mathlib.Core.Path.{_≡_}
 use lib.ListN.{getD}
 use Rattle.laws.proofs.Bools.{and-left, and-right}
-
--- P holds of each element
-abbrev pub Each : {A : Type 0} → (A → Type 0) → List A → Type 0
-Each P [] = Unit {0}
-Each P (a ∷ l) = P a × Each P l
+pub use Rattle.laws.specs.Each.{Each}
 
 -- every element passes a test
 abbrev pub every : {A : Type 0} → (A → Bool) → List A → Bool

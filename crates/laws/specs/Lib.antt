@@ -1,2 +1,3 @@
 -- What the statements of every crate share. Assumes nothing.
+pub mod Each
 pub mod Unique

@@ -8,9 +8,10 @@ use lib.Dec.{eqb, leb}
 use lib.ListN.{length, length-append}
 use borrow.Author.Tests.{leb-false}
 use Rattle.laws.proofs.Cases.{cases, either, not-first}
-use Rattle.laws.proofs.Lists.{Each, Free}
+use Rattle.laws.specs.Each.{Each}
+use Rattle.laws.proofs.Lists.{Free}
 use Rattle.text.specs.Cut.{glue}
-use Rattle.text.specs.Line.{split, unsplit, body, saidIn}
+use Rattle.text.specs.Line.{split, body, saidIn}
 use Rattle.text.proofs.Decimals.{length-below}
 use Rattle.text.proofs.Parts.{cut-glue, glue-cut}
 use Rattle.text.proofs.Round.{decimal-no-lf}
@@ -20,31 +21,24 @@ use Rattle.frame.proofs.Lines.{lines-pass}
 use Rattle.matching.specs.Entry.{header, entryOf, entryLine}
 use Rattle.matching.specs.Reading.{matchingLayout, entryFault, entriesIn, readAs, surveyOf, entriesOf}
 use Rattle.matching.specs.Survey.{surveyLines}
+use Rattle.matching.specs.Text.{matchText, Fits}
 use Rattle.matching.specs.declared.entry.EntryRead.{EntryRead}
 use Rattle.matching.specs.declared.entry.EntryRead.the-variants.{Entry, Refused}
 use Rattle.matching.proofs.Lines.{blank, read-all, read-go, read-end}
 use Rattle.matching.proofs.Prints.{entry-read, entry-back}
 use Rattle.matching.proofs.Readings.{survey-done}
 
--- the lines of entries, with nothing after the last LF, and the text of a matching
-abbrev pub tail : List ℕ → List (List ℕ)
+-- the lines of entries, with nothing after the last LF
+abbrev tail : List ℕ → List (List ℕ)
 tail es = map entryLine es ++ ([] ∷ [])
 
-abbrev pub matchText : List ℕ → List ℕ
-matchText es = unsplit (header ∷ tail es)
-
--- at most 800 entries, each at most 800
-pub record Fits (n : ℕ) (es : List ℕ) : Type 0 where
-  pub few : n + length es ≤ 800
-  pub numbers : Each (λ e. e ≤ 800) es
-
--- lines that are those of their entries
+-- lines that are those of their entries, which fit behind n others
 abbrev Printed : ℕ → List (List ℕ) → Type 0
-Printed n ls = n ≤ 800 → (ls ≡ tail (entriesIn ls)) × Fits n (entriesIn ls)
+Printed n ls = n ≤ 800 → (ls ≡ tail (entriesIn ls)) × ((n + length (entriesIn ls) ≤ 800) × Each (λ e. e ≤ 800) (entriesIn ls))
 
 last-printed : (n : ℕ) → Printed n ([] ∷ [])
 unfolding saidIn
-last-printed n b = rw blank (refl, record { few = omega arith; numbers = tt })
+last-printed n b = rw blank (refl, (omega arith, tt))
 
 line-printed : (n : ℕ) (l : List ℕ) (ls : List (List ℕ)) (r : EntryRead) → entryOf l ≡ r → entryFault n r ≡ 0 → Printed (n + 1) ls → Printed n (l ∷ ls)
 unfolding saidIn
@@ -53,18 +47,18 @@ line-printed n l ls (Entry e) q h g b =
     let f = leb-false 800 n (not-first (λ (x : ℕ). x) (leb 800 n) 3 0 (λ z. omega arith) h .0) in
     let p = g (omega (arith, f)) in
     let s = entry-back l e q in
-    (rw (q, ← s .0, ← p .0), rw q (record { few = omega (arith, p .1 .few); numbers = (s .1, p .1 .numbers) }))
+    (rw (q, ← s .0, ← p .0), rw q (omega (arith, p .1 .0), (s .1, p .1 .1)))
 
 -- Document 01, "Matching text": "line 1 `match`, `1`, then one line per source event". A text that is read without refusal is the header and
 -- the lines of its entries.
-pub text-back : (t : List ℕ) → surveyOf t .answer .number ≡ 0 → (matchText (entriesOf t) ≡ t) × Fits 0 (entriesOf t)
+pub text-back : (t : List ℕ) → surveyOf t .answer .number ≡ 0 → (matchText (entriesOf t) ≡ t) × Fits (entriesOf t)
 unfolding entriesOf
 text-back t h =
     let f = framed matchingLayout 3 t (survey-done t h .0) in
     let p =
     lines-pass matchingLayout 3 Printed last-printed (λ n l ls. line-printed n l ls (entryOf l) refl) 2 0 (body (split t)) (f .some) (f .lines)
     (omega arith) in
-    (ap (glue 10) (ap (λ (qs : List (List ℕ)). header ∷ qs) (sym (p .0)) ∙ sym (f .parts)) ∙ glue-cut 10 t, p .1)
+    (ap (glue 10) (ap (λ (qs : List (List ℕ)). header ∷ qs) (sym (p .0)) ∙ sym (f .parts)) ∙ glue-cut 10 t, record { few = omega (arith, p .1 .0); numbers = p .1 .1 })
 
 -- So one list of entries has one text.
 pub one-text : (t u : List ℕ) → surveyOf t .answer .number ≡ 0 → surveyOf u .answer .number ≡ 0 → entriesOf t ≡ entriesOf u → t ≡ u
@@ -75,12 +69,11 @@ some-end : (es : List ℕ) → Some (tail es)
 some-end [] = tt
 some-end (e ∷ es) = tt
 
-tail-lines : (n : ℕ) (es : List ℕ) → Fits n es → surveyLines n (tail es) ≡ readAs (n + length es)
-tail-lines n [] f = let z : n + 0 ≡ n = omega arith in rw z (read-end n [] refl refl)
-tail-lines n (e ∷ es) f =
+tail-lines : (n : ℕ) (es : List ℕ) → n + length es ≤ 800 → Each (λ e. e ≤ 800) es → surveyLines n (tail es) ≡ readAs (n + length es)
+tail-lines n [] b h = let z : n + 0 ≡ n = omega arith in rw z (read-end n [] refl refl)
+tail-lines n (e ∷ es) b h =
     let z : n + suc (length es) ≡ n + 1 + length es = omega arith in
-    let g : Fits (n + 1) es = record { few = omega (arith, f .few); numbers = f .numbers .1 } in
-    read-go n (entryLine e) (tail es) (some-end es) e (entry-read e (f .numbers .0)) (omega (arith, f .few)) ∙ rw z (tail-lines (n + 1) es g)
+    read-go n (entryLine e) (tail es) (some-end es) e (entry-read e (h .0)) (omega arith) ∙ rw z (tail-lines (n + 1) es (omega arith) (h .1))
 
 tail-entries : (es : List ℕ) → Each (λ e. e ≤ 800) es → entriesIn (tail es) ≡ es
 unfolding saidIn
@@ -115,12 +108,12 @@ header-free = (
   ((λ z. omega arith), ((λ z. omega arith), ((λ z. omega arith), ((λ z. omega arith), ((λ z. omega arith), ((λ z. omega arith), tt)))))),
 )
 
-pub text-read : (es : List ℕ) → Fits 0 es → (surveyOf (matchText es) ≡ readAs (length es)) × (entriesOf (matchText es) ≡ es)
+pub text-read : (es : List ℕ) → Fits es → (surveyOf (matchText es) ≡ readAs (length es)) × (entriesOf (matchText es) ≡ es)
 unfolding surveyOf entriesOf
 text-read es f =
     let short : length (matchText es) ≤ 32400 = omega (arith, tail-length header es (f .numbers), f .few) in
     let q : split (matchText es) ≡ header ∷ tail es = cut-glue 10 header (tail es) (header-free, tail-free es) in
     let z : 0 + length es ≡ length es = omega arith in (
-      rw (by-lines matchingLayout 3 (matchText es) (tail es) short q (some-end es), q) (sym (read-all (tail es)) ∙ tail-lines 0 es f ∙ rw z),
+      rw (by-lines matchingLayout 3 (matchText es) (tail es) short q (some-end es), q) (sym (read-all (tail es)) ∙ tail-lines 0 es (omega (arith, f .few)) (f .numbers) ∙ rw z),
       rw q (tail-entries es (f .numbers)),
     )

@@ -7,7 +7,7 @@ use mir.Val.{Val}
 use denote.Array.{each}
 use denote.Plain.{UInt}
 use denote.Shadow.{shadow}
-use Rattle.trace.proofs.Range.{Valued}
+use Rattle.trace.specs.Text.{Valued}
 
 pub words-below : (cells : List ℕ) (us : List Val) → shadow (each ℕ (UInt w32 .own) (map (λ x. x) cells) us) → Valued cells
 words-below [] us s = tt

@@ -9,7 +9,7 @@ use lib.ListN.{length, getD, take, drop}
 use lib.Seq.{take-at}
 use borrow.Author.Tests.{ltb-false, le-ltb, le-leb}
 use Rattle.laws.proofs.Cases.{not-first, not-second}
-use Rattle.laws.proofs.Lists.{Each}
+use Rattle.laws.specs.Each.{Each}
 use Rattle.event.specs.Answer.{answer, done}
 use Rattle.event.specs.Memory.{stepped}
 use Rattle.event.specs.Room.{flat}
@@ -19,12 +19,12 @@ use Rattle.event.specs.declared.memory.Memory.{Memory}
 use Rattle.event.proofs.Rooms.{flat-length, onward-flat}
 use Rattle.frame.proofs.Settled.{first-done}
 use Rattle.record.specs.Record.{lastValue}
-use Rattle.record.proofs.Layouts.{Fit}
 use Rattle.trace.specs.Fault.{eventFault}
 use Rattle.trace.specs.Reading.{eventLimit, readAs, surveyOf, eventsOf, roomAfter}
 use Rattle.trace.specs.Writing.{countOf, roomEvents, layoutFault, traceText, roomFault, bytesOf, inOut, writeOf, outAfter}
+use Rattle.trace.specs.Text.{places, Valued, Fit, Fits}
 use Rattle.trace.proofs.OneText.{text-whole, written-read}
-use Rattle.trace.proofs.Range.{places, Valued, Fits, onward-length, room-fits}
+use Rattle.trace.proofs.Range.{onward-length, room-fits}
 use Rattle.trace.proofs.ReadBack.{read-written}
 use Rattle.trace.proofs.Readings.{counts, read-done}
 use Rattle.trace.proofs.Judged.{fault-parts}
@@ -80,7 +80,7 @@ room-words es =
 -- starting memory that the reading hands back, they are the bytes that were read.
 module _ (side : ℕ) (t room out : List ℕ) (h : surveyOf side t .answer .number ≡ 0) (fits : surveyOf side t .events ≤ length room / 6)
     (long : length t ≤ length out) where
-  abbrev pub start : Memory
+  abbrev start : Memory
   start = surveyOf side t .memory
 
   part : take (surveyOf side t .events * 6) (roomAfter side t room) ≡ flat (eventsOf t)
@@ -100,7 +100,7 @@ module _ (side : ℕ) (t room out : List ℕ) (h : surveyOf side t .answer .numb
   unfolding writeOf
   written = rw (no-refusal, room-words (eventsOf t), written-read side t h, le-leb (length t) (length out) long)
 
-  pub room-read : (writeOf start (take (surveyOf side t .events * 6) (roomAfter side t room)) out ≡ answer 0 0 (length t))
-      × (outAfter start (take (surveyOf side t .events * 6) (roomAfter side t room)) out ≡ t ++ drop (length t) out)
+  pub room-read : (writeOf (surveyOf side t .memory) (take (surveyOf side t .events * 6) (roomAfter side t room)) out ≡ answer 0 0 (length t))
+      × (outAfter (surveyOf side t .memory) (take (surveyOf side t .events * 6) (roomAfter side t room)) out ≡ t ++ drop (length t) out)
   unfolding outAfter
   room-read = rw part (written, rw (written, room-words (eventsOf t), written-read side t h))

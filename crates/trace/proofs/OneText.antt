@@ -19,9 +19,10 @@ use Rattle.frame.proofs.Heads.{framed}
 use Rattle.frame.proofs.Settled.{first-done}
 use Rattle.trace.specs.Reading.{traceLayout, eventsIn, startFrom, startOf, faultOf, surveyOf, eventsOf}
 use Rattle.trace.specs.Writing.{textOf, initLines, traceText}
+use Rattle.trace.specs.Text.{Fits, longestText}
 use Rattle.trace.specs.declared.reading.TraceRead.{TraceRead}
 use Rattle.trace.proofs.Readings.{survey-done}
-use Rattle.trace.proofs.Range.{Fits, text-length}
+use Rattle.trace.proofs.Range.{text-length}
 use Rattle.trace.proofs.ReadBack.{tail}
 use Rattle.trace.proofs.WriteBack.{bounded, printed, zeros}
 
@@ -49,12 +50,12 @@ lines-printed side ls s h = let p = printed side 2 ls s h in rw (p .start) (p .l
 
 -- Document 01, "Trace text": "The longest lawful trace text is under 32,400 bytes." So it is for every text that has no line at
 -- fault, whatever its length is held to and whatever its values are.
-pub layout-length : (side : ℕ) (t : List ℕ) (ls : List (List ℕ)) → Some ls → split t ≡ header ∷ ls
-    → linesFault traceLayout side 2 (traceLayout .start) ls .number ≡ 0 → length t ≤ 32328
-layout-length side t ls s p h =
-    let m : Memory = startFrom empty ls in
-    rw (text-glue m (eventsIn ls) t (p ∙ ap (λ (qs : List (List ℕ)). header ∷ qs) (lines-printed side ls s h))) at
-    (text-length m (eventsIn ls) (lines-fit side ls s h))
+pub layout-length : (side : ℕ) (t l : List ℕ) (ls : List (List ℕ)) → split t ≡ header ∷ l ∷ ls
+    → linesFault traceLayout side 2 (traceLayout .start) (l ∷ ls) .number ≡ 0 → length t ≤ longestText
+layout-length side t l ls p h =
+    let m : Memory = startFrom empty (l ∷ ls) in
+    rw (text-glue m (eventsIn (l ∷ ls)) t (p ∙ ap (λ (qs : List (List ℕ)). header ∷ qs) (lines-printed side (l ∷ ls) tt h))) at
+    (text-length m (eventsIn (l ∷ ls)) (lines-fit side (l ∷ ls) tt h))
 
 -- what is so of every text that is read without refusal; and that its lines are the prints of what it is read as
 pub record Sound (side : ℕ) (m : Memory) (es : List Event) : Type 0 where
@@ -92,5 +93,5 @@ pub one-text : (side side′ : ℕ) (t u : List ℕ) → surveyOf side t .answer
 one-text side side′ t u h k p q = sym (written-read side t h) ∙ rw (p, q) (written-read side′ u k)
 
 -- Document 01, "Trace text": "The longest lawful trace text is under 32,400 bytes." So it is for every text that is read without refusal.
-pub lawful-length : (side : ℕ) (t : List ℕ) → surveyOf side t .answer .number ≡ 0 → length t ≤ 32328
+pub lawful-length : (side : ℕ) (t : List ℕ) → surveyOf side t .answer .number ≡ 0 → length t ≤ longestText
 lawful-length side t h = rw (written-read side t h) at (text-length (surveyOf side t .memory) (eventsOf t) (text-whole side t h .fits))

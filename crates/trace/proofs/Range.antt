@@ -1,5 +1,5 @@
--- What a trace must be for its text to be read: a cell for each location and few events, all in range. Then its text is short, as no line of
--- it is long. The events of a room that is not refused are so, as its words are in range. Assumes nothing.
+-- The text of a trace that has one is short, as no line of it is long. The events of a room that is not refused have a text, as its words are in
+-- range. Assumes nothing.
 use Prim.Native.Nat.{ℕ, zero, suc, _+_, _*_, _≤_}
 use mathlib.Core.Path.{_≡_, refl, ap}
 use mathlib.Core.List.{List, [], _∷_, _++_, map}
@@ -7,33 +7,17 @@ use native.Mathlib.Omega.{arith}
 use lib.Dec.{eqb}
 use lib.ListN.{length, getD, length-append}
 use Rattle.laws.proofs.Cases.{cases, either}
-use Rattle.laws.proofs.Lists.{Each}
-use Rattle.event.specs.Kind.{lastPlace}
+use Rattle.laws.specs.Each.{Each}
 use Rattle.event.specs.Room.{inRoom, eventAt, onward}
 use Rattle.event.specs.declared.Event.{Event}
 use Rattle.event.specs.declared.memory.Memory.{Memory}
-use Rattle.record.specs.Layout.{header, eventLine, initLine}
+use Rattle.record.specs.Layout.{eventLine, initLine}
 use Rattle.record.specs.Record.{lastValue}
-use Rattle.record.proofs.Layouts.{Fit}
 use Rattle.record.proofs.Prints.{longestEvent, longestInit, event-length, init-length}
 use Rattle.trace.specs.Reading.{eventLimit}
 use Rattle.trace.specs.Writing.{layoutFault, textOf, initLines, traceText}
+use Rattle.trace.specs.Text.{places, Valued, Fit, Fits, longestText}
 use Rattle.trace.proofs.Judged.{layout-first}
-
--- how many locations there are, each with its cell
-abbrev pub places : ℕ
-places = suc lastPlace
-
--- cells in range
-abbrev pub Valued : List ℕ → Type 0
-Valued vs = Each (λ v. v ≤ lastValue) vs
-
--- a starting memory and events of the layout
-pub record Fits (m : Memory) (es : List Event) : Type 0 where
-  pub size : length (m .cells) ≡ places
-  pub values : Valued (m .cells)
-  pub few : length es ≤ eventLimit
-  pub events : Each Fit es
 
 -- each line has an LF after it
 events-length : (es : List Event) → Each Fit es → length (textOf (map eventLine es)) ≤ length es * suc longestEvent
@@ -50,10 +34,6 @@ inits-length l (v ∷ vs) ts b h =
     let i = inits-length (l + 1) vs ts (omega arith) (h .1) in
     cases (either (eqb v 0)) (λ e. rw e (omega arith))
     (λ e. rw e (omega (arith, length-append (initLine l v) (10 ∷ textOf (initLines (l + 1) vs ++ ts)), init-length l v (omega arith) (h .0))))
-
--- the longest text: line 1, a starting value for each location, and the most events
-abbrev pub longestText : ℕ
-longestText = suc (length header) + places * suc longestInit + eventLimit * suc longestEvent
 
 pub text-length : (m : Memory) (es : List Event) → Fits m es → length (traceText m es) ≤ longestText
 unfolding traceText textOf

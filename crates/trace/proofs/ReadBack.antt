@@ -26,10 +26,11 @@ use Rattle.frame.proofs.Heads.{by-lines}
 use Rattle.frame.proofs.Lines.{lines-end, lines-go}
 use Rattle.trace.specs.Reading.{SoFar, traceLayout, eventsIn, startIn, readAs, faultOf, surveyOf, eventsOf, readOf, front, roomAfter}
 use Rattle.trace.specs.Writing.{textOf, initLines, traceText}
+use Rattle.trace.specs.Text.{Valued, Fit, Fits}
 use Rattle.record.specs.declared.Record.the-variants.{Init, Line}
-use Rattle.record.proofs.Layouts.{Fit, event-read, init-read}
+use Rattle.record.proofs.Layouts.{event-read, init-read}
 use Rattle.record.proofs.Prints.{event-no-lf, init-no-lf}
-use Rattle.trace.proofs.Range.{Valued, Fits, text-length}
+use Rattle.trace.proofs.Range.{text-length}
 use Rattle.trace.proofs.Readings.{read-done}
 use Rattle.record.proofs.Records.{blank}
 

@@ -9,7 +9,7 @@ use lib.ListN.{length, set, replicate, length-append, length-replicate, length-s
 use lib.Seq.{append-snoc, set-at}
 use borrow.Author.Tests.{ne-eqb, leb-false, ltb-false}
 use Rattle.laws.proofs.Cases.{not-first}
-use Rattle.laws.proofs.Lists.{Each}
+use Rattle.laws.specs.Each.{Each}
 use Rattle.event.specs.declared.Event.{Event}
 use Rattle.text.specs.Line.{saidIn}
 use Rattle.text.proofs.Walk.{Some}
@@ -18,11 +18,11 @@ use Rattle.frame.proofs.Lines.{lines-pass}
 use Rattle.record.specs.Record.{recordOf}
 use Rattle.record.specs.declared.Record.{Record}
 use Rattle.record.specs.declared.Record.the-variants.{Init, Line, Refused}
-use Rattle.record.proofs.Layouts.{Fit, line-says, init-back}
+use Rattle.record.proofs.Layouts.{line-says, init-back}
 use Rattle.record.proofs.Records.{blank}
 use Rattle.trace.specs.Reading.{SoFar, lineFault, afterLine, traceLayout, eventsIn, startIn}
 use Rattle.trace.specs.Writing.{initLines}
-use Rattle.trace.proofs.Range.{Valued}
+use Rattle.trace.specs.Text.{Valued, Fit}
 use Rattle.trace.proofs.ReadBack.{tail, start-init, start-event}
 
 -- what is so of every text that is read: cells and events within bounds

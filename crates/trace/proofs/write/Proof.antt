@@ -6,9 +6,10 @@ use lib.ListN.{length, length-map}
 use Rattle.event.specs.Room.{onward}
 use Rattle.event.specs.declared.Answer.{Answer}
 use Rattle.trace.specs.Writing.{roomFault, traceText}
+use Rattle.trace.specs.Text.{longestText}
 use Rattle.trace.proofs.Cells.{words-below}
 use Rattle.trace.proofs.Puts.{put-length}
-use Rattle.trace.proofs.Range.{longestText, text-length, room-fits}
+use Rattle.trace.proofs.Range.{text-length, room-fits}
 use Rattle.trace.proofs.Written.{room-sound, refused, short, written}
 use Rattle.trace.proofs.write.Statement.{statement}
 use Rattle.trace.proofs.write.Tie as tie
