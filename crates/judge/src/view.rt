@@ -34,7 +34,7 @@ pub(crate) fn is_load(e: Event) -> bool
     false
 }
 
-// Whether two events are the same, the marks of loads apart.
+// Whether two events are the same, the marks of loads and the code lines apart.
 pub(crate) fn is_same(e: Event, f: Event) -> bool
     ensures { λ r. ⌜ r ≡ same e f ⌝ }
 {
@@ -46,10 +46,7 @@ pub(crate) fn is_same(e: Event, f: Event) -> bool
                 e.first == f.first,
                 both(
                     e.second == f.second,
-                    both(
-                        e.code == f.code,
-                        either(is_load_kind(e.kind), e.order == f.order),
-                    ),
+                    either(is_load_kind(e.kind), e.order == f.order),
                 ),
             ),
         ),

@@ -41,5 +41,6 @@ pub mod Theorem
 pub mod Outcome
 pub mod Answers
 pub mod Kept
+pub mod Recode
 pub mod Looks
 pub mod Sync

@@ -1,4 +1,4 @@
--- What it means for events to be the same, marks apart: each event is its own like, and the rules see two such events alike. Assumes nothing.
+-- What it means for events to be the same, marks and code lines apart: each event is its own like, and the rules see two such events alike. Assumes nothing.
 use mathlib.Core.Path.{_≡_}
 use mathlib.Core.Bool.{Bool, true, false, cond, _&&_, _||_}
 use Prim.Native.Nat.{ℕ}
@@ -10,14 +10,13 @@ use Rattle.rules.proofs.Matching.{Alike, equal, marked}
 use Rattle.rules.proofs.Truth.{and, and-left, and-right, or-right}
 
 pub same-refl : (e : Event) → T (same e e)
-same-refl e = go (eqb (e .kind) (e .kind)) (eqb (e .place) (e .place)) (eqb (e .first) (e .first)) (eqb (e .second) (e .second)) (eqb (e .code) (e .code))
-    (isLoadKind (e .kind)) (eqb (e .order) (e .order)) (eqb-refl (e .kind)) (eqb-refl (e .place)) (eqb-refl (e .first)) (eqb-refl (e .second)) (eqb-refl (e .code))
+same-refl e = go (eqb (e .kind) (e .kind)) (eqb (e .place) (e .place)) (eqb (e .first) (e .first)) (eqb (e .second) (e .second))
+    (isLoadKind (e .kind)) (eqb (e .order) (e .order)) (eqb-refl (e .kind)) (eqb-refl (e .place)) (eqb-refl (e .first)) (eqb-refl (e .second))
     (eqb-refl (e .order))
   where
-    go : (a b c d f m o : Bool) → T a → T b → T c → T d → T f → T o → T (a && (b && (c && (d && (f && (m || o))))))
-    go a b c d f m o h i j k l n =
-        and a (b && (c && (d && (f && (m || o))))) h (and b (c && (d && (f && (m || o)))) i (and c (d && (f && (m || o))) j
-        (and d (f && (m || o)) k (and f (m || o) l (or-right m o n)))))
+    go : (a b c d m o : Bool) → T a → T b → T c → T d → T o → T (a && (b && (c && (d && (m || o)))))
+    go a b c d m o h i j k n =
+        and a (b && (c && (d && (m || o)))) h (and b (c && (d && (m || o))) i (and c (d && (m || o)) j (and d (m || o) k (or-right m o n))))
 
 -- what the same events share, as far as the rules and the memory go
 pub record Shared (e f : Event) : Type 0 where
@@ -32,7 +31,7 @@ shared e f h =
     let b = eqb (e .place) (f .place) in
     let c = eqb (e .first) (f .first) in
     let d = eqb (e .second) (f .second) in
-    let g = eqb (e .code) (f .code) && (isLoadKind (e .kind) || eqb (e .order) (f .order)) in
+    let g = isLoadKind (e .kind) || eqb (e .order) (f .order) in
     let i = and-right a (b && (c && (d && g))) h in
     let j = and-right b (c && (d && g)) i in
     record {

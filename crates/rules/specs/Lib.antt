@@ -5,4 +5,5 @@ pub mod Run
 pub mod Fault
 pub mod Verdict
 pub mod Demand
+pub mod Recode
 pub mod Looks

@@ -52,12 +52,11 @@ differ (some p) (some q) = not (eqb p q)
 abbrev pub apart : View → View → Bool
 apart v w = differ (placeOf v) (placeOf w)
 
--- Two events are the same, the marks of loads apart.
+-- Two events are the same, the marks of loads and the code lines apart.
 abbrev pub same : Event → Event → Bool
 same e f =
     eqb (e .kind) (f .kind)
     && (eqb (e .place) (f .place)
     && (eqb (e .first) (f .first)
     && (eqb (e .second) (f .second)
-    && (eqb (e .code) (f .code)
-    && (isLoadKind (e .kind) || eqb (e .order) (f .order))))))
+    && (isLoadKind (e .kind) || eqb (e .order) (f .order)))))
