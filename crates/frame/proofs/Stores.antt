@@ -1,13 +1,12 @@
--- What a text says put into a room one line at a time: so much of it stands at the front, and the rest of the lines says the others. It is the same
--- for all that a text can say: an A is put at an index, and the room for so many of them is a number of words. Assumes nothing.
-use Prim.Native.Nat.{ℕ, _+_, _≤_, _<_}
-use mathlib.Core.Path.{_≡_, refl, sym, _∙_, ap}
-use mathlib.Core.List.{List, [], _∷_, _++_}
+-- What a text says put into a room one line at a time. It is the same for all that a text can say: an A is put at an index, which keeps the room's
+-- length; and where the room holds them, so many that are put one after the other from its start on stand at its front. Assumes nothing.
+use Prim.Native.Nat.{ℕ, _+_, _≤_}
+use mathlib.Core.Path.{_≡_, refl, sym, _∙_}
+use mathlib.Core.List.{List, [], _∷_, _++_, append-assoc, append-nil}
 use native.Mathlib.Omega.{arith}
-use lib.ListN.{length, take, drop, length-drop}
-use lib.Seq.{drop-drop, take-add, take-all, length-take-le}
+use lib.ListN.{length, drop, length-append}
 use Rattle.text.specs.Line.{lineLen, split, splitFrom, body, saidIn}
-use Rattle.text.proofs.Walk.{line, body-from, said-line, said-end}
+use Rattle.text.proofs.Walk.{line, line-in, body-from, said-line, said-end}
 use Rattle.frame.specs.Store.{putAll}
 
 -- how things are put: `words` of so many of them, the room for so many, and one more put behind them
@@ -18,75 +17,60 @@ pub record Puts (A : Type 0) (put : List ℕ → ℕ → A → List ℕ) : Type 
   pub none : (r : List ℕ) → words [] ++ drop (room 0) r ≡ r
   pub one-more : (bs : List A) (a : A) (r : List ℕ) → room (length bs + 1) ≤ length r
       → put (words bs ++ drop (room (length bs)) r) (length bs) a ≡ words (bs ++ (a ∷ [])) ++ drop (room (length bs + 1)) r
-  pub keeps : (l : List ℕ) (i : ℕ) (a : A) → room (i + 1) ≤ length l → length (put l i a) ≡ length l
+  pub keeps : (l : List ℕ) (i : ℕ) (a : A) → length (put l i a) ≡ length l
 
-module _ {A : Type 0} (put : List ℕ → ℕ → A → List ℕ) (P : Puts A put) (E : List A) (room₀ : List ℕ) where
-  -- i of them stand at the front of a room, and `es` are left
-  pub record Stored (i : ℕ) (room : List ℕ) (es : List A) : Type 0 where
-    pub few : i ≤ length E
-    pub left : drop i E ≡ es
-    pub held : room ≡ P .words (take i E) ++ drop (P .room i) room₀
-    pub size : length room ≡ length room₀
+module _ {A : Type 0} (put : List ℕ → ℕ → A → List ℕ) (P : Puts A put) where
+  -- a room whose front holds some of them, with others put behind those
+  all-behind : (r : List ℕ) (bs es : List A) → P .room (length (bs ++ es)) ≤ length r
+      → putAll put (P .words bs ++ drop (P .room (length bs)) r) (length bs) es ≡ P .words (bs ++ es) ++ drop (P .room (length (bs ++ es))) r
+  unfolding putAll
+  all-behind r bs [] h = rw (append-nil bs)
+  all-behind r bs (e ∷ es) h =
+      let n : length (bs ++ (e ∷ [])) ≡ length bs + 1 = length-append bs (e ∷ []) in
+      let a : (bs ++ (e ∷ [])) ++ es ≡ bs ++ e ∷ es = append-assoc bs (e ∷ []) es in
+      let g = P .grows (length bs + 1) (length (bs ++ e ∷ es)) (omega (arith, length-append bs (e ∷ es))) in
+      rw (P .one-more bs e r (omega (arith, g))) (rw (n, a) at (all-behind r (bs ++ (e ∷ [])) es (rw a h)))
 
-  pub stored-start : Stored 0 room₀ E
-  stored-start = record { few = omega arith; left = refl; held = sym (P .none room₀); size = refl }
+  -- Where the room holds them, they stand at its front.
+  pub all-front : (r : List ℕ) (es : List A) → P .room (length es) ≤ length r → putAll put r 0 es ≡ P .words es ++ drop (P .room (length es)) r
+  all-front r es h = rw (P .none r) at (all-behind r [] es h)
 
-  pub stored-all : (i : ℕ) (room : List ℕ) → Stored i room [] → room ≡ P .words E ++ drop (P .room (length E)) room₀
-  stored-all i room s =
-      let e : i ≡ length E = omega (arith, s .few, ap length (s .left), length-drop i E) in
-      let a : length E ≤ i = omega arith in
-      s .held ∙ rw (take-all i E a, e)
+  put-keeps : (room : List ℕ) (i : ℕ) (bs : List A) → length (putAll put room i bs) ≡ length room
+  unfolding putAll
+  put-keeps room i [] = refl
+  put-keeps room i (a ∷ bs) = put-keeps (put room i a) (i + 1) bs ∙ P .keeps room i a
 
-  module _ (fits : P .room (length E) ≤ length room₀) where
-    module _ (i : ℕ) (room : List ℕ) (e : A) (es : List A) (s : Stored i room (e ∷ es)) where
-      below : i < length E
-      below = omega (arith, ap length (s .left), length-drop i E)
+  put-append : (room : List ℕ) (i : ℕ) (bs es : List A) → putAll put room i (bs ++ es) ≡ putAll put (putAll put room i bs) (i + length bs) es
+  unfolding putAll
+  put-append room i [] es = let z : i + 0 ≡ i = omega arith in rw z
+  put-append room i (a ∷ bs) es =
+      let z : i + length (a ∷ bs) ≡ i + 1 + length bs = omega arith in
+      rw z (put-append (put room i a) (i + 1) bs es)
 
-      enough : P .room (i + 1) ≤ length room₀
-      enough = omega (arith, P .grows (i + 1) (length E) (omega (arith, below)))
+  -- A text by its lines, each of which says one thing at most: with what the lines from a place on say, the room comes out as with all that the text
+  -- says. No more is put than bytes were passed.
+  module _ (says : List ℕ → List A) (brief : (l : List ℕ) → length (says l) ≤ 1) (t room₀ : List ℕ) where
+    abbrev pub all : List A
+    all = saidIn says (body (split t))
 
-      next-take : take (i + 1) E ≡ take i E ++ (e ∷ [])
-      next-take = take-add i 1 E ∙ rw (s .left)
+    pub record Held (i : ℕ) (room : List ℕ) (at : ℕ) : Type 0 where
+      pub same : putAll put room₀ 0 all ≡ putAll put room i (saidIn says (splitFrom t at))
+      pub few : i ≤ at
+      pub size : length room ≡ length room₀
 
-      next-held : put room i e ≡ P .words (take (i + 1) E) ++ drop (P .room (i + 1)) room₀
-      next-held =
-          let n : length (take i E) ≡ i = length-take-le i E (s .few) in
-          rw (s .held, next-take) (rw n at (P .one-more (take i E) e room₀ (rw n enough)))
+    pub held-start : Held 0 room₀ (lineLen t + 1)
+    held-start = record { same = rw (body-from t); few = omega arith; size = refl }
 
-      stored-one : Stored (i + 1) (put room i e) es
-      stored-one = record {
-        few = omega (arith, below);
-        left = sym (drop-drop 1 i E) ∙ rw (s .left);
-        held = next-held;
-        size = P .keeps room i e (omega (arith, enough, s .size)) ∙ s .size;
-      }
+    -- the line that starts at a place, by where it ends, says bs
+    pub held-step : (at e : ℕ) → at ≤ length t → (p : e ≡ at + lineLen (drop at t)) (i j : ℕ) (room room′ : List ℕ) (bs : List A)
+        → bs ≡ says (line t at e p) → j ≡ i + length bs → room′ ≡ putAll put room i bs → Held i room at → Held j room′ (e + 1)
+    held-step at e h p i j room room′ bs q a b s = record {
+      same = s .same ∙ rw (said-line says t at e p h, b, a, q) (put-append room i (says (line t at e p)) (saidIn says (splitFrom t (e + 1))));
+      few = omega (arith, s .few, line-in t at e p h, rw (← q) at (brief (line t at e p)));
+      size = rw b (put-keeps room i bs) ∙ s .size;
+    }
 
-    -- what a line says
-    pub stored-line : (i : ℕ) (room : List ℕ) (bs es : List A) → Stored i room (bs ++ es) → Stored (i + length bs) (putAll put room i bs) es
+    -- nothing is left
+    pub held-all : (i : ℕ) (room : List ℕ) (at : ℕ) → says [] ≡ [] → length t ≤ at → Held i room at → room ≡ putAll put room₀ 0 all
     unfolding putAll
-    stored-line i room [] es s = let z : i + 0 ≡ i = omega arith in rw z s
-    stored-line i room (a ∷ bs) es s =
-        let z : i + length (a ∷ bs) ≡ i + 1 + length bs = omega arith in
-        rw z (stored-line (i + 1) (put room i a) bs es (stored-one i room a (bs ++ es) s))
-
--- What a text says, by its lines: i of it stand at the front of a room, and the lines from a place on say the others.
-module _ {A : Type 0} (put : List ℕ → ℕ → A → List ℕ) (P : Puts A put) (says : List ℕ → List A) (t room₀ : List ℕ) where
-  abbrev pub all : List A
-  all = saidIn says (body (split t))
-
-  abbrev pub Held : ℕ → List ℕ → ℕ → Type 0
-  Held i room at = Stored put P all room₀ i room (saidIn says (splitFrom t at))
-
-  pub held-start : Held 0 room₀ (lineLen t + 1)
-  held-start = rw (← body-from t) (stored-start put P all room₀)
-
-  -- the line that starts at a place, by where it ends, says bs
-  pub held-step : P .room (length all) ≤ length room₀ → (at e : ℕ) → at ≤ length t → (p : e ≡ at + lineLen (drop at t)) (i j : ℕ)
-      (room room′ : List ℕ) (bs : List A)
-      → bs ≡ says (line t at e p) → j ≡ i + length bs → room′ ≡ putAll put room i bs → Held i room at → Held j room′ (e + 1)
-  held-step f at e h p i j room room′ bs q a b s =
-      rw (a, b, q) (stored-line put P all room₀ f i room (says (line t at e p)) (saidIn says (splitFrom t (e + 1))) (rw (said-line says t at e p h) at s))
-
-  -- nothing is left
-  pub held-all : (i : ℕ) (room : List ℕ) (at : ℕ) → says [] ≡ [] → length t ≤ at → Held i room at → room ≡ P .words all ++ drop (P .room (length all)) room₀
-  held-all i room at b h s = stored-all put P all room₀ i room (rw (said-end says t at b h) at s)
+    held-all i room at b h s = sym (s .same ∙ rw (said-end says t at b h))

@@ -3,11 +3,13 @@ use Prim.Native.Nat.{ℕ, _≤_}
 use mathlib.Core.Path.{_≡_, refl, ap}
 use mathlib.Core.List.{List}
 use native.Mathlib.Omega.{arith}
-use lib.ListN.{length}
+use lib.ListN.{length, set}
 use Rattle.frame.specs.Reading.{textFault}
+use Rattle.frame.specs.Store.{putAll}
 use Rattle.frame.proofs.Settled.{settled, fits}
-use Rattle.matching.specs.Reading.{matchingLayout, refused, readAs, surveyOf, entriesOf, readOf}
+use Rattle.matching.specs.Reading.{matchingLayout, refused, readAs, surveyOf, entriesOf, front, readOf}
 use Rattle.matching.specs.declared.MatchingRead.{MatchingRead}
+use Rattle.matching.proofs.Stores.{entries-front}
 
 abbrev number : MatchingRead → ℕ
 number r = r .answer .number
@@ -30,5 +32,9 @@ module _ (t room : List ℕ) (h : readOf t room .answer .number ≡ 0) where
   read-passed = room-told .1
 
   -- and has room for the entries
-  pub read-fits : length (entriesOf t) ≤ length room
+  read-fits : length (entriesOf t) ≤ length room
   read-fits = omega (arith, room-told .0, counts t (rw read-passed at h))
+
+  -- so they are stored at its front
+  pub read-stores : putAll set room 0 (entriesOf t) ≡ front (entriesOf t) room
+  read-stores = entries-front (entriesOf t) room read-fits

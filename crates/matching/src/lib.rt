@@ -7,7 +7,7 @@ ghost use lib.ListN.{length, set};
 ghost use Rattle.text.specs.Line.{splitFrom};
 ghost use Rattle.event.specs.Answer.{answer};
 ghost use Rattle.frame.specs.Store.{putAll};
-ghost use Rattle.matching.specs.Reading.{refused, surveyOf, roomFor, entriesOn, entriesOf, front, readOf, roomAfter};
+ghost use Rattle.matching.specs.Reading.{refused, surveyOf, roomFor, entriesOn, entriesOf, readOf, roomAfter};
 ghost use Rattle.matching.specs.Survey.{surveyLines};
 use entry::EntryRead;
 use entry::entry_of;
@@ -112,10 +112,9 @@ fn put_entry(room: &mut [Entry], i: usize, line: EntryRead) -> usize
     }
 }
 
-// The entries of a text that was surveyed, at the front of a room that holds them.
+// The entries of a text, put one after the other from the start of a room on; one that the room does not hold is not put.
 pub fn store(text: &[u8], room: &mut [Entry])
-    requires { ⌜ length (entriesOf (now text)) ≤ length (now room) ⌝ }
-    ensures { λ _. ⌜ now (room .exit) ≡ front (entriesOf (now (text .entry))) (now (room .entry)) ⌝ }
+    ensures { λ _. ⌜ now (room .exit) ≡ putAll set (now (room .entry)) 0 (entriesOf (now (text .entry))) ⌝ }
 {
     let mut at = line_two(text);
     let mut i: usize = 0;

@@ -5,9 +5,12 @@ use mathlib.Core.List.{List}
 use native.Mathlib.Omega.{arith}
 use lib.ListN.{length}
 use borrow.Author.Tests.{le-leb}
+use Rattle.event.specs.Room.{putAt}
+use Rattle.frame.specs.Store.{putAll}
 use Rattle.frame.proofs.Settled.{settled, fits}
 use Rattle.trace.specs.Reading.{faultOf, refused, readAs, startOf, surveyOf, eventsOf, readOf, front, roomAfter}
 use Rattle.trace.specs.declared.reading.TraceRead.{TraceRead}
+use Rattle.trace.proofs.Stores.{events-front}
 
 abbrev number : TraceRead → ℕ
 number r = r .answer .number
@@ -32,8 +35,12 @@ module _ (side : ℕ) (t : List ℕ) where
       read-passed = room-told .1
 
       -- and has room for the events
-      pub read-fits : length (eventsOf t) * 6 ≤ length room
+      read-fits : length (eventsOf t) * 6 ≤ length room
       read-fits = omega (arith, room-told .0, counts (rw read-passed at h))
+
+      -- so they are stored at its front
+      pub read-stores : putAll putAt room 0 (eventsOf t) ≡ front (eventsOf t) room
+      read-stores = events-front (eventsOf t) room read-fits
 
     -- a survey that does not refuse and has room is the reading
     pub read-done : surveyOf side t .answer .number ≡ 0 → surveyOf side t .events ≤ length room / 6

@@ -1,12 +1,12 @@
 // The reading of a trace text: judged in one pass, stored in a second, so that a refusal stores nothing.
 ghost use mathlib.Core.Path.{_≡_};
-ghost use Prim.Native.Nat.{_+_, _*_, _≤_, _<_};
+ghost use Prim.Native.Nat.{_+_, _≤_, _<_};
 ghost use lib.ListN.{length};
 ghost use Rattle.event.specs.Memory.{empty as emptyMemory};
 ghost use Rattle.event.specs.Room.{putAt};
 ghost use Rattle.text.specs.Line.{splitFrom};
 ghost use Rattle.frame.specs.Store.{putAll};
-ghost use Rattle.trace.specs.Reading.{surveyOf, refused, roomFor, eventsOn, eventsOf, front};
+ghost use Rattle.trace.specs.Reading.{surveyOf, refused, roomFor, eventsOn, eventsOf};
 ghost use Rattle.trace.specs.Survey.{surveyInits, surveyEvents};
 use crate::fault::UNTOUCHED;
 use crate::fault::Way;
@@ -175,10 +175,9 @@ fn put_record(room: &mut [Word], i: usize, line: Record) -> usize
     }
 }
 
-// The events of a text at the front of a room that holds them.
+// The events of a text, put one after the other from the start of a room on; one that the room does not hold is not put.
 pub fn store(text: &[u8], room: &mut [Word])
-    requires { ⌜ length (eventsOf (now text)) * 6 ≤ length (now room) ⌝ }
-    ensures { λ _. ⌜ now (room .exit) ≡ front (eventsOf (now (text .entry))) (now (room .entry)) ⌝ }
+    ensures { λ _. ⌜ now (room .exit) ≡ putAll putAt (now (room .entry)) 0 (eventsOf (now (text .entry))) ⌝ }
 {
     let mut at = line_two(text);
     let mut i: usize = 0;

@@ -2,12 +2,12 @@
 use mathlib.Core.Path.{_≡_, sym, _∙_, ap}
 use borrow.Author.Needs.{needs}
 use Rattle.event.specs.declared.Answer.{Answer}
-use Rattle.trace.specs.Reading.{readOf}
+use Rattle.trace.specs.Reading.{eventsOf, front, readOf}
 use Rattle.trace.specs.declared.reading.TraceRead.{TraceRead}
-use Rattle.trace.proofs.Readings.{read-fits}
-use Rattle.matching.specs.Reading.{readOf as matchingRead}
+use Rattle.trace.proofs.Readings.{read-stores}
+use Rattle.matching.specs.Reading.{entriesOf, front as entryFront, readOf as matchingRead}
 use Rattle.matching.specs.declared.MatchingRead.{MatchingRead}
-use Rattle.matching.proofs.Readings.{read-fits as entries-fit}
+use Rattle.matching.proofs.Readings.{read-stores as matching-stores}
 use Rattle.checker.specs.Check.{Lent, lent, sourceRead, targetRead, entriesRead}
 use Rattle.checker.proofs.Answers.{by-source, by-target, by-entries, refuses, checks-judged}
 use Rattle.checker.proofs.Filled.{Filled, Entered, filled, entered, judged-is}
@@ -66,22 +66,31 @@ entries-passed c = ap (λ (r : MatchingRead). r .answer .number) (entries-are (t
 abbrev passed₁ : tie.After-store → tie.Else3
 passed₁ c = c .before .before
 
+source-stored : (c : tie.After-store) → let l = all-given (passed₁ c) in c .store .last .1 .0 ≡ front (eventsOf (l .source)) (l .sourceRoom)
+source-stored c = c .store .ensures ∙ read-stores 1 _ _ (source-passed (passed₁ c))
+
 source-filled : (c : tie.After-store)
     → Filled (all-given (passed₁ c) .source) (of-entries (third-of (passed₁ c)) .survey-in .result) (c .store .last .1 .0)
-source-filled c = filled 1 _ _ (source-passed (passed₁ c)) _ (source-is (of-entries (third-of (passed₁ c)))) _ (c .store .ensures)
+source-filled c = filled 1 _ _ (source-passed (passed₁ c)) _ (source-is (of-entries (third-of (passed₁ c)))) _ (source-stored c)
 
 abbrev passed₂ : tie.After-store2 → tie.Else3
 passed₂ c = passed₁ (c .before .before .before .before)
 
+target-stored : (c : tie.After-store2) → let l = all-given (passed₂ c) in c .store2 .last .1 .0 ≡ front (eventsOf (l .target)) (l .targetRoom)
+target-stored c = c .store2 .ensures ∙ read-stores 2 _ _ (target-passed (passed₂ c))
+
 target-filled : (c : tie.After-store2)
     → Filled (all-given (passed₂ c) .target) (second-of (third-of (passed₂ c) .before) .survey-in2 .result) (c .store2 .last .1 .0)
-target-filled c = filled 2 _ _ (target-passed (passed₂ c)) _ (target-is (second-of (third-of (passed₂ c) .before))) _ (c .store2 .ensures)
+target-filled c = filled 2 _ _ (target-passed (passed₂ c)) _ (target-is (second-of (third-of (passed₂ c) .before))) _ (target-stored c)
 
 abbrev passed₃ : tie.After-store3 → tie.Else3
 passed₃ c = passed₂ (c .before .before .before .before)
 
+entries-stored : (c : tie.After-store3) → let l = all-given (passed₃ c) in c .store3 .last .1 .0 ≡ entryFront (entriesOf (l .matching)) (l .entryRoom)
+entries-stored c = c .store3 .ensures ∙ matching-stores _ _ (entries-passed (passed₃ c))
+
 entries-filled : (c : tie.After-store3) → Entered (all-given (passed₃ c) .matching) (third-of (passed₃ c) .survey-in3 .result) (c .store3 .last .1 .0)
-entries-filled c = entered _ _ (entries-passed (passed₃ c)) _ (entries-are (third-of (passed₃ c))) _ (c .store3 .ensures)
+entries-filled c = entered _ _ (entries-passed (passed₃ c)) _ (entries-are (third-of (passed₃ c))) _ (entries-stored c)
 
 returns : tie.Need-returns
 returns c =
@@ -104,15 +113,6 @@ returns-3 c =
     ∙ ap (λ (r : MatchingRead). r .answer) (entries-are x))
     (c .before .if3 .taken) (c .refusal3 .ensures)
 
-store-requires : tie.Need-store-requires
-store-requires c κs = read-fits 1 _ _ (source-passed (c .before))
-
-store-requires-2 : tie.Need-store-requires-2
-store-requires-2 c κs = read-fits 2 _ _ (target-passed (c .before .before .before .before .before))
-
-store-requires-3 : tie.Need-store-requires-3
-store-requires-3 c κs = entries-fit _ _ (entries-passed (c .before .before .before .before .before .before .before .before .before))
-
 judged-requires : tie.Need-judged-requires
 judged-requires c κs =
     let e = c .before .before .before .before .before in
@@ -130,7 +130,7 @@ returns-4 c =
     checks-judged l _ _ _ _ (ap (λ (a : Answer). a .number) (by-entries l (source-passed p) (target-passed p)) ∙ entries-passed p)
     (c .judged .ensures ∙ judged-is l _ _ _ _ _ _ (source-is (of-entries (third-of p))) (target-is (second-of (third-of p .before))) (entries-are (third-of p))
     (source-filled f) (target-filled g) (entries-filled e))
-    (f .store .ensures) (g .store2 .ensures) (e .store3 .ensures)
+    (source-stored f) (target-stored g) (entries-stored e)
 
 pub check-spec : {M : Type 1} → statement M
 check-spec =
@@ -145,9 +145,9 @@ check-spec =
     (search needs)
     (search needs)
     returns-3
-    store-requires
-    store-requires-2
-    store-requires-3
+    (search needs)
+    (search needs)
+    (search needs)
     judged-requires
     (search needs)
     (search needs)

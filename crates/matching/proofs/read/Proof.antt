@@ -1,7 +1,8 @@
 -- The survey decides, and only then anything is stored. Assumes nothing.
+use mathlib.Core.Path.{_∙_}
 use borrow.Author.Tests.{eq-eqb, ne-eqb}
 use Rattle.matching.specs.Reading.{readOf, roomAfter}
-use Rattle.matching.proofs.Readings.{read-fits}
+use Rattle.matching.proofs.Readings.{read-stores}
 use borrow.Author.Needs.{needs}
 use Rattle.matching.proofs.read.Statement.{statement}
 use Rattle.matching.proofs.read.Tie as tie
@@ -12,18 +13,15 @@ returns c =
     let v = c .before .before .before in
     (v .survey-in .ensures, rw (← v .survey-in .ensures, ne-eqb _ _ (c .if1 .taken)))
 
-store-requires : tie.Need-store-requires
-unfolding readOf
-store-requires c κs =
-    let v = c .before .before .before .before in
-    let a = v .before .before .before .args in
-    read-fits (a .text .now) (a .room .now) (rw (v .survey-in .ensures) at (c .before .if1 .left))
-
 returns-2 : tie.Need-returns-2
 unfolding readOf roomAfter
 returns-2 c =
     let v = c .before .before .before .before .before .before .before in
-    (v .survey-in .ensures, rw (← v .survey-in .ensures, eq-eqb _ _ (c .before .before .before .before .if1 .left)) (c .before .before .store .ensures))
+    let a = v .before .before .before .args in
+    let z = c .before .before .before .before .if1 .left in (
+      v .survey-in .ensures,
+      rw (← v .survey-in .ensures, eq-eqb _ _ z) (c .before .before .store .ensures ∙ read-stores (a .text .now) (a .room .now) (rw (v .survey-in .ensures) at z)),
+    )
 
 pub read-spec : {M : Type 1} → statement M
-read-spec = tie.close (tie.spec (search needs) returns store-requires (search needs) returns-2)
+read-spec = tie.close (tie.spec (search needs) returns (search needs) (search needs) returns-2)

@@ -1,4 +1,4 @@
--- So many events of the text stand at the front of the room, and the lines from here on hold the others. Assumes nothing.
+-- With what the lines from here on say, the room comes out as with all that the text says. Assumes nothing.
 use Prim.Native.Nat.{ℕ, _+_, _-_, _≤_}
 use mathlib.Core.Path.{ap}
 use mathlib.Core.List.{List}
@@ -6,21 +6,16 @@ use native.Mathlib.Omega.{arith}
 use borrow.Author.Needs.{needs}
 use lib.ListN.{length}
 use Rattle.event.specs.Room.{putAt}
-use Rattle.event.specs.declared.Event.{Event}
 use Rattle.text.proofs.Walk.{line-in}
 use Rattle.frame.proofs.Stores.{Held, held-start, held-step, held-all}
-use Rattle.record.specs.Record.{recordOf}
 use Rattle.trace.specs.Reading.{eventsOn, eventsOf}
 use Rattle.record.proofs.Records.{blank}
-use Rattle.trace.proofs.Stores.{events-put}
+use Rattle.trace.proofs.Stores.{events-put, says, brief}
 use Rattle.trace.proofs.reading.store.Statement.{statement}
 use Rattle.trace.proofs.reading.store.Tie as tie
 
-abbrev says : List ℕ → List Event
-says l = eventsOn (recordOf l)
-
 abbrev Inv-loop : tie.InvT-loop
-Inv-loop text room₀ at₀ i₀ room at i = Held putAt events-put says text room₀ i room at
+Inv-loop text room₀ at₀ i₀ room at i = Held putAt events-put says brief text room₀ i room at
 
 abbrev μ-loop : tie.MeasureT-loop
 μ-loop text room₀ at₀ i₀ room at i = length text + 1 - at
@@ -39,31 +34,29 @@ module _ (c : tie.After-line-end Inv-loop μ-loop) where
   ends : (at ≤ c .line-end .result) × (c .line-end .result ≤ length text)
   ends = line-in text at (c .line-end .result) (c .line-end .ensures) (omega arith)
 
--- the index is that of one of the events, which the room holds
+-- the index is at most the place in the text
 small : tie.Need-put-record-requires Inv-loop μ-loop
-unfolding eventsOf
-small c κs = let e = c .before .before .before in omega (arith, e .before .before .loop .inv .few, begin e .pre, begin e .good)
+small c κs = let e = c .before .before .before in omega (arith, e .before .before .loop .inv .few, begin e .good)
 
 -- what it adds
 module _ (c : tie.After-put-record Inv-loop μ-loop) where
   abbrev e : tie.After-line-end Inv-loop μ-loop
   e = c .before .before .before .before
 
-  next-held : Held putAt events-put says (text e) (begin e .args .room .now) (c .put-record .result) (c .put-record .last .0) (e .line-end .result + 1)
-  unfolding eventsOf
+  next-held : Held putAt events-put says brief (text e) (begin e .args .room .now) (c .put-record .result) (c .put-record .last .0) (e .line-end .result + 1)
   next-held =
-      held-step putAt events-put says (text e) (begin e .args .room .now) (begin e .pre) (at e) (e .line-end .result) (omega arith) (e .line-end .ensures)
+      held-step putAt events-put says brief (text e) (begin e .args .room .now) (at e) (e .line-end .result) (omega arith) (e .line-end .ensures)
       (e .before .before .loop .i) _ (e .before .before .loop .room) _ (eventsOn (c .before .record-of .result)) (ap eventsOn (c .before .record-of .ensures))
       (c .put-record .ensures .0) (c .put-record .ensures .1) (e .before .before .loop .inv)
 
 loop-holds : tie.Need-loop-holds Inv-loop μ-loop
-loop-holds c = rw (c .line-two .ensures) (held-start putAt events-put says _ _)
+loop-holds c = rw (c .line-two .ensures) (held-start putAt events-put says brief _ _)
 
 returns : tie.Need-returns Inv-loop μ-loop
 unfolding eventsOf
 returns c =
     let t = c .before .before .before .before .before .args .text .now in
-    held-all putAt events-put says t _ _ _ (c .before .loop .at) (rw blank) (omega arith) (c .before .loop .inv)
+    held-all putAt events-put says brief t _ _ _ (c .before .loop .at) (rw blank) (omega arith) (c .before .loop .inv)
 
 pub store-spec : {M : Type 1} → statement M
 store-spec =
