@@ -58,7 +58,8 @@ text-back t h =
     let p =
     lines-pass matchingLayout 3 Printed last-printed (λ n l ls. line-printed n l ls (entryOf l) refl) 2 0 (body (split t)) (f .some) (f .lines)
     (omega arith) in
-    (ap (glue 10) (ap (λ (qs : List (List ℕ)). header ∷ qs) (sym (p .0)) ∙ sym (f .parts)) ∙ glue-cut 10 t, record { few = omega (arith, p .1 .0); numbers = p .1 .1 })
+    let e = ap (λ (qs : List (List ℕ)). header ∷ qs) (sym (p .0)) ∙ sym (f .parts) in
+    (ap (glue 10) e ∙ glue-cut 10 t, record { few = omega (arith, p .1 .0); numbers = p .1 .1 })
 
 -- So one list of entries has one text.
 pub one-text : (t u : List ℕ) → surveyOf t .answer .number ≡ 0 → surveyOf u .answer .number ≡ 0 → entriesOf t ≡ entriesOf u → t ≡ u
@@ -113,7 +114,8 @@ unfolding surveyOf entriesOf
 text-read es f =
     let short : length (matchText es) ≤ 32400 = omega (arith, tail-length header es (f .numbers), f .few) in
     let q : split (matchText es) ≡ header ∷ tail es = cut-glue 10 header (tail es) (header-free, tail-free es) in
-    let z : 0 + length es ≡ length es = omega arith in (
-      rw (by-lines matchingLayout 3 (matchText es) (tail es) short q (some-end es), q) (sym (read-all (tail es)) ∙ tail-lines 0 es (omega (arith, f .few)) (f .numbers) ∙ rw z),
+    let z : 0 + length es ≡ length es = omega arith in
+    let l = tail-lines 0 es (omega (arith, f .few)) (f .numbers) in (
+      rw (by-lines matchingLayout 3 (matchText es) (tail es) short q (some-end es), q) (sym (read-all (tail es)) ∙ l ∙ rw z),
       rw q (tail-entries es (f .numbers)),
     )

@@ -8,7 +8,7 @@ use lib.Dec.{ltb}
 use lib.ListN.{length, getD, take, drop}
 use lib.Seq.{take-at}
 use borrow.Author.Tests.{ltb-false, le-ltb, le-leb}
-use Rattle.laws.proofs.Cases.{not-first, not-second}
+use Rattle.laws.proofs.Cases.{not-first}
 use Rattle.laws.specs.Each.{Each}
 use Rattle.event.specs.Answer.{answer, done}
 use Rattle.event.specs.Memory.{stepped}

@@ -38,7 +38,8 @@ unfolding traceText
 text-glue m es t h = sym (glue-text (header ∷ initLines 0 (m .cells) ++ map eventLine es)) ∙ rw (append-assoc, ← h) (glue-cut 10 t)
 
 -- lines that are read without refusal: what they are read as is within bounds
-lines-fit : (side : ℕ) (ls : List (List ℕ)) → Some ls → linesFault traceLayout side 2 (traceLayout .start) ls .number ≡ 0 → Fits (startFrom empty ls) (eventsIn ls)
+lines-fit : (side : ℕ) (ls : List (List ℕ)) → Some ls → linesFault traceLayout side 2 (traceLayout .start) ls .number ≡ 0
+    → Fits (startFrom empty ls) (eventsIn ls)
 lines-fit side ls s h =
     let b = bounded side 2 ls s h (empty .cells) refl (zeros 256) in
     record { size = b .size; values = b .values; few = omega (arith, b .few); events = b .events }

@@ -152,4 +152,5 @@ prints-line s l ls (Init p v) e h g w n q b =
 
 pub printed : (side k : ℕ) (ls : List (List ℕ)) → Some ls → linesFault traceLayout side k (traceLayout .start) ls .number ≡ 0 → Started [] 256 ls
 printed side k ls o h =
-    lines-pass traceLayout side Prints (λ s w n q b. start-end w n) (λ s l ls. prints-line s l ls (recordOf l) refl) k (traceLayout .start) ls o h [] 256 refl refl
+    lines-pass traceLayout side Prints (λ s w n q b. start-end w n) (λ s l ls. prints-line s l ls (recordOf l) refl) k (traceLayout .start) ls o h [] 256
+    refl refl

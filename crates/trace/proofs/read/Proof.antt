@@ -18,10 +18,9 @@ unfolding readOf roomAfter
 returns-2 c =
     let v = c .before .before .before .before .before .before .before in
     let a = v .before .before .before .args in
-    let z = c .before .before .before .before .if1 .left in (
-      v .survey-in .ensures,
-      rw (← v .survey-in .ensures, eq-eqb _ _ z) (c .before .before .store .ensures ∙ read-stores 1 (a .text .now) (a .room .now) (rw (v .survey-in .ensures) at z)),
-    )
+    let z = c .before .before .before .before .if1 .left in
+    let s = read-stores 1 (a .text .now) (a .room .now) (rw (v .survey-in .ensures) at z) in
+    (v .survey-in .ensures, rw (← v .survey-in .ensures, eq-eqb _ _ z) (c .before .before .store .ensures ∙ s))
 
 pub read-spec : {M : Type 1} → statement M
 read-spec = tie.close (tie.spec (search needs) returns (search needs) (search needs) returns-2)
