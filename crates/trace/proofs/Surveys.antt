@@ -1,13 +1,12 @@
 -- A reading in the midst of its events, one line at a time: what is refused, what goes on, what ends. Assumes nothing.
 use Prim.Native.Nat.{ℕ, suc, _+_, _≤_, _<_}
-use mathlib.Core.Path.{_≡_, refl}
+use mathlib.Core.Path.{_≡_, refl, _∙_}
 use mathlib.Core.Bool.{Bool, true, false}
 use mathlib.Core.List.{List, [], _∷_}
 use native.Mathlib.Omega.{arith}
 use lib.Dec.{eqb}
 use lib.ListN.{length}
 use borrow.Author.Tests.{le-leb, lt-leb, lt-ltb}
-use Rattle.laws.proofs.Cases.{cases, either}
 use Rattle.event.specs.Answer.{answer, done, first}
 use Rattle.event.specs.Memory.{stepped}
 use Rattle.event.specs.declared.Answer.{Answer}
@@ -51,12 +50,16 @@ module _ (side k n : ℕ) (m : Memory) (before : List Event) (found : Answer) (s
   pub on-open : isEmpty l ≡ false → here (l ∷ []) ≡ refused (answer 2 side k)
   on-open h = on-refused (l ∷ []) 2 refl (lines-open traceLayout side k (closed n) l h)
 
-  pub on-end : isEmpty l ≡ true → l ≡ [] → here (l ∷ []) ≡ settle refused found (readAs n start)
-  unfolding surveyOn saidIn
-  on-end h e =
-      let o : n + 0 ≡ n = omega arith in
-      rw (lines-end traceLayout side k (closed n) l h, e, blank, fault-end side (n + 1) m before, o)
-      (cases (either (eqb (found .number) 0)) (λ z. rw z) (λ z. rw (z, z)))
+  module _ (h : isEmpty l ≡ true) (e : l ≡ []) where
+    at-end : here (l ∷ []) ≡ settle refused (first found done) (readAs (n + 0) start)
+    unfolding surveyOn saidIn
+    at-end = rw (lines-end traceLayout side k (closed n) l h, e, blank, fault-end side (n + 1) m before)
+
+    pub on-found : eqb (found .number) 0 ≡ false → here (l ∷ []) ≡ refused found
+    on-found z = at-end ∙ rw (z, z)
+
+    pub on-end : found .number ≡ 0 → here (l ∷ []) ≡ readAs n start
+    on-end z = let o : n + 0 ≡ n = omega arith in at-end ∙ rw (z, o)
 
   module _ (ps : List (List ℕ)) (s : Some ps) where
     pub on-bad : recordOf l ≡ Refused → here (l ∷ ps) ≡ refused (answer 2 side k)

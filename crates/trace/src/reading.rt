@@ -5,9 +5,8 @@ ghost use lib.ListN.{length};
 ghost use Rattle.event.specs.Memory.{empty as emptyMemory};
 ghost use Rattle.event.specs.Room.{putAt};
 ghost use Rattle.text.specs.Line.{splitFrom};
-ghost use Rattle.frame.specs.Reading.{settle};
 ghost use Rattle.frame.specs.Store.{putAll};
-ghost use Rattle.trace.specs.Reading.{surveyOf, refused, readAs, roomFor, eventsOn, eventsOf};
+ghost use Rattle.trace.specs.Reading.{surveyOf, refused, roomFor, eventsOn, eventsOf};
 ghost use Rattle.trace.specs.Survey.{surveyInits, surveyEvents};
 use crate::fault::UNTOUCHED;
 use crate::fault::Way;
@@ -47,21 +46,6 @@ fn refusal(answer: Answer) -> TraceRead
     TraceRead {
         answer,
         events: 0,
-        memory,
-    }
-}
-
-// The refusal that was found, or, where none was, the number of events and the starting memory.
-fn settled(found: Answer, events: usize, memory: Memory) -> TraceRead
-    ensures { λ r. ⌜ r ≡ settle refused found (readAs events memory) ⌝ }
-{
-    if found.number != 0 {
-        return refusal(found);
-    }
-    let answer = Answer::new(0, 0, 0);
-    TraceRead {
-        answer,
-        events,
         memory,
     }
 }
@@ -108,7 +92,14 @@ fn survey_events(text: &[u8], from: usize, line: usize, side: Number, start: Mem
     if at < text.len() {
         return refusal(Answer::new(2, side, k));
     }
-    settled(found, n, start)
+    if found.number != 0 {
+        return refusal(found);
+    }
+    TraceRead {
+        answer: Answer::new(0, 0, 0),
+        events: n,
+        memory: start,
+    }
 }
 
 // The lines after line 1: the starting values, then the events.

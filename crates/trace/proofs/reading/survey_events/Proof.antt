@@ -6,6 +6,7 @@ use mathlib.Core.List.{List, [], _∷_}
 use mathlib.Core.Path.{_≡_, refl, sym, _∙_, ap}
 use native.Mathlib.Omega.{arith}
 use borrow.Author.Needs.{needs}
+use borrow.Author.Tests.{ne-eqb}
 use lib.ListN.{length, take, drop, length-set, drop-of-length-le}
 use Rattle.event.specs.Answer.{done, first}
 use Rattle.event.specs.declared.Answer.{Answer}
@@ -25,7 +26,7 @@ use Rattle.trace.specs.Reading.{refused}
 use Rattle.trace.specs.Survey.{surveyEvents}
 use Rattle.trace.specs.declared.reading.TraceRead.{TraceRead}
 use Rattle.trace.proofs.Judged.{fault-free, first-stays}
-use Rattle.trace.proofs.Surveys.{surveyOn, on-start, on-open, on-end, on-bad, on-init, on-full, on-go}
+use Rattle.trace.proofs.Surveys.{surveyOn, on-start, on-open, on-found, on-end, on-bad, on-init, on-full, on-go}
 use Rattle.trace.proofs.Ways.{Marks, marks-start, marks-told, clash, marks-next}
 use Rattle.trace.proofs.reading.survey_events.Statement.{statement}
 use Rattle.trace.proofs.reading.survey_events.Tie as tie
@@ -225,9 +226,16 @@ returns-4 c =
 
 returns-5 : tie.Need-returns-5 Inv-loop μ-loop
 returns-5 c =
-    let h = c .before in
+    let h = c .before .before .before in
     let z = drop-of-length-le (text (o (h .before))) (h .if2 .left) in
-    c .settled .ensures ∙ sym (rest (h .before) (on-end _ _ _ _ _ _ _ _ (rest-none _ _ (h .if2 .left)) z))
+    refuses (c .refusal5 .ensures) refl
+    (rest (h .before) (on-found _ _ _ _ _ _ _ _ (rest-none _ _ (h .if2 .left)) z (ne-eqb _ _ (c .before .if3 .taken))))
+
+returns-6 : tie.Need-returns-6 Inv-loop μ-loop
+returns-6 c =
+    let h = c .before .before .before in
+    let z = drop-of-length-le (text (o (h .before))) (h .if2 .left) in
+    rw (c .new6 .ensures) (sym (rest (h .before) (on-end _ _ _ _ _ _ _ _ (rest-none _ _ (h .if2 .left)) z (c .before .if3 .left))))
 
 pub survey-events-spec : {M : Type 1} → statement M
 survey-events-spec =
@@ -268,4 +276,6 @@ survey-events-spec =
     (search needs)
     returns-4
     (search needs)
-    returns-5)
+    returns-5
+    (search needs)
+    returns-6)
