@@ -2,6 +2,7 @@
 pub mod Tables
 pub mod Stands
 pub mod Taking
+pub mod Walk
 pub mod Layouts
 pub mod Records
 pub mod Prints

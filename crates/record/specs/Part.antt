@@ -1,15 +1,21 @@
--- Document 01, "Trace text": a field that a line has or has not, taken at a place of the line. Assumes nothing.
-use Prim.Native.Nat.{ℕ, _+_, _-_}
-use mathlib.Core.Bool.{Bool, true, false}
+-- Document 01, "Trace text": a field that a line has or has not, taken at a place of the line; and an `init` line by the two fields that the reader
+-- hands out, each with the place behind it. Assumes nothing.
+use Prim.Native.Nat.{ℕ, _+_, _-_, _≤_}
+use mathlib.Core.Bool.{Bool, true, false, cond}
 use mathlib.Core.List.{List}
-use lib.ListN.{take, drop}
-use Rattle.text.specs.Field.{fieldAt}
-use Rattle.text.specs.Take.{takeNumber}
+use lib.Dec.{eqb}
+use lib.ListN.{length, take, drop}
+use Rattle.event.specs.Kind.{lastPlace}
+use Rattle.text.specs.Field.{fieldAt, fieldsFrom, onEnd}
+use Rattle.text.specs.Take.{takeNumber, onStep}
 use Rattle.text.specs.declared.field.FieldStep.{FieldStep}
 use Rattle.text.specs.declared.field.FieldStep.the-variants.{Field, LineEnd}
 use Rattle.text.specs.declared.take.Taken.{Taken}
 use Rattle.text.specs.declared.take.Taken.the-variants.{Number, Bad as NoNumber}
 use Rattle.record.specs.Layout.{orderOf}
+use Rattle.record.specs.Record.{lastValue}
+use Rattle.record.specs.declared.Record.{Record}
+use Rattle.record.specs.declared.Record.the-variants.{Init, Refused}
 use Rattle.record.specs.declared.part.Part.{Part}
 use Rattle.record.specs.declared.part.Part.the-variants.{Given, Bad}
 
@@ -32,3 +38,29 @@ onOrder line LineEnd = Bad
 unfoldable pub orderPart : Bool → List ℕ → ℕ → ℕ → Part
 orderPart false line at other = Given other at
 orderPart true line at other = onOrder line (fieldAt line at)
+
+-- A field that stands within a line; or none.
+abbrev pub Within : List ℕ → FieldStep → Type 0
+Within line (Field from to) = (from ≤ to) × (to ≤ length line)
+Within line LineEnd = Unit {0}
+
+-- The place behind a field, at which the next one starts. Of none it is 0; the line is then refused, whatever starts there.
+abbrev pub behind : FieldStep → ℕ
+behind (Field from to) = to + 1
+behind LineEnd = 0
+
+-- The number that a field is, with the place of the next field.
+unfoldable pub fieldPart : List ℕ → FieldStep → ℕ → Part
+fieldPart line field max = onTaken (onStep line max field)
+
+-- The number of a part to go on with, and the place behind it; none: refused.
+abbrev pub onPart : Part → (ℕ → ℕ → Record) → Record
+onPart (Given n next) k = k n next
+onPart Bad k = Refused
+
+-- An `init` line by its two fields: location, value, and nothing more; the value is never 0.
+unfoldable pub initOf : List ℕ → FieldStep → FieldStep → Record
+initOf line place value =
+    onPart (fieldPart line place lastPlace) (λ p _.
+    onPart (fieldPart line value lastValue) (λ v next.
+    onEnd Refused (fieldsFrom line next) (cond (eqb v 0) Refused (Init p v))))

@@ -5,6 +5,7 @@ pub mod word;
 
 ghost use mathlib.Core.Path.{_≡_};
 ghost use Rattle.text.specs.Field.{fieldsFrom};
+ghost use Rattle.record.specs.Part.{Within, initOf};
 ghost use Rattle.record.specs.Record.{eventRest, initRest, recordOf};
 use event::Event;
 use event::Word;
@@ -12,10 +13,15 @@ use event::kind::LAST_PLACE;
 use event::kind::suits;
 use part::Part;
 use part::number_if;
+use part::number_of_field;
 use part::order_if;
+use part::place_behind;
 use shape::shape_of;
 use text::field::FieldStep;
 use text::reader::field_of;
+use text::reader::moved;
+use text::reader::new;
+use text::reader::next;
 use text::take::ends_at;
 use text::word::same_bytes;
 use word::kind_of;
@@ -30,27 +36,34 @@ pub enum Record {
     Refused,
 }
 
-// An `init` line from the field after its word on.
-fn init_rest(line: &[u8], at: usize) -> Record
-    ensures { λ r. ⌜ r ≡ initRest (fieldsFrom (now (line .entry)) at) ⌝ }
+// An `init` line by its two fields.
+fn init_of(line: &[u8], place: FieldStep, value: FieldStep) -> Record
+    requires { ⌜ Within (now line) place × Within (now line) value ⌝ }
+    ensures { λ r. ⌜ r ≡ initOf (now (line .entry)) place value ⌝ }
 {
-    let Part::Given {
-        value: place,
-        next: after_place,
-    } = number_if(true, line, at, LAST_PLACE)
-    else {
+    let Part::Given { value: p, next: _ } = number_of_field(line, place, LAST_PLACE) else {
         return Record::Refused;
     };
-    let Part::Given { value, next } = number_if(true, line, after_place, LAST_VALUE) else {
+    let Part::Given { value: v, next } = number_of_field(line, value, LAST_VALUE) else {
         return Record::Refused;
     };
     if !ends_at(line, next) {
         return Record::Refused;
     }
-    if value == 0 {
+    if v == 0 {
         return Record::Refused;
     }
-    Record::Init { place, value }
+    Record::Init { place: p, value: v }
+}
+
+// An `init` line from the field after its word on. The reader hands out a field, is moved behind it, and hands out the next.
+fn init_rest(line: &[u8], at: usize) -> Record
+    ensures { λ r. ⌜ r ≡ initRest (fieldsFrom (now (line .entry)) at) ⌝ }
+{
+    let reader = new(line, at);
+    let place = next(reader);
+    let value = next(moved(reader, place_behind(place)));
+    init_of(line, place, value)
 }
 
 // An event's line from the field after its word on.

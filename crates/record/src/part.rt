@@ -1,9 +1,12 @@
 // A field that a line has or has not, taken at a place of the line.
 ghost use mathlib.Core.Path.{_≡_};
-ghost use Rattle.record.specs.Part.{numberPart, orderPart};
+ghost use Prim.Native.Nat.{_<_, _^_};
+ghost use Rattle.record.specs.Part.{numberPart, orderPart, fieldPart, Within, behind};
 use crate::word::order_of;
 use event::Word;
 use text::field::FieldStep;
+use text::number::NumberRead;
+use text::number::number_of;
 use text::reader::field_of;
 use text::take::Taken;
 use text::take::take_number;
@@ -46,5 +49,33 @@ pub(crate) fn order_if(wanted: bool, line: &[u8], at: usize, other: Word) -> Par
     Part::Given {
         value: order_of(&line[from..to]),
         next: to + 1,
+    }
+}
+
+// The number that a field is.
+pub(crate) fn number_of_field(line: &[u8], field: FieldStep, max: Word) -> Part
+    requires { ⌜ Within (now line) field ⌝ }
+    ensures { λ r. ⌜ r ≡ fieldPart (now (line .entry)) field max ⌝ }
+{
+    let FieldStep::Field { from, to } = field else {
+        return Part::Bad;
+    };
+    let NumberRead::Value(value) = number_of(&line[from..to], max as u64) else {
+        return Part::Bad;
+    };
+    Part::Given {
+        value: value as Word,
+        next: to + 1,
+    }
+}
+
+// The place at which the field behind a field starts.
+pub(crate) fn place_behind(field: FieldStep) -> usize
+    requires { ⌜ behind field < 2 ^ 64 ⌝ }
+    ensures { λ r. ⌜ r ≡ behind field ⌝ }
+{
+    match field {
+        FieldStep::LineEnd => 0,
+        FieldStep::Field { from: _, to } => to + 1,
     }
 }

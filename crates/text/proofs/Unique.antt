@@ -1,6 +1,10 @@
 -- One answer and one room to each contract of a public function, each over the contract itself. Assumes nothing.
-use mathlib.Core.Path.{sym, _∙_}
+use Prim.Native.Nat.{ℕ}
+use mathlib.Core.Path.{_≡_, sym, _∙_}
+use mathlib.Core.List.{List}
+use denote.Ref.{RefT}
 use Rattle.laws.specs.Unique.{OneAnswer, OneOf}
+use Rattle.text.specs.declared.reader.Reader.{Reader}
 use Rattle.text.proofs.line.line_end.Reads as line-end
 use Rattle.text.proofs.line.next_line.Reads as next-line
 use Rattle.text.proofs.line.line_two.Reads as line-two
@@ -26,6 +30,10 @@ number-of-one κ a x y s t h k = h ∙ sym k
 
 field-of-one : OneAnswer field-of.Post
 field-of-one κ a x y s t h k = h ∙ sym k
+
+-- A function that takes or hands back a reader is proved by hand and has no `Post`: of `new` and `moved`, one reader to their clause.
+reader-one : (text : RefT (List ℕ)) (at : ℕ) (x y : Reader) → (x .text ≡ text) × (x .at ≡ at) → (y .text ≡ text) × (y .at ≡ at) → x ≡ y
+reader-one text at x y h k i = record { text = (h .0 ∙ sym (k .0)) i; at = (h .1 ∙ sym (k .1)) i }
 
 find-one : OneAnswer find.Post
 find-one κ a x y s t h k = h ∙ sym k
