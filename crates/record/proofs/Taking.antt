@@ -6,43 +6,31 @@ use mathlib.Core.Bool.{Bool, true, false}
 use mathlib.Core.List.{List}
 use native.Mathlib.Omega.{arith}
 use Rattle.text.specs.Field.{fieldAt, fieldsFrom}
-use Rattle.text.specs.Take.{takeNumber}
 use Rattle.text.specs.declared.field.FieldStep.{FieldStep}
 use Rattle.text.specs.declared.field.FieldStep.the-variants.{Field, LineEnd}
-use Rattle.text.specs.declared.take.Taken.{Taken}
-use Rattle.text.specs.declared.take.Taken.the-variants.{Number, Bad as NoNumber}
 use Rattle.text.proofs.Fields.{field-step, line-end}
-use Rattle.text.proofs.Takes.{took, bad}
-use Rattle.record.specs.Part.{onTaken, onOrder, numberPart, orderPart}
+use Rattle.record.specs.Part.{onOrder, numberPart, orderPart}
 use Rattle.record.specs.Record.{numberIf, orderIf}
 use Rattle.record.specs.declared.part.Part.{Part}
 use Rattle.record.specs.declared.part.Part.the-variants.{Given, Bad}
 use Rattle.record.specs.declared.Record.{Record}
 use Rattle.record.specs.declared.Record.the-variants.{Refused}
+use Rattle.record.proofs.Walk.{field-number}
 
 module _ (l : List ℕ) (at : ℕ) where
-  module _ (max n e : ℕ) where
-    taken : (t : Taken) → takeNumber l at max ≡ t → onTaken t ≡ Given n e → takeNumber l at max ≡ Number n e
-    taken (Number m i) q h = cc
-    taken NoNumber q h = absurd (let z : _≡_ {A = ℕ} 0 1 = cc in omega arith)
-
-    -- a number that was given, or 0, is read, and the reading goes on from the next place
-    pub number-given : (w : Bool) {r : Part} → r ≡ numberPart w l at max → r ≡ Given n e → (k : ℕ → List (List ℕ) → Record)
-        → numberIf w max (fieldsFrom l at) k ≡ k n (fieldsFrom l e)
-    unfolding numberPart numberIf
-    number-given false g h k = cc
-    number-given true g h k = took l at max n e (taken (takeNumber l at max) refl (sym g ∙ h)) Refused k
-
-  not-taken : (max : ℕ) (t : Taken) → takeNumber l at max ≡ t → onTaken t ≡ Bad → takeNumber l at max ≡ NoNumber
-  not-taken max (Number m i) q h = absurd (let z : _≡_ {A = ℕ} 0 1 = cc in omega arith)
-  not-taken max NoNumber q h = q
+  -- a number that was given, or 0, is read, and the reading goes on from the next place
+  pub number-given : (max n e : ℕ) (w : Bool) {r : Part} → r ≡ numberPart w l at max → r ≡ Given n e → (k : ℕ → List (List ℕ) → Record)
+      → numberIf w max (fieldsFrom l at) k ≡ k n (fieldsFrom l e)
+  unfolding numberPart numberIf
+  number-given max n e false g h k = cc
+  number-given max n e true g h k = sym (field-number l at max k (fieldAt l at) refl) ∙ rw (sym g ∙ h)
 
   -- no number could be taken
   pub number-refused : (max : ℕ) (w : Bool) {r : Part} → r ≡ numberPart w l at max → r ≡ Bad → (k : ℕ → List (List ℕ) → Record)
       → numberIf w max (fieldsFrom l at) k ≡ Refused
-  unfolding numberPart numberIf
+  unfolding numberPart
   number-refused max false g h k = absurd (let z : _≡_ {A = ℕ} 0 1 = cc in omega arith)
-  number-refused max true g h k = bad l at max Refused k (not-taken max (takeNumber l at max) refl (sym g ∙ h))
+  number-refused max true g h k = sym (field-number l at max k (fieldAt l at) refl) ∙ rw (sym g ∙ h)
 
   ordered : (o n e : ℕ) (s : FieldStep) → fieldAt l at ≡ s → onOrder l s ≡ Given n e → (k : ℕ → List (List ℕ) → Record)
       → orderIf true o (fieldsFrom l at) k ≡ k n (fieldsFrom l e)

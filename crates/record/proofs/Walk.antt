@@ -53,7 +53,7 @@ numbered (Value n) b K L h = h n
 numbered Malformed b K L h = refl
 
 -- the number of a field is the first of the fields from there on
-field-number : (l : List ℕ) (at max : ℕ) (K : ℕ → List (List ℕ) → Record) (s : FieldStep) → fieldAt l at ≡ s
+pub field-number : (l : List ℕ) (at max : ℕ) (K : ℕ → List (List ℕ) → Record) (s : FieldStep) → fieldAt l at ≡ s
     → onPart (fieldPart l s max) (λ n e. K n (fieldsFrom l e)) ≡ numberIf true max (fieldsFrom l at) K
 unfolding fieldPart numberIf
 field-number l at max K (Field a b) q = rw (field-step l at a b q) (numbered (numberOf max (take (b - a) (drop a l))) b _ _ (λ n. refl))

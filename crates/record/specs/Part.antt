@@ -7,7 +7,7 @@ use lib.Dec.{eqb}
 use lib.ListN.{length, take, drop}
 use Rattle.event.specs.Kind.{lastPlace}
 use Rattle.text.specs.Field.{fieldAt, fieldsFrom, onEnd}
-use Rattle.text.specs.Take.{takeNumber, onStep}
+use Rattle.text.specs.Take.{onStep}
 use Rattle.text.specs.declared.field.FieldStep.{FieldStep}
 use Rattle.text.specs.declared.field.FieldStep.the-variants.{Field, LineEnd}
 use Rattle.text.specs.declared.take.Taken.{Taken}
@@ -24,10 +24,14 @@ abbrev pub onTaken : Taken → Part
 onTaken (Number n next) = Given n next
 onTaken NoNumber = Bad
 
+-- The number that a field is, with the place of the next field.
+unfoldable pub fieldPart : List ℕ → FieldStep → ℕ → Part
+fieldPart line field max = onTaken (onStep line max field)
+
 -- A number field that is there or not; where it is not, the number is 0 and no field is passed.
 unfoldable pub numberPart : Bool → List ℕ → ℕ → ℕ → Part
 numberPart false line at max = Given 0 at
-numberPart true line at max = onTaken (takeNumber line at max)
+numberPart true line at max = fieldPart line (fieldAt line at) max
 
 -- The order or mark of a field that was found, or none.
 abbrev pub onOrder : List ℕ → FieldStep → Part
@@ -48,10 +52,6 @@ Within line LineEnd = Unit {0}
 abbrev pub behind : FieldStep → ℕ
 behind (Field from to) = to + 1
 behind LineEnd = 0
-
--- The number that a field is, with the place of the next field.
-unfoldable pub fieldPart : List ℕ → FieldStep → ℕ → Part
-fieldPart line field max = onTaken (onStep line max field)
 
 -- The number of a part to go on with, and the place behind it; none: refused.
 abbrev pub onPart : Part → (ℕ → ℕ → Record) → Record

@@ -8,8 +8,6 @@ use text::field::FieldStep;
 use text::number::NumberRead;
 use text::number::number_of;
 use text::reader::field_of;
-use text::take::Taken;
-use text::take::take_number;
 
 // A field's number, with the place of the next field.
 pub enum Part {
@@ -24,13 +22,7 @@ pub(crate) fn number_if(wanted: bool, line: &[u8], at: usize, max: Word) -> Part
     if !wanted {
         return Part::Given { value: 0, next: at };
     }
-    let Taken::Number { value, next } = take_number(line, at, max as u64) else {
-        return Part::Bad;
-    };
-    Part::Given {
-        value: value as Word,
-        next,
-    }
+    number_of_field(line, field_of(line, at), max)
 }
 
 // The order or mark at a place, if the line is to have one there; else the one in hand.

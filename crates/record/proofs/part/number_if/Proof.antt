@@ -1,35 +1,23 @@
--- `record::part::number_if` meets its contract: each return is the definition at what `take_number` gave. A number that was taken is at most the
--- limit, so it fits. Assumes nothing.
-use mathlib.Core.Bool.{true}
-use mathlib.Core.Path.{_≡_, sym, _∙_}
-use native.Mathlib.Omega.{arith}
-use borrow.Author.Tests.{not-true, not-false}
-use Rattle.text.proofs.Takes.{taken-le}
-use Rattle.record.specs.Part.{numberPart}
+-- Each return is the definition: no field, or the number of the field that the reader hands out, which stands within the line. Assumes nothing.
 use borrow.Author.Needs.{needs}
+use borrow.Author.Tests.{not-true, not-false}
+use Rattle.record.specs.Part.{numberPart}
+use Rattle.record.proofs.Walk.{within-field}
 use Rattle.record.proofs.part.number_if.Statement.{statement}
 use Rattle.record.proofs.part.number_if.Tie as tie
-
--- the field is wanted
-wanted : (c : tie.Else1) → c .before .before .args .wanted ≡ true
-wanted c = not-false _ (c .if1 .left)
 
 returns : tie.Need-returns
 unfolding numberPart
 returns c = rw (not-true (c .before .before .args .wanted) (c .if1 .taken))
 
+number-of-field-requires : tie.Need-number-of-field-requires
+number-of-field-requires c κs = rw (c .field-of .ensures) (within-field _ _)
+
 returns-2 : tie.Need-returns-2
 unfolding numberPart
-returns-2 c = rw (wanted (c .before .before .before), ← c .before .before .take-number .ensures, c .enum-told .given .1)
-
-cast-t10 : tie.Need-cast-t10
-cast-t10 c = omega (arith, taken-le _ _ _ _ _ (sym (c .before .before .before .take-number .ensures) ∙ c .before .value .given .1))
-
-returns-3 : tie.Need-returns-3
-unfolding numberPart
-returns-3 c = rw (wanted (c .before .before .before .before), ← c .before .before .before .take-number .ensures, c .before .value .given .1)
+returns-2 c =
+    let a = c .before .before .before .before .args in
+    rw (not-false (a .wanted) (c .before .before .if1 .left), ← c .before .field-of .ensures) (c .number-of-field .ensures)
 
 pub number-if-spec : {M : Type 1} → statement M
-number-if-spec =
-    tie.close
-    (tie.spec returns (search needs) (search needs) (search needs) returns-2 cast-t10 returns-3)
+number-if-spec = tie.close (tie.spec returns (search needs) number-of-field-requires returns-2)
