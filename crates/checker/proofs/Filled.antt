@@ -10,8 +10,9 @@ use Rattle.event.specs.Room.{flat, onward, Placed}
 use Rattle.event.specs.declared.Event.{Event}
 use Rattle.event.proofs.Rooms.{flat-length, onward-flat, each-event}
 use Rattle.event.proofs.Lawful.{place-below}
+use Rattle.record.specs.Record.{Fit}
 use Rattle.trace.specs.Reading.{eventsOf, surveyOf, front, readOf}
-use Rattle.trace.specs.Text.{Fit, Fits}
+use Rattle.trace.specs.Text.{Fits}
 use Rattle.trace.proofs.OneText.{text-whole}
 use Rattle.trace.proofs.Readings.{counts, read-passed}
 use Rattle.matching.specs.Reading.{entriesOf, front as entryFront, readOf as entriesRead}

@@ -11,12 +11,12 @@ use Rattle.text.specs.Line.{split}
 use Rattle.record.specs.Record.{recordOf}
 use Rattle.record.specs.declared.Record.{Record}
 use Rattle.checker.specs.declared.line.Span.{Span}
-use Rattle.record.specs.declared.Record.the-variants.{Init, Line, Refused}
+use Rattle.record.specs.declared.Record.the-variants.{Init, AnEvent, Refused}
 
 -- Whether a record is an event.
 abbrev pub isEvent : Record → Bool
 isEvent (Init p v) = false
-isEvent (Line e) = true
+isEvent (AnEvent e) = true
 isEvent Refused = false
 
 -- Whether a line is counted: every line, or only those that are events.

@@ -38,7 +38,7 @@ fn is_event(line: Record) -> bool
     ensures { λ r. ⌜ r ≡ isEvent line ⌝ }
 {
     match line {
-        Record::Line(_) => true,
+        Record::AnEvent(_) => true,
         Record::Init { place: _, value: _ } => false,
         Record::Refused => false,
     }

@@ -23,10 +23,10 @@ use Rattle.text.proofs.Round.{round, read-back, decimal-free}
 use Rattle.text.proofs.Words.{same-eq, same-self}
 use Rattle.record.specs.Layout.{kindWords, orderWords, initWord, wordAt, kindOf, orderOf, shapeOf, parts, fieldIf, there}
 use Rattle.record.specs.Layout.{eventFields, eventLine, initLine}
-use Rattle.record.specs.Record.{lastValue, numberIf, orderIf, lawfulLine, eventRest, initRest, recordOf}
+use Rattle.record.specs.Record.{Fit, eventRest, initRest, lastValue, lawfulLine, numberIf, orderIf, recordOf}
 use Rattle.record.specs.declared.shape.Shape.{Shape}
 use Rattle.record.specs.declared.Record.{Record}
-use Rattle.record.specs.declared.Record.the-variants.{Init, Line, Refused}
+use Rattle.record.specs.declared.Record.the-variants.{Init, AnEvent, Refused}
 use Rattle.record.proofs.Tables.{word-of, kind-number, order-number, kind-not-init, kind-free, order-free}
 use Rattle.record.proofs.Tables.{init-free as word-free}
 use Rattle.record.proofs.Stands.{Shaped, shaped, stand-order, stand-words}
@@ -45,7 +45,7 @@ order-field false other o fs k h = refl
 order-field true other o fs k h = rw (order-number o h)
 
 lawful-is : (e : Event) (o c : ℕ) → o ≡ e .order → c ≡ e .code → lawful e ≡ true
-    → lawfulLine (record { kind = e .kind; place = e .place; order = o; first = e .first; second = e .second; code = c }) ≡ Line e
+    → lawfulLine (record { kind = e .kind; place = e .place; order = o; first = e .first; second = e .second; code = c }) ≡ AnEvent e
 lawful-is e o c p q h = rw (p, q, h)
 
 -- neither TAB nor LF is in a field
@@ -69,11 +69,7 @@ event-free s l e =
 pub init-free : (s : ℕ) → s < 11 → (p v : ℕ) → Each (Free s) (initWord ∷ decimal p ∷ decimal v ∷ [])
 init-free s l p v = (word-free s l, (number-free s l p, (number-free s l v, tt)))
 
--- an event of the layout, with values in range
-abbrev pub Fit : Event → Type 0
-Fit e = (lawful e ≡ true) × ((e .first ≤ lastValue) × (e .second ≤ lastValue))
-
-rest-read : (e : Event) → Fit e → eventRest (e .kind) (there (parts (shapeOf (e .kind)) e)) ≡ Line e
+rest-read : (e : Event) → Fit e → eventRest (e .kind) (there (parts (shapeOf (e .kind)) e)) ≡ AnEvent e
 unfolding eventRest
 rest-read e f =
     let s = shaped e (f .0) in
@@ -85,7 +81,7 @@ rest-read e f =
     ∙ order-field _ _ (e .order) _ _ (o .1)
     ∙ lawful-is e _ 0 (o .0) (sym (code-of e (f .0))) (f .0)
 
-pub event-read : (e : Event) → Fit e → recordOf (eventLine e) ≡ Line e
+pub event-read : (e : Event) → Fit e → recordOf (eventLine e) ≡ AnEvent e
 unfolding recordOf eventLine eventFields
 event-read e f =
     rw (cut-glue 9 _ _ (event-free 9 (omega arith) e), kind-not-init (e .kind), kind-number (e .kind) (shaped e (f .0) .listed)) (rest-read e f)
@@ -98,7 +94,7 @@ init-read p v a b z =
 -- what a record that was read says of the fields: they are its print, and it is in range
 abbrev pub Says : List (List ℕ) → Record → Type 0
 Says fs (Init p v) = (fs ≡ initWord ∷ decimal p ∷ decimal v ∷ []) × ((p ≤ lastPlace) × ((v ≤ lastValue) × (v ≡ 0 → ⊥)))
-Says fs (Line e) = (fs ≡ eventFields e) × Fit e
+Says fs (AnEvent e) = (fs ≡ eventFields e) × Fit e
 Says fs Refused = Unit {0}
 
 -- a reading field by field has what all its continuations have
@@ -144,7 +140,7 @@ event-says w fs =
     on-end P tt fs₅ _ (λ q₆.
     let o : ℕ = cond (s .mark) (orderOf g) (cond (s .order) (orderOf f) 0) in
     let e : Event = record { kind = k; place = place; order = o; first = a; second = b; code = 0 } in
-    on-if P tt (lawful e) (Line e) Refused (λ h.
+    on-if P tt (lawful e) (AnEvent e) Refused (λ h.
     let t : Shaped s e = shaped e h in
     let i : wordAt kindWords k ≡ w = word-of kindWords w (t .some) in
     let d = stand-words (t .stands) f g refl (fieldIf (s .first) (decimal a) fs₃) [] in
@@ -172,10 +168,10 @@ unfolding recordOf
 says l = fields-say (fields l)
 
 -- a line that is read as an event is the event's, and the event is in range
-pub line-says : (l : List ℕ) (e : Event) → recordOf l ≡ Line e → (l ≡ eventLine e) × Fit e
+pub line-says : (l : List ℕ) (e : Event) → recordOf l ≡ AnEvent e → (l ≡ eventLine e) × Fit e
 unfolding eventLine
 line-says l e h =
-    let s : Says (fields l) (Line e) = rw h at (says l) in
+    let s : Says (fields l) (AnEvent e) = rw h at (says l) in
     (sym (glue-cut 9 l) ∙ rw (s .0), s .1)
 
 -- a line that is read as a starting value is its line, and the value is in range

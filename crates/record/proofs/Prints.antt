@@ -16,10 +16,10 @@ use Rattle.text.specs.Cut.{glue}
 use Rattle.text.specs.Number.{decimal}
 use Rattle.text.proofs.Decimals.{length-some, length-more, length-below}
 use Rattle.record.specs.Layout.{kindWords, initWord, wordAt, shapeOf, parts, there, eventFields, eventLine, initLine}
-use Rattle.record.specs.Record.{lastValue}
+use Rattle.record.specs.Record.{Fit, lastValue, longestEvent, longestInit}
 use Rattle.record.proofs.Tables.{each-to}
 use Rattle.record.proofs.Stands.{orderMost, markMost, stand-length, shaped}
-use Rattle.record.proofs.Layouts.{Fit, event-free, init-free}
+use Rattle.record.proofs.Layouts.{event-free, init-free}
 
 glue-free : (s u : ℕ) → (s ≡ u → ⊥) → (ps : List (List ℕ)) → Each (Free u) ps → Free u (glue s ps)
 unfolding glue
@@ -78,13 +78,6 @@ size-there [] ns h = omega arith
 size-there (p ∷ ps) [] h = absurd h
 size-there ((true, f) ∷ ps) (n ∷ ns) h = let i = h .0 refl in omega (arith, size-there ps ns (h .1))
 size-there ((false, f) ∷ ps) (n ∷ ns) h = omega (arith, size-there ps ns (h .1))
-
--- the length of the longest line of an event, and of a starting value
-abbrev pub longestEvent : ℕ
-longestEvent = 33
-
-abbrev pub longestInit : ℕ
-longestInit = 19
 
 -- the bytes of a kind's line with its LF, at most
 abbrev most : ℕ → ℕ

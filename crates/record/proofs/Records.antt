@@ -9,7 +9,7 @@ use Rattle.text.specs.Cut.{cut}
 use Rattle.text.specs.Word.{same}
 use Rattle.record.specs.Layout.{numberIn}
 use Rattle.record.specs.Record.{numberIf, orderIf, eventRest, recordOf}
-use Rattle.record.specs.declared.Record.the-variants.{Init, Line, Refused}
+use Rattle.record.specs.declared.Record.the-variants.{Init, AnEvent, Refused}
 use Rattle.record.proofs.Layouts.{line-says, init-back}
 
 -- an empty line is no record
@@ -17,7 +17,7 @@ pub blank : recordOf [] ≡ Refused
 unfolding recordOf eventRest numberIf orderIf numberIn cut same row lawful takes
 blank = refl
 
-pub line-lawful : (l : List ℕ) (e : Event) → recordOf l ≡ Line e → lawful e ≡ true
+pub line-lawful : (l : List ℕ) (e : Event) → recordOf l ≡ AnEvent e → lawful e ≡ true
 line-lawful l e h = line-says l e h .1 .0
 
 pub init-place : (l : List ℕ) (p v : ℕ) → recordOf l ≡ Init p v → p ≤ lastPlace

@@ -1,7 +1,8 @@
 -- Document 01, "Trace text": what a line is, read field by field. Assumes nothing.
-use Prim.Native.Nat.{ℕ}
+use Prim.Native.Nat.{ℕ, _≤_}
 use mathlib.Core.Bool.{Bool, true, false, cond}
 use mathlib.Core.List.{List}
+use mathlib.Core.Path.{_≡_}
 use lib.Dec.{eqb}
 use Rattle.event.specs.Kind.{lastPlace, lawful}
 use Rattle.event.specs.Kind.{fields as event}
@@ -11,11 +12,22 @@ use Rattle.text.specs.Number.{numberOf, onNumber}
 use Rattle.text.specs.Word.{same}
 use Rattle.record.specs.Layout.{initWord, kindOf, orderOf, shapeOf}
 use Rattle.record.specs.declared.Record.{Record}
-use Rattle.record.specs.declared.Record.the-variants.{Init, Line, Refused}
+use Rattle.record.specs.declared.Record.the-variants.{Init, AnEvent, Refused}
 
 -- The greatest value.
 abbrev pub lastValue : ℕ
 lastValue = 4294967295
+
+-- An event of the layout, with values in range.
+abbrev pub Fit : Event → Type 0
+Fit e = (lawful e ≡ true) × ((e .first ≤ lastValue) × (e .second ≤ lastValue))
+
+-- The longest event line and the longest `init` line, without their LF.
+abbrev pub longestEvent : ℕ
+longestEvent = 33
+
+abbrev pub longestInit : ℕ
+longestInit = 19
 
 -- A number field that is there or not; where it is not, the number is 0.
 unfoldable pub numberIf : Bool → ℕ → List (List ℕ) → (ℕ → List (List ℕ) → Record) → Record
@@ -29,7 +41,7 @@ orderIf true o fs k = onField Refused fs (λ f rest. k (orderOf f) rest)
 
 -- The event of a kind, if it is lawful.
 abbrev pub lawfulLine : Event → Record
-lawfulLine e = cond (lawful e) (Line e) Refused
+lawfulLine e = cond (lawful e) (AnEvent e) Refused
 
 -- An event's line, after its word: place, order, values, mark, and nothing more.
 unfoldable pub eventRest : ℕ → List (List ℕ) → Record

@@ -32,7 +32,7 @@ pub const LAST_VALUE: Word = 4294967295;
 // A line as it was read.
 pub enum Record {
     Init { place: Word, value: Word },
-    Line(Event),
+    AnEvent(Event),
     Refused,
 }
 
@@ -108,7 +108,7 @@ fn event_rest(kind: Word, line: &[u8], at: usize) -> Record
     if !suits(kind, place, mark, first, second) {
         return Record::Refused;
     }
-    Record::Line(Event {
+    Record::AnEvent(Event {
         kind,
         place,
         order: mark,

@@ -22,7 +22,7 @@ use Rattle.frame.proofs.Answers.{lines-given, head-among, head-in}
 use Rattle.record.specs.Layout.{header}
 use Rattle.record.specs.Record.{recordOf}
 use Rattle.record.specs.declared.Record.{Record}
-use Rattle.record.specs.declared.Record.the-variants.{Init, Line, Refused}
+use Rattle.record.specs.declared.Record.the-variants.{Init, AnEvent, Refused}
 use Rattle.trace.specs.Fault.{clashes, faultAt, eventFault}
 use Rattle.trace.specs.Reading.{SoFar, eventLimit, lineFault, traceLayout, startOf, eventsOf, faultOf, surveyOf, readOf}
 use Rattle.trace.specs.Writing.{countOf, roomEvents, layoutFault, roomFault, bytesOf, inOut, writeOf}
@@ -41,7 +41,7 @@ eventFaults = 5 ∷ 6 ∷ []
 line-fault : (s : SoFar) (r : Record) → (lineFault s r ≡ 0) ⊎ (has (lineFault s r) lineFaults ≡ true)
 line-fault s Refused = inr refl
 line-fault s (Init p v) = by-cond (λ (f : ℕ). (f ≡ 0) ⊎ (has f lineFaults ≡ true)) (ltb p (s .low)) (inr refl) (inl refl)
-line-fault s (Line e) = by-cond (λ (f : ℕ). (f ≡ 0) ⊎ (has f lineFaults ≡ true)) (leb eventLimit (s .events)) (inr refl) (inl refl)
+line-fault s (AnEvent e) = by-cond (λ (f : ℕ). (f ≡ 0) ⊎ (has f lineFaults ≡ true)) (leb eventLimit (s .events)) (inr refl) (inl refl)
 
 events-given : (side k : ℕ) (m : Memory) (before es : List Event) → 1 ≤ k → Given eventFaults side (eventFault side k m before es)
 unfolding eventFault

@@ -18,11 +18,11 @@ use Rattle.event.specs.declared.Event.{Event}
 use Rattle.event.specs.declared.memory.Memory.{Memory}
 use Rattle.event.proofs.Rooms.{flat-length, onward-flat}
 use Rattle.frame.proofs.Settled.{first-done}
-use Rattle.record.specs.Record.{lastValue}
+use Rattle.record.specs.Record.{Fit, lastValue}
 use Rattle.trace.specs.Fault.{eventFault}
 use Rattle.trace.specs.Reading.{eventLimit, readAs, surveyOf, eventsOf, roomAfter}
 use Rattle.trace.specs.Writing.{countOf, roomEvents, layoutFault, traceText, roomFault, bytesOf, inOut, writeOf, outAfter}
-use Rattle.trace.specs.Text.{places, Valued, Fit, Fits}
+use Rattle.trace.specs.Text.{places, Valued, Fits}
 use Rattle.trace.proofs.OneText.{text-whole, written-read}
 use Rattle.trace.proofs.Range.{onward-length, room-fits}
 use Rattle.trace.proofs.ReadBack.{read-written}

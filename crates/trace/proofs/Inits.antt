@@ -18,7 +18,7 @@ use Rattle.frame.specs.Reading.{linesFault, settle}
 use Rattle.frame.proofs.Lines.{lines-stop, lines-go, lines-pass}
 use Rattle.record.specs.Record.{recordOf}
 use Rattle.record.specs.declared.Record.{Record}
-use Rattle.record.specs.declared.Record.the-variants.{Init, Line, Refused}
+use Rattle.record.specs.declared.Record.the-variants.{Init, AnEvent, Refused}
 use Rattle.record.proofs.Records.{blank, init-place}
 use Rattle.trace.specs.Fault.{eventFault}
 use Rattle.trace.specs.Reading.{SoFar, lineFault, afterLine, traceLayout, eventsIn, startIn, startFrom, readAs, refused}
@@ -38,7 +38,7 @@ quiet-line s l ls Refused e h g q cells = absurd (omega arith)
 quiet-line s l ls (Init p v) e h g q cells =
     let b : p < s .low = omega (arith, init-place l p v e) in
     absurd (let z : _≡_ {A = ℕ} 4 0 = rw (lt-ltb p (s .low) b) at h in omega arith)
-quiet-line s l ls (Line v) e h g q cells = rw (e, startIn) (g refl cells)
+quiet-line s l ls (AnEvent v) e h g q cells = rw (e, startIn) (g refl cells)
 
 quiet : (side k : ℕ) (ls : List (List ℕ)) → Some ls → linesFault traceLayout side k (closed 0) ls .number ≡ 0 → (cells : List ℕ) → startIn cells ls ≡ cells
 quiet side k ls o h =
@@ -74,7 +74,7 @@ module _ (side k low : ℕ) (m : Memory) where
     inits-refused h =
         inits-rest (l ∷ ps) tt (rw (lines-stop traceLayout side k opened l ps 2 s (rw h) refl, lines-stop traceLayout side k (closed 0) l ps 2 s (rw h) refl))
 
-    pub inits-event : (e : Event) → recordOf l ≡ Line e → surveyInits side k low m (l ∷ ps) ≡ surveyEvents side k m (l ∷ ps)
+    pub inits-event : (e : Event) → recordOf l ≡ AnEvent e → surveyInits side k low m (l ∷ ps) ≡ surveyEvents side k m (l ∷ ps)
     inits-event e h =
         inits-rest (l ∷ ps) tt (rw (lines-go traceLayout side k opened l ps s (rw h), lines-go traceLayout side k (closed 0) l ps s (rw h), h))
 

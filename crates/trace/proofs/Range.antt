@@ -12,11 +12,11 @@ use Rattle.event.specs.Room.{inRoom, eventAt, onward}
 use Rattle.event.specs.declared.Event.{Event}
 use Rattle.event.specs.declared.memory.Memory.{Memory}
 use Rattle.record.specs.Layout.{eventLine, initLine}
-use Rattle.record.specs.Record.{lastValue}
-use Rattle.record.proofs.Prints.{longestEvent, longestInit, event-length, init-length}
+use Rattle.record.specs.Record.{Fit, lastValue, longestEvent, longestInit}
+use Rattle.record.proofs.Prints.{event-length, init-length}
 use Rattle.trace.specs.Reading.{eventLimit}
 use Rattle.trace.specs.Writing.{layoutFault, textOf, initLines, traceText}
-use Rattle.trace.specs.Text.{places, Valued, Fit, Fits, longestText}
+use Rattle.trace.specs.Text.{places, Valued, Fits, longestText}
 use Rattle.trace.proofs.Judged.{layout-first}
 
 -- each line has an LF after it

@@ -19,15 +19,15 @@ use Rattle.text.specs.Line.{split, saidIn}
 use Rattle.text.proofs.Parts.{cut-part}
 use Rattle.text.proofs.Walk.{Some}
 use Rattle.record.specs.Layout.{header, eventLine, initLine}
-use Rattle.record.specs.Record.{recordOf}
+use Rattle.record.specs.Record.{Fit, recordOf}
 use Rattle.trace.specs.Fault.{eventFault}
 use Rattle.frame.specs.Reading.{linesFault}
 use Rattle.frame.proofs.Heads.{by-lines}
 use Rattle.frame.proofs.Lines.{lines-end, lines-go}
 use Rattle.trace.specs.Reading.{SoFar, traceLayout, eventsIn, startIn, readAs, faultOf, surveyOf, eventsOf, readOf, front, roomAfter}
 use Rattle.trace.specs.Writing.{textOf, initLines, traceText}
-use Rattle.trace.specs.Text.{Valued, Fit, Fits}
-use Rattle.record.specs.declared.Record.the-variants.{Init, Line}
+use Rattle.trace.specs.Text.{Valued, Fits}
+use Rattle.record.specs.declared.Record.the-variants.{Init, AnEvent}
 use Rattle.record.proofs.Layouts.{event-read, init-read}
 use Rattle.record.proofs.Prints.{event-no-lf, init-no-lf}
 use Rattle.trace.proofs.Range.{text-length}
@@ -46,7 +46,7 @@ some-after : (ls ts : List (List ℕ)) → Some ts → Some (ls ++ ts)
 some-after [] ts h = h
 some-after (l ∷ ls) ts h = tt
 
-fit-read : (e : Event) → Fit e → recordOf (eventLine e) ≡ Line e
+fit-read : (e : Event) → Fit e → recordOf (eventLine e) ≡ AnEvent e
 fit-read e h = event-read e h
 
 -- the lines of events are read without refusal, as the events, and leave the cells alone
@@ -71,7 +71,7 @@ pub start-init : (cells l : List ℕ) (ls : List (List ℕ)) (p v : ℕ) → rec
 unfolding startIn
 start-init cells l ls p v h = rw (h, startIn)
 
-pub start-event : (cells l : List ℕ) (ls : List (List ℕ)) (e : Event) → recordOf l ≡ Line e → startIn cells (l ∷ ls) ≡ startIn cells ls
+pub start-event : (cells l : List ℕ) (ls : List (List ℕ)) (e : Event) → recordOf l ≡ AnEvent e → startIn cells (l ∷ ls) ≡ startIn cells ls
 unfolding startIn
 start-event cells l ls e h = rw (h, startIn)
 

@@ -14,7 +14,7 @@ use Rattle.frame.specs.Store.{putAll}
 use Rattle.frame.proofs.Stores.{Puts, all-front}
 use Rattle.record.specs.Record.{recordOf}
 use Rattle.record.specs.declared.Record.{Record}
-use Rattle.record.specs.declared.Record.the-variants.{Init, Line, Refused}
+use Rattle.record.specs.declared.Record.the-variants.{Init, AnEvent, Refused}
 use Rattle.trace.specs.Reading.{eventsOn, front}
 
 pub keeps : (l : List ℕ) (i : ℕ) (e : Event) → length (putAt l i e) ≡ length l
@@ -45,7 +45,7 @@ says l = eventsOn (recordOf l)
 one-at-most : (r : Record) → length (eventsOn r) ≤ 1
 one-at-most Refused = omega arith
 one-at-most (Init p v) = omega arith
-one-at-most (Line e) = omega arith
+one-at-most (AnEvent e) = omega arith
 
 pub brief : (l : List ℕ) → length (says l) ≤ 1
 brief l = one-at-most (recordOf l)

@@ -18,7 +18,7 @@ use Rattle.text.proofs.Walk.{Some}
 use Rattle.frame.specs.Reading.{linesFault, settle}
 use Rattle.frame.proofs.Lines.{lines-open, lines-end, lines-stop, lines-go}
 use Rattle.record.specs.Record.{recordOf}
-use Rattle.record.specs.declared.Record.the-variants.{Init, Line, Refused}
+use Rattle.record.specs.declared.Record.the-variants.{Init, AnEvent, Refused}
 use Rattle.record.proofs.Records.{blank, init-place}
 use Rattle.trace.specs.Fault.{clashes, faultAt, eventFault}
 use Rattle.trace.specs.Reading.{traceLayout, eventsIn, refused, readAs}
@@ -70,7 +70,7 @@ module _ (side k n : ℕ) (m : Memory) (before : List Event) (found : Answer) (s
         let b : p < 256 = omega (arith, init-place l p v h) in
         on-refused (l ∷ ps) 4 refl (lines-stop traceLayout side k (closed n) l ps 4 s (rw (h, lt-ltb p 256 b)) refl)
 
-    module _ (e : Event) (h : recordOf l ≡ Line e) where
+    module _ (e : Event) (h : recordOf l ≡ AnEvent e) where
       pub on-full : 800 ≤ n → here (l ∷ ps) ≡ refused (answer 3 side k)
       on-full f = on-refused (l ∷ ps) 3 refl (lines-stop traceLayout side k (closed n) l ps 3 s (rw (h, le-leb 800 n f)) refl)
 

@@ -15,14 +15,14 @@ use Rattle.text.specs.Line.{saidIn}
 use Rattle.text.proofs.Walk.{Some}
 use Rattle.frame.specs.Reading.{linesFault}
 use Rattle.frame.proofs.Lines.{lines-pass}
-use Rattle.record.specs.Record.{recordOf}
+use Rattle.record.specs.Record.{Fit, recordOf}
 use Rattle.record.specs.declared.Record.{Record}
-use Rattle.record.specs.declared.Record.the-variants.{Init, Line, Refused}
+use Rattle.record.specs.declared.Record.the-variants.{Init, AnEvent, Refused}
 use Rattle.record.proofs.Layouts.{line-says, init-back}
 use Rattle.record.proofs.Records.{blank}
 use Rattle.trace.specs.Reading.{SoFar, lineFault, afterLine, traceLayout, eventsIn, startIn}
 use Rattle.trace.specs.Writing.{initLines}
-use Rattle.trace.specs.Text.{Valued, Fit}
+use Rattle.trace.specs.Text.{Valued}
 use Rattle.trace.proofs.ReadBack.{tail, start-init, start-event}
 
 -- what is so of every text that is read: cells and events within bounds
@@ -52,7 +52,7 @@ bounds-line s l ls (Init p x) e h g cells q v b =
     let d = g (set cells p x) (simp length-set q) (set-valued cells p x v (i .1 .1 .0)) b in
     let w = start-init cells l ls p x e in
     record { size = rw w (d .size); values = rw w (d .values); events = rw e (d .events); few = rw e (d .few) }
-bounds-line s l ls (Line x) e h g cells q v b =
+bounds-line s l ls (AnEvent x) e h g cells q v b =
     let f = leb-false 800 (s .events) (not-first (λ (y : ℕ). y) (leb 800 (s .events)) 3 0 (λ z. omega arith) h .0) in
     let d = g cells q v (omega (arith, f)) in
     let w = start-event cells l ls x e in
@@ -93,7 +93,7 @@ none-left : (l : List ℕ) → length l ≡ 0 → l ≡ []
 none-left [] h = refl
 none-left (x ∷ l) h = absurd (omega arith)
 
-start-first : (w : List ℕ) (n : ℕ) (l : List ℕ) (ls : List (List ℕ)) (e : Event) → recordOf l ≡ Line e
+start-first : (w : List ℕ) (n : ℕ) (l : List ℕ) (ls : List (List ℕ)) (e : Event) → recordOf l ≡ AnEvent e
     → Started (w ++ replicate n 0) 0 ls → Started w n (l ∷ ls)
 unfolding saidIn initLines
 start-first w n l ls e q b =
@@ -137,7 +137,7 @@ Prints s ls = (w : List ℕ) (n : ℕ) → length w ≡ s .low → length w + n 
 
 prints-line : (s : SoFar) (l : List ℕ) (ls : List (List ℕ)) (r : Record) → recordOf l ≡ r → lineFault s r ≡ 0 → Prints (afterLine s r) ls → Prints s (l ∷ ls)
 prints-line s l ls Refused e h g w n q b = absurd (omega arith)
-prints-line s l ls (Line v) e h g w n q b =
+prints-line s l ls (AnEvent v) e h g w n q b =
     let k : length (w ++ replicate n 0) ≡ 256 = simp (length-append, length-replicate) b in
     start-first w n l ls v e (g (w ++ replicate n 0) 0 k (omega arith))
 prints-line s l ls (Init p v) e h g w n q b =

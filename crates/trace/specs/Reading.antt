@@ -16,7 +16,7 @@ use Rattle.record.specs.Layout.{header}
 use Rattle.record.specs.Record.{recordOf}
 use Rattle.trace.specs.Fault.{eventFault}
 use Rattle.record.specs.declared.Record.{Record}
-use Rattle.record.specs.declared.Record.the-variants.{Init, Line, Refused}
+use Rattle.record.specs.declared.Record.the-variants.{Init, AnEvent, Refused}
 use Rattle.trace.specs.declared.reading.TraceRead.{TraceRead}
 
 -- The most events.
@@ -33,13 +33,13 @@ pub record SoFar : Type 0 where
 abbrev pub lineFault : SoFar → Record → ℕ
 lineFault s Refused = 2
 lineFault s (Init p v) = cond (ltb p (s .low)) 4 0
-lineFault s (Line e) = cond (leb eventLimit (s .events)) 3 0
+lineFault s (AnEvent e) = cond (leb eventLimit (s .events)) 3 0
 
 -- What is known after it.
 abbrev pub afterLine : SoFar → Record → SoFar
 afterLine s Refused = s
 afterLine s (Init p v) = record { low = p + 1; events = s .events }
-afterLine s (Line e) = record { low = 256; events = s .events + 1 }
+afterLine s (AnEvent e) = record { low = 256; events = s .events + 1 }
 
 -- The layout of a trace.
 abbrev pub traceLayout : Layout SoFar
@@ -55,7 +55,7 @@ traceLayout = record {
 abbrev pub eventsOn : Record → List Event
 eventsOn Refused = []
 eventsOn (Init p v) = []
-eventsOn (Line e) = e ∷ []
+eventsOn (AnEvent e) = e ∷ []
 
 abbrev pub eventsIn : List (List ℕ) → List Event
 eventsIn ls = saidIn (λ l. eventsOn (recordOf l)) ls
@@ -67,7 +67,7 @@ eventsOf t = eventsIn (body (split t))
 abbrev pub onInit : Record → List ℕ → List ℕ
 onInit Refused cells = cells
 onInit (Init p v) cells = set cells p v
-onInit (Line e) cells = cells
+onInit (AnEvent e) cells = cells
 
 unfoldable pub startIn : List ℕ → List (List ℕ) → List ℕ
 startIn cells [] = cells

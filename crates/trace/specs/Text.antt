@@ -1,16 +1,15 @@
 -- Document 01, "Trace text": which traces have a text (but for 5 and 6, which are asked of their events), and "The longest lawful trace text".
 -- Assumes nothing.
 use Prim.Native.Nat.{ℕ, suc, _+_, _*_, _≤_}
-use mathlib.Core.Bool.{true}
 use mathlib.Core.List.{List}
 use mathlib.Core.Path.{_≡_}
 use lib.ListN.{length}
 use Rattle.laws.specs.Each.{Each}
-use Rattle.event.specs.Kind.{lawful, lastPlace}
+use Rattle.event.specs.Kind.{lastPlace}
 use Rattle.event.specs.declared.Event.{Event}
 use Rattle.event.specs.declared.memory.Memory.{Memory}
 use Rattle.record.specs.Layout.{header}
-use Rattle.record.specs.Record.{lastValue}
+use Rattle.record.specs.Record.{Fit, lastValue, longestEvent, longestInit}
 use Rattle.trace.specs.Reading.{eventLimit}
 
 -- How many locations there are, each with its cell.
@@ -21,10 +20,6 @@ places = suc lastPlace
 abbrev pub Valued : List ℕ → Type 0
 Valued vs = Each (λ v. v ≤ lastValue) vs
 
--- An event of the layout, with values in range.
-abbrev pub Fit : Event → Type 0
-Fit e = (lawful e ≡ true) × ((e .first ≤ lastValue) × (e .second ≤ lastValue))
-
 -- A starting memory and events that have a text.
 pub record Fits (m : Memory) (es : List Event) : Type 0 where
   pub size : length (m .cells) ≡ places
@@ -34,4 +29,4 @@ pub record Fits (m : Memory) (es : List Event) : Type 0 where
 
 -- The longest text, 32,328 bytes: line 1, a starting value of 19 bytes for each location, and the most events, of 33 bytes, each with its LF.
 abbrev pub longestText : ℕ
-longestText = suc (length header) + places * suc 19 + eventLimit * suc 33
+longestText = suc (length header) + places * suc longestInit + eventLimit * suc longestEvent

@@ -77,7 +77,7 @@ fn survey_events(text: &[u8], from: usize, line: usize, side: Number, start: Mem
             Record::Init { place: _, value: _ } => {
                 return refusal(Answer::new(4, side, k));
             }
-            Record::Line(e) => e,
+            Record::AnEvent(e) => e,
         };
         if EVENT_LIMIT <= n {
             return refusal(Answer::new(3, side, k));
@@ -120,7 +120,7 @@ fn survey_lines(text: &[u8], from: usize, side: Number) -> TraceRead
             Record::Refused => {
                 return survey_events(text, at, k, side, start);
             }
-            Record::Line(_) => {
+            Record::AnEvent(_) => {
                 return survey_events(text, at, k, side, start);
             }
             Record::Init { place, value } => {
@@ -166,7 +166,7 @@ fn put_record(room: &mut [Word], i: usize, line: Record) -> usize
     ensures { λ r. ⌜ (r ≡ i + length (eventsOn line)) × (now (room .exit) ≡ putAll putAt (now (room .entry)) i (eventsOn line)) ⌝ }
 {
     match line {
-        Record::Line(e) => {
+        Record::AnEvent(e) => {
             put(room, i, e);
             i + 1
         }

@@ -19,7 +19,7 @@ use Rattle.text.proofs.Walk.{Next, next, last, rest-some, rest-none}
 use Rattle.frame.proofs.Settled.{first-done}
 use Rattle.record.specs.Record.{recordOf}
 use Rattle.record.specs.declared.Record.{Record}
-use Rattle.record.specs.declared.Record.the-variants.{Line}
+use Rattle.record.specs.declared.Record.the-variants.{AnEvent}
 use Rattle.record.proofs.Records.{line-lawful}
 use Rattle.trace.specs.Fault.{clashes, faultAt}
 use Rattle.trace.specs.Reading.{refused}
@@ -120,7 +120,7 @@ module _ (c : tie.After-e Inv-loop μ-loop) where
   abbrev event : Event
   event = c .e .given .0 .0
 
-  its : recordOf (this r) ≡ Line event
+  its : recordOf (this r) ≡ AnEvent event
   its = is r (c .e .given .1)
 
   inside : event .place < 256
