@@ -15,7 +15,7 @@ use Rattle.text.proofs.Walk.{Some}
 use Rattle.frame.specs.Reading.{linesFault, settle}
 use Rattle.frame.proofs.Lines.{lines-open, lines-end, lines-stop, lines-go}
 use Rattle.matching.specs.Entry.{entryOf}
-use Rattle.matching.specs.Reading.{matchingLayout, entriesIn, refused, readAs}
+use Rattle.matching.specs.Reading.{matchingLayout, entriesIn, refused, readAs, entryLimit}
 use Rattle.matching.specs.Survey.{surveyLines}
 use Rattle.matching.specs.declared.entry.EntryRead.the-variants.{Entry, Refused}
 
@@ -46,12 +46,12 @@ module _ (n : ℕ) (l : List ℕ) where
     pub read-refused : entryOf l ≡ Refused → surveyLines n (l ∷ ps) ≡ refused (answer 2 3 (n + 2))
     read-refused h = stop (l ∷ ps) 2 refl (lines-stop matchingLayout 3 (n + 2) n l ps 2 s (rw h) refl)
 
-    pub read-full : (e : ℕ) → entryOf l ≡ Entry e → 800 ≤ n → surveyLines n (l ∷ ps) ≡ refused (answer 3 3 (n + 2))
-    read-full e h f = stop (l ∷ ps) 3 refl (lines-stop matchingLayout 3 (n + 2) n l ps 3 s (rw (h, le-leb 800 n f)) refl)
+    pub read-full : (e : ℕ) → entryOf l ≡ Entry e → entryLimit ≤ n → surveyLines n (l ∷ ps) ≡ refused (answer 3 3 (n + 2))
+    read-full e h f = stop (l ∷ ps) 3 refl (lines-stop matchingLayout 3 (n + 2) n l ps 3 s (rw (h, le-leb entryLimit n f)) refl)
 
-    pub read-go : (e : ℕ) → entryOf l ≡ Entry e → n < 800 → surveyLines n (l ∷ ps) ≡ surveyLines (n + 1) ps
+    pub read-go : (e : ℕ) → entryOf l ≡ Entry e → n < entryLimit → surveyLines n (l ∷ ps) ≡ surveyLines (n + 1) ps
     unfolding surveyLines saidIn
     read-go e h f =
         let c : n + suc (length (entriesIn ps)) ≡ n + 1 + length (entriesIn ps) = omega arith in
         let k : n + 2 + 1 ≡ n + 1 + 2 = omega arith in
-        rw (lines-go matchingLayout 3 (n + 2) n l ps s (rw (h, lt-leb 800 n f)), h, c, k)
+        rw (lines-go matchingLayout 3 (n + 2) n l ps s (rw (h, lt-leb entryLimit n f)), h, c, k)

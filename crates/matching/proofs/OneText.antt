@@ -11,15 +11,15 @@ use Rattle.laws.proofs.Cases.{cases, either, not-first}
 use Rattle.laws.specs.Each.{Each}
 use Rattle.laws.proofs.Lists.{Free}
 use Rattle.text.specs.Cut.{glue}
-use Rattle.text.specs.Line.{split, body, saidIn}
+use Rattle.text.specs.Line.{split, body, saidIn, textLimit}
 use Rattle.text.proofs.Decimals.{length-below}
 use Rattle.text.proofs.Parts.{cut-glue, glue-cut}
 use Rattle.text.proofs.Round.{decimal-no-lf}
 use Rattle.text.proofs.Walk.{Some}
 use Rattle.frame.proofs.Heads.{framed, by-lines}
 use Rattle.frame.proofs.Lines.{lines-pass}
-use Rattle.matching.specs.Entry.{header, entryOf, entryLine}
-use Rattle.matching.specs.Reading.{matchingLayout, entryFault, entriesIn, readAs, surveyOf, entriesOf}
+use Rattle.matching.specs.Entry.{header, entryOf, entryLine, lastNumber}
+use Rattle.matching.specs.Reading.{matchingLayout, entryFault, entriesIn, readAs, surveyOf, entriesOf, entryLimit}
 use Rattle.matching.specs.Survey.{surveyLines}
 use Rattle.matching.specs.Text.{matchText, Fits}
 use Rattle.matching.specs.declared.entry.EntryRead.{EntryRead}
@@ -34,7 +34,7 @@ tail es = map entryLine es ++ ([] ∷ [])
 
 -- lines that are those of their entries, which fit behind n others
 abbrev Printed : ℕ → List (List ℕ) → Type 0
-Printed n ls = n ≤ 800 → (ls ≡ tail (entriesIn ls)) × ((n + length (entriesIn ls) ≤ 800) × Each (λ e. e ≤ 800) (entriesIn ls))
+Printed n ls = n ≤ entryLimit → (ls ≡ tail (entriesIn ls)) × ((n + length (entriesIn ls) ≤ entryLimit) × Each (λ e. e ≤ lastNumber) (entriesIn ls))
 
 last-printed : (n : ℕ) → Printed n ([] ∷ [])
 unfolding saidIn
@@ -44,7 +44,7 @@ line-printed : (n : ℕ) (l : List ℕ) (ls : List (List ℕ)) (r : EntryRead) �
 unfolding saidIn
 line-printed n l ls Refused q h g b = absurd (omega arith)
 line-printed n l ls (Entry e) q h g b =
-    let f = leb-false 800 n (not-first (λ (x : ℕ). x) (leb 800 n) 3 0 (λ z. omega arith) h .0) in
+    let f = leb-false entryLimit n (not-first (λ (x : ℕ). x) (leb entryLimit n) 3 0 (λ z. omega arith) h .0) in
     let p = g (omega (arith, f)) in
     let s = entry-back l e q in
     (rw (q, ← s .0, ← p .0), rw q (omega (arith, p .1 .0), (s .1, p .1 .1)))
@@ -70,13 +70,13 @@ some-end : (es : List ℕ) → Some (tail es)
 some-end [] = tt
 some-end (e ∷ es) = tt
 
-tail-lines : (n : ℕ) (es : List ℕ) → n + length es ≤ 800 → Each (λ e. e ≤ 800) es → surveyLines n (tail es) ≡ readAs (n + length es)
+tail-lines : (n : ℕ) (es : List ℕ) → n + length es ≤ entryLimit → Each (λ e. e ≤ lastNumber) es → surveyLines n (tail es) ≡ readAs (n + length es)
 tail-lines n [] b h = let z : n + 0 ≡ n = omega arith in rw z (read-end n [] refl refl)
 tail-lines n (e ∷ es) b h =
     let z : n + suc (length es) ≡ n + 1 + length es = omega arith in
     read-go n (entryLine e) (tail es) (some-end es) e (entry-read e (h .0)) (omega arith) ∙ rw z (tail-lines (n + 1) es (omega arith) (h .1))
 
-tail-entries : (es : List ℕ) → Each (λ e. e ≤ 800) es → entriesIn (tail es) ≡ es
+tail-entries : (es : List ℕ) → Each (λ e. e ≤ lastNumber) es → entriesIn (tail es) ≡ es
 unfolding saidIn
 tail-entries [] h = rw blank
 tail-entries (e ∷ es) h = rw (entry-read e (h .0), tail-entries es (h .1))
@@ -93,11 +93,11 @@ tail-free : (es : List ℕ) → Each (Free 10) (tail es)
 tail-free [] = (tt, tt)
 tail-free (e ∷ es) = (line-free e, tail-free es)
 
-line-length : (n : ℕ) → n ≤ 800 → length (entryLine n) ≤ 8
+line-length : (n : ℕ) → n ≤ lastNumber → length (entryLine n) ≤ 8
 unfolding entryLine glue
 line-length n h = cases (either (eqb n 0)) (λ e. rw e (omega arith)) (λ e. rw e (omega (arith, length-below 2 n (omega arith))))
 
-tail-length : (p : List ℕ) (es : List ℕ) → Each (λ e. e ≤ 800) es → length (glue 10 (p ∷ tail es)) ≤ length p + 1 + length es * 9
+tail-length : (p : List ℕ) (es : List ℕ) → Each (λ e. e ≤ lastNumber) es → length (glue 10 (p ∷ tail es)) ≤ length p + 1 + length es * 9
 unfolding glue
 tail-length p [] h = omega (arith, length-append p (10 ∷ []))
 tail-length p (e ∷ es) h =
@@ -112,7 +112,7 @@ header-free = (
 pub text-read : (es : List ℕ) → Fits es → (surveyOf (matchText es) ≡ readAs (length es)) × (entriesOf (matchText es) ≡ es)
 unfolding surveyOf entriesOf
 text-read es f =
-    let short : length (matchText es) ≤ 32400 = omega (arith, tail-length header es (f .numbers), f .few) in
+    let short : length (matchText es) ≤ textLimit = omega (arith, tail-length header es (f .numbers), f .few) in
     let q : split (matchText es) ≡ header ∷ tail es = cut-glue 10 header (tail es) (header-free, tail-free es) in
     let z : 0 + length es ≡ length es = omega arith in
     let l = tail-lines 0 es (omega (arith, f .few)) (f .numbers) in (

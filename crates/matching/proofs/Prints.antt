@@ -30,7 +30,7 @@ word-free = (
 
 -- Document 01, "Matching text": "one line per source event: `keep` and a target event number (1 to 800), or `gone`." An entry's line is read
 -- as the entry.
-pub entry-read : (n : ℕ) → n ≤ 800 → entryOf (entryLine n) ≡ Entry n
+pub entry-read : (n : ℕ) → n ≤ lastNumber → entryOf (entryLine n) ≡ Entry n
 unfolding entryOf entryLine goneRest keepRest same
 entry-read n h =
     cases (either (eqb n 0)) (λ e. rw (e, eqb-true n 0 e, cut-free 9 goneWord (word-free .1 .0)))
@@ -38,7 +38,7 @@ entry-read n h =
 
 -- what an entry that was read says of the fields
 abbrev Says : List (List ℕ) → EntryRead → Type 0
-Says fs (Entry n) = (join fs ≡ entryLine n) × (n ≤ 800)
+Says fs (Entry n) = (join fs ≡ entryLine n) × (n ≤ lastNumber)
 Says fs Refused = Unit {0}
 
 gone-says : (fs : List (List ℕ)) → Says (goneWord ∷ fs) (goneRest fs)
@@ -72,7 +72,7 @@ fields-say (w ∷ fs) =
     (cases (either (same w keepWord)) (λ k. rw (k, same-eq w keepWord k) (keep-says fs)) (λ k. rw k tt)))
 
 -- A line that is read as an entry is the entry's line.
-pub entry-back : (l : List ℕ) (n : ℕ) → entryOf l ≡ Entry n → (l ≡ entryLine n) × (n ≤ 800)
+pub entry-back : (l : List ℕ) (n : ℕ) → entryOf l ≡ Entry n → (l ≡ entryLine n) × (n ≤ lastNumber)
 unfolding entryOf
 entry-back l n h =
     let s : Says (fields l) (Entry n) = rw h at (fields-say (fields l)) in

@@ -15,7 +15,7 @@ use Rattle.event.specs.Memory.{empty}
 use Rattle.event.specs.declared.Event.{Event}
 use Rattle.event.specs.declared.memory.Memory.{Memory}
 use Rattle.text.specs.Cut.{cut}
-use Rattle.text.specs.Line.{split, saidIn}
+use Rattle.text.specs.Line.{split, saidIn, textLimit}
 use Rattle.text.proofs.Parts.{cut-part}
 use Rattle.text.proofs.Walk.{Some}
 use Rattle.record.specs.Layout.{header, eventLine, initLine}
@@ -24,7 +24,7 @@ use Rattle.trace.specs.Fault.{eventFault}
 use Rattle.frame.specs.Reading.{linesFault}
 use Rattle.frame.proofs.Heads.{by-lines}
 use Rattle.frame.proofs.Lines.{lines-end, lines-go}
-use Rattle.trace.specs.Reading.{SoFar, traceLayout, eventsIn, startIn, readAs, faultOf, surveyOf, eventsOf, readOf, front, roomAfter}
+use Rattle.trace.specs.Reading.{SoFar, traceLayout, eventsIn, startIn, readAs, faultOf, surveyOf, eventsOf, readOf, front, roomAfter, eventLimit}
 use Rattle.trace.specs.Writing.{textOf, initLines, traceText}
 use Rattle.trace.specs.Text.{Valued, Fits}
 use Rattle.record.specs.declared.Record.the-variants.{Init, AnEvent}
@@ -50,11 +50,11 @@ fit-read : (e : Event) → Fit e → recordOf (eventLine e) ≡ AnEvent e
 fit-read e h = event-read e h
 
 -- the lines of events are read without refusal, as the events, and leave the cells alone
-tail-lines : (side k : ℕ) (s : SoFar) (es : List Event) → s .events + length es ≤ 800 → Each Fit es → linesFault traceLayout side k s (tail es) ≡ done
+tail-lines : (side k : ℕ) (s : SoFar) (es : List Event) → s .events + length es ≤ eventLimit → Each Fit es → linesFault traceLayout side k s (tail es) ≡ done
 tail-lines side k s [] b h = lines-end traceLayout side k s [] refl
 tail-lines side k s (e ∷ es) b h =
     let q = fit-read e (h .0) in
-    lines-go traceLayout side k s (eventLine e) (tail es) (some-end (map eventLine es)) (rw (q, lt-leb 800 (s .events) (omega arith)))
+    lines-go traceLayout side k s (eventLine e) (tail es) (some-end (map eventLine es)) (rw (q, lt-leb eventLimit (s .events) (omega arith)))
     ∙ rw q (tail-lines side (k + 1) (record { low = 256; events = s .events + 1 }) es (omega arith) (h .1))
 
 tail-events : (es : List Event) → Each Fit es → eventsIn (tail es) ≡ es
@@ -162,7 +162,7 @@ module _ (side : ℕ) (m : Memory) (es : List Event) (f : Fits m es) where
       → (surveyOf side (traceText m es) ≡ readAs (length es) m) × (eventsOf (traceText m es) ≡ es)
   unfolding surveyOf faultOf eventsOf
   read-written h =
-      let short : length (traceText m es) ≤ 32400 = omega (arith, text-length m es f) in
+      let short : length (traceText m es) ≤ textLimit = omega (arith, text-length m es f) in
       let p = text-parts m es in
       let ls : List (List ℕ) = initLines 0 (m .cells) ++ tail es in
       let t = by-lines traceLayout side (traceText m es) ls short p (some-after (initLines 0 (m .cells)) (tail es) (some-end (map eventLine es))) in

@@ -21,7 +21,7 @@ use Rattle.record.specs.Record.{recordOf}
 use Rattle.record.specs.declared.Record.the-variants.{Init, AnEvent, Refused}
 use Rattle.record.proofs.Records.{blank, init-place}
 use Rattle.trace.specs.Fault.{clashes, faultAt, eventFault}
-use Rattle.trace.specs.Reading.{traceLayout, eventsIn, refused, readAs}
+use Rattle.trace.specs.Reading.{traceLayout, eventsIn, refused, readAs, eventLimit}
 use Rattle.trace.specs.Survey.{closed, surveyEvents}
 use Rattle.trace.specs.declared.reading.TraceRead.{TraceRead}
 use Rattle.trace.proofs.Judged.{fault-next, fault-end, first-assoc, first-same, others-fault}
@@ -71,11 +71,11 @@ module _ (side k n : ℕ) (m : Memory) (before : List Event) (found : Answer) (s
         on-refused (l ∷ ps) 4 refl (lines-stop traceLayout side k (closed n) l ps 4 s (rw (h, lt-ltb p 256 b)) refl)
 
     module _ (e : Event) (h : recordOf l ≡ AnEvent e) where
-      pub on-full : 800 ≤ n → here (l ∷ ps) ≡ refused (answer 3 side k)
-      on-full f = on-refused (l ∷ ps) 3 refl (lines-stop traceLayout side k (closed n) l ps 3 s (rw (h, le-leb 800 n f)) refl)
+      pub on-full : eventLimit ≤ n → here (l ∷ ps) ≡ refused (answer 3 side k)
+      on-full f = on-refused (l ∷ ps) 3 refl (lines-stop traceLayout side k (closed n) l ps 3 s (rw (h, le-leb eventLimit n f)) refl)
 
       -- an event, whether it clashes and whether its value is the latest being asked only where nothing was found before
-      pub on-go : n < 800 → (clash : Bool) → (found .number ≡ 0 → clash ≡ clashes before e)
+      pub on-go : n < eventLimit → (clash : Bool) → (found .number ≡ 0 → clash ≡ clashes before e)
           → here (l ∷ ps)
           ≡ surveyOn side (k + 1) (n + 1) (stepped m e .memory) (e ∷ before) (first found (faultAt side (n + 1) clash (stepped m e .right))) start ps
       unfolding surveyOn saidIn
@@ -85,5 +85,5 @@ module _ (side k n : ℕ) (m : Memory) (before : List Event) (found : Answer) (s
           let b : Answer = faultAt side (n + 1) (clashes before e) (stepped m e .right) in
           let w : first found a ≡ first found b = first-same found a b (λ z. rw (q z)) in
           let o : Answer = others-fault side (n + 1) m before e (eventsIn ps) in
-          let g = lines-go traceLayout side k (closed n) l ps s (rw (h, lt-leb 800 n f)) in
+          let g = lines-go traceLayout side k (closed n) l ps s (rw (h, lt-leb eventLimit n f)) in
           rw (g, h, c, fault-next side (n + 1) m before e (eventsIn ps), first-assoc found b o, w)

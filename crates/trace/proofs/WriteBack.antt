@@ -15,12 +15,12 @@ use Rattle.text.specs.Line.{saidIn}
 use Rattle.text.proofs.Walk.{Some}
 use Rattle.frame.specs.Reading.{linesFault}
 use Rattle.frame.proofs.Lines.{lines-pass}
-use Rattle.record.specs.Record.{Fit, recordOf}
+use Rattle.record.specs.Record.{Fit, recordOf, lastValue}
 use Rattle.record.specs.declared.Record.{Record}
 use Rattle.record.specs.declared.Record.the-variants.{Init, AnEvent, Refused}
 use Rattle.record.proofs.Layouts.{line-says, init-back}
 use Rattle.record.proofs.Records.{blank}
-use Rattle.trace.specs.Reading.{SoFar, lineFault, afterLine, traceLayout, eventsIn, startIn}
+use Rattle.trace.specs.Reading.{SoFar, lineFault, afterLine, traceLayout, eventsIn, startIn, eventLimit}
 use Rattle.trace.specs.Writing.{initLines}
 use Rattle.trace.specs.Text.{Valued}
 use Rattle.trace.proofs.ReadBack.{tail, start-init, start-event}
@@ -30,16 +30,16 @@ pub record Bounded (n : ℕ) (cells : List ℕ) (ls : List (List ℕ)) : Type 0 
   pub size : length (startIn cells ls) ≡ 256
   pub values : Valued (startIn cells ls)
   pub events : Each Fit (eventsIn ls)
-  pub few : n + length (eventsIn ls) ≤ 800
+  pub few : n + length (eventsIn ls) ≤ eventLimit
 
 abbrev Bounds : SoFar → List (List ℕ) → Type 0
-Bounds s ls = (cells : List ℕ) → length cells ≡ 256 → Valued cells → s .events ≤ 800 → Bounded (s .events) cells ls
+Bounds s ls = (cells : List ℕ) → length cells ≡ 256 → Valued cells → s .events ≤ eventLimit → Bounded (s .events) cells ls
 
 bounds-end : (s : SoFar) → Bounds s ([] ∷ [])
 unfolding saidIn startIn
 bounds-end s cells q h b = record { size = rw blank q; values = rw blank h; events = rw blank tt; few = rw blank (omega arith) }
 
-set-valued : (cells : List ℕ) (p v : ℕ) → Valued cells → v ≤ 4294967295 → Valued (set cells p v)
+set-valued : (cells : List ℕ) (p v : ℕ) → Valued cells → v ≤ lastValue → Valued (set cells p v)
 set-valued [] p v h k = tt
 set-valued (c ∷ cells) zero v h k = (k, h .1)
 set-valued (c ∷ cells) (suc p) v h k = (h .0, set-valued cells p v (h .1) k)
@@ -53,7 +53,7 @@ bounds-line s l ls (Init p x) e h g cells q v b =
     let w = start-init cells l ls p x e in
     record { size = rw w (d .size); values = rw w (d .values); events = rw e (d .events); few = rw e (d .few) }
 bounds-line s l ls (AnEvent x) e h g cells q v b =
-    let f = leb-false 800 (s .events) (not-first (λ (y : ℕ). y) (leb 800 (s .events)) 3 0 (λ z. omega arith) h .0) in
+    let f = leb-false eventLimit (s .events) (not-first (λ (y : ℕ). y) (leb eventLimit (s .events)) 3 0 (λ z. omega arith) h .0) in
     let d = g cells q v (omega (arith, f)) in
     let w = start-event cells l ls x e in
     record { size = rw w (d .size); values = rw w (d .values); events = rw e (line-says l x e .1, d .events); few = rw e (omega (arith, d .few)) }
