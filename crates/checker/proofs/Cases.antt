@@ -6,7 +6,7 @@ use Rattle.event.specs.Kind.{row, takes, lawful}
 use Rattle.event.specs.Memory.{stepped, after, latest}
 use Rattle.text.specs.Cut.{cut}
 use Rattle.text.specs.Number.{allDigits, valueOn, digitsOn, numberOf}
-use Rattle.text.specs.Word.{bytes, same}
+use Rattle.text.specs.Word.{bytes, sameBytes}
 use Rattle.record.specs.Layout.{numberIn}
 use Rattle.record.specs.Record.{numberIf, orderIf, eventRest, initRest, recordOf}
 use Rattle.trace.specs.Fault.{uses, eventFault}
@@ -24,7 +24,7 @@ pub P1-to-P12 : all-hold table ≡ true
 unfolding checkOf readingAnswer verdictOf verdict startAnswer countAnswer entryAnswer sourceAnswer targetAnswer readOf surveyOf
     faultOf textFault headFault linesFault saidIn startIn eventsOf eventFault uses recordOf eventRest initRest
     numberIf orderIf numberIn matchingRead matchingSurvey entriesOf
-    entryOf keepRest goneRest numberOf digitsOn valueOn allDigits cut same stepped after latest lawful takes row
+    entryOf keepRest goneRest numberOf digitsOn valueOn allDigits cut sameBytes stepped after latest lawful takes row
 P1-to-P12 = refl
 
 -- The line that the program prints for P10.
@@ -32,5 +32,5 @@ pub P10-line :
     offendingLine (bytes "trace\t1\nstore\t1\t5\nunlock\t0\n") (bytes "trace\t1\nunlock\t0\nstore\t1\t5\n") (answer 12 1 2)
     ≡ bytes "unlock\t0"
 unfolding offendingLine faultSide lineOf nthLine counted recordOf eventRest initRest numberIf orderIf numberIn numberOf
-    digitsOn valueOn allDigits cut same lawful takes row
+    digitsOn valueOn allDigits cut sameBytes lawful takes row
 P10-line = refl

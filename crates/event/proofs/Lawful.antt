@@ -6,7 +6,7 @@ use native.Mathlib.Omega.{arith}
 use lib.Dec.{leb, eqb}
 use borrow.Author.Tests.{leb-true, eqb-true}
 use Rattle.laws.proofs.Bools.{and-left, and-right}
-use Rattle.event.specs.Kind.{row, takes, fitsPlace, fitsValues, fields, lawful}
+use Rattle.event.specs.Kind.{row, takes, fitsPlace, fitsValues, uncoded, lawful}
 use Rattle.event.specs.declared.Event.{Event}
 use Rattle.event.specs.declared.kind.Place.{Place}
 use Rattle.event.specs.declared.kind.Place.the-variants.{Location, Mutex, Nowhere}
@@ -47,7 +47,7 @@ apart true false c x = refl
 apart false b c x = refl
 
 pub coded :
-    (e : Event) → lawful e ≡ (lawful (fields (e .kind) (e .place) (e .order) (e .first) (e .second)) && eqb (e .code) 0)
+    (e : Event) → lawful e ≡ (lawful (uncoded (e .kind) (e .place) (e .order) (e .first) (e .second)) && eqb (e .code) 0)
 unfolding lawful
 coded e =
     apart (takes (row (e .kind) .orders) (e .order)) (fitsPlace (row (e .kind) .place) (e .place))

@@ -97,8 +97,8 @@ abbrev pub fitsValues : ℕ → ℕ → ℕ → Bool
 fitsValues n a b = (leb 1 n || eqb a 0) && (leb 2 n || eqb b 0)
 
 -- the event of some fields, which has no code line
-abbrev pub fields : ℕ → ℕ → ℕ → ℕ → ℕ → Event
-fields kind place order first second =
+abbrev pub uncoded : ℕ → ℕ → ℕ → ℕ → ℕ → Event
+uncoded kind place order first second =
     record { kind = kind; place = place; order = order; first = first; second = second; code = 0 }
 
 -- an event of the layout, form 1: an order of its kind, a place in range, no value that its kind lacks, and no code line

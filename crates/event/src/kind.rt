@@ -1,7 +1,7 @@
 // The fixed table: a kind's number decides all that a kind is, its orders, its place, its values, whether it reads, what it sets and
 // whether it synchronises.
 ghost use mathlib.Core.Path.{_≡_};
-ghost use Rattle.event.specs.Kind.{accessRow, barrierRow, noKind, row, has, takes, fitsPlace, fitsValues, fields, lawful, isMarks, isLoadKind, isLocation, plain};
+ghost use Rattle.event.specs.Kind.{accessRow, barrierRow, noKind, row, has, takes, fitsPlace, fitsValues, uncoded, lawful, isMarks, isLoadKind, isLocation, plain};
 use crate::Event;
 use crate::Word;
 
@@ -178,7 +178,7 @@ fn fits_values(values: Word, first: Word, second: Word) -> bool
 
 // Whether a place, an order and values are those of a kind.
 pub fn suits(kind: Word, place: Word, order: Word, first: Word, second: Word) -> bool
-    ensures { λ r. ⌜ r ≡ lawful (fields kind place order first second) ⌝ }
+    ensures { λ r. ⌜ r ≡ lawful (uncoded kind place order first second) ⌝ }
 {
     let row = row_of(kind);
     let orders = row.orders;

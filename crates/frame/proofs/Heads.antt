@@ -14,7 +14,7 @@ use Rattle.event.specs.Answer.{answer, done}
 use Rattle.event.specs.declared.Answer.{Answer}
 use Rattle.frame.proofs.Settled.{first-done}
 use Rattle.text.specs.Line.{lineLen, lineAt, split, splitFrom, body}
-use Rattle.text.specs.Word.{same}
+use Rattle.text.specs.Word.{sameBytes}
 use Rattle.text.specs.declared.line.LineStep.the-variants.{Line, TextEnd}
 use Rattle.text.proofs.Cuts.{from-start, from-out, cut-eq, until-le}
 use Rattle.text.proofs.Walk.{Some, next, last, body-from}
@@ -22,11 +22,11 @@ use Rattle.text.proofs.Words.{same-eq, same-self}
 use Rattle.frame.specs.Reading.{Layout, headed, headFault, linesFault, textFault}
 
 -- by line 1 and the parts after it
-head-some : (header l : List ℕ) (ps : List (List ℕ)) → Some ps → headed header (l ∷ ps) ≡ same l header
+head-some : (header l : List ℕ) (ps : List (List ℕ)) → Some ps → headed header (l ∷ ps) ≡ sameBytes l header
 head-some header l [] s = absurd s
 head-some header l (p ∷ ps) s = refl
 
-pub head-line : (header t : List ℕ) (to : ℕ) → lineAt t 0 ≡ Line to → headed header (split t) ≡ same (take (to - 0) (drop 0 t)) header
+pub head-line : (header t : List ℕ) (to : ℕ) → lineAt t 0 ≡ Line to → headed header (split t) ≡ sameBytes (take (to - 0) (drop 0 t)) header
 head-line header t to e =
     let n = next t 0 to e in
     rw (sym (from-start 10 t) ∙ n .parts) (head-some header (take (to - 0) (drop 0 t)) (splitFrom t (to + 1)) (n .some))

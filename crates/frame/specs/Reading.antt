@@ -9,7 +9,7 @@ use Rattle.event.specs.Answer.{answer, done, first}
 use Rattle.event.specs.declared.Answer.{Answer}
 use Rattle.text.specs.Cut.{isEmpty}
 use Rattle.text.specs.Line.{split, body}
-use Rattle.text.specs.Word.{same}
+use Rattle.text.specs.Word.{sameBytes}
 
 -- A layout of texts: its limit in bytes, its line 1, what is known before line 2 (an S), and, by what is known, a line's refusal (0 for none) and what
 -- is known after it.
@@ -24,7 +24,7 @@ pub record Layout (S : Type 0) : Type 0 where
 abbrev pub headed : List ℕ → List (List ℕ) → Bool
 headed header [] = false
 headed header (l ∷ []) = false
-headed header (l ∷ m ∷ ls) = same l header
+headed header (l ∷ m ∷ ls) = sameBytes l header
 
 -- 1, and 2 at line 1.
 unfoldable pub headFault : ℕ → ℕ → List ℕ → List ℕ → Answer

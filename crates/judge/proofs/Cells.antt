@@ -9,7 +9,7 @@ use Rattle.event.specs.declared.Event.{Event}
 use Rattle.rules.specs.Fault.{Item, closing, fate, group, is, isNone, item, near, stays, unsupported, witness}
 use Rattle.rules.specs.View.{View, load, store, isLoad, isWall}
 use Rattle.rules.specs.Verdict.{keepFault, removalFault, sourceFault}
-use Rattle.judge.specs.Pass.{eventFault, goneFault, keepFaultBy, removalFaultBy, unsupportedBy}
+use Rattle.judge.specs.Pass.{sourceFaultBy, goneFault, keepFaultBy, removalFaultBy, unsupportedBy}
 use Rattle.judge.specs.declared.source.Cell.{Cell}
 use Rattle.judge.specs.declared.source.Tops.{Tops}
 use Rattle.judge.proofs.Passes.{any, crossed-gone, crossed-plain, crossed-wall, isAt, plain-load, plain-store, topBy}
@@ -44,7 +44,7 @@ module _ (t : List Event) (e : Event) (b a : List Item) (c : Cell) (o : Option �
   removal-at (suc n) s r = refl
 
   pub fault-at : {v : View} {p x : ℕ} {u : Bool} (n : ℕ) → Sees v p x u → Right b a p c o s
-      → sourceFault t b e (item v (fate n)) a ≡ eventFault t e v n c o s
+      → sourceFault t b e (item v (fate n)) a ≡ sourceFaultBy t e v n c o s
   fault-at n s r = rw (keep-at n s r, removal-at n s r)
 
 -- what a gone event shows, by what is seen of it

@@ -90,5 +90,5 @@ abbrev pub removalFaultBy : View → ℕ → Cell → Option ℕ → ℕ
 removalFaultBy v n c o = cond (isGone n) (goneFault v c o) 0
 
 -- 10 to 14 of a source event, or 0
-abbrev pub eventFault : List Event → Event → View → ℕ → Cell → Option ℕ → Tops → ℕ
-eventFault t e v n c o s = firstFault (keepFaultBy t e v n s) (removalFaultBy v n c o)
+abbrev pub sourceFaultBy : List Event → Event → View → ℕ → Cell → Option ℕ → Tops → ℕ
+sourceFaultBy t e v n c o s = firstFault (keepFaultBy t e v n s) (removalFaultBy v n c o)

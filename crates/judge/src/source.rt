@@ -9,7 +9,7 @@ ghost use Rattle.event.specs.Room.{Placed, wholeEvents};
 ghost use Rattle.rules.specs.View.{view};
 ghost use Rattle.rules.specs.Fault.{fate, is, isGone, unlike};
 ghost use Rattle.rules.specs.Verdict.{sourceAnswer};
-ghost use Rattle.judge.specs.Pass.{Flagged, cellOf, closingAfter, crossedBy, eventFault, goneFault, keepFaultBy, removalFaultBy, takesOver, topAfter, topsOf, witnessOf, witnessed};
+ghost use Rattle.judge.specs.Pass.{Flagged, cellOf, closingAfter, crossedBy, sourceFaultBy, goneFault, keepFaultBy, removalFaultBy, takesOver, topAfter, topsOf, witnessOf, witnessed};
 use crate::entries::is_gone;
 use crate::view::both;
 use crate::view::is_load;
@@ -217,7 +217,7 @@ fn event_fault(
     witness: Witness,
     tops: Tops,
 ) -> Number
-    ensures { λ r. ⌜ r ≡ eventFault (wholeEvents (now (target .entry))) e (view e) n cell (witnessed witness) tops ⌝ }
+    ensures { λ r. ⌜ r ≡ sourceFaultBy (wholeEvents (now (target .entry))) e (view e) n cell (witnessed witness) tops ⌝ }
 {
     let fault = keep_fault(target, e, n, tops);
     if fault != 0 {

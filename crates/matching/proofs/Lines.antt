@@ -10,7 +10,7 @@ use borrow.Author.Tests.{le-leb, lt-leb}
 use Rattle.event.specs.Answer.{answer}
 use Rattle.text.specs.Cut.{cut, isEmpty}
 use Rattle.text.specs.Line.{saidIn}
-use Rattle.text.specs.Word.{same}
+use Rattle.text.specs.Word.{sameBytes}
 use Rattle.text.proofs.Walk.{Some}
 use Rattle.frame.specs.Reading.{linesFault, settle}
 use Rattle.frame.proofs.Lines.{lines-open, lines-end, lines-stop, lines-go}
@@ -21,7 +21,7 @@ use Rattle.matching.specs.declared.entry.EntryRead.the-variants.{Entry, 
 
 -- an empty line is no entry
 pub blank : entryOf [] ≡ Refused
-unfolding entryOf cut same
+unfolding entryOf cut sameBytes
 blank = refl
 
 -- all lines

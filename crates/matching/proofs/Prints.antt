@@ -12,7 +12,7 @@ use Rattle.laws.proofs.Lists.{Each, Free}
 use Rattle.text.specs.Cut.{glue}
 use Rattle.text.specs.Field.{fields, join, onEnd, onField}
 use Rattle.text.specs.Number.{decimal, numberOf, onNumber}
-use Rattle.text.specs.Word.{same}
+use Rattle.text.specs.Word.{sameBytes}
 use Rattle.text.specs.declared.number.NumberRead.{NumberRead}
 use Rattle.text.specs.declared.number.NumberRead.the-variants.{Value, Malformed}
 use Rattle.text.proofs.Parts.{cut-free, cut-glue, glue-cut}
@@ -31,7 +31,7 @@ word-free = (
 -- Document 01, "Matching text": "one line per source event: `keep` and a target event number (1 to 800), or `gone`." An entry's line is read
 -- as the entry.
 pub entry-read : (n : ℕ) → n ≤ lastNumber → entryOf (entryLine n) ≡ Entry n
-unfolding entryOf entryLine goneRest keepRest same
+unfolding entryOf entryLine goneRest keepRest sameBytes
 entry-read n h =
     cases (either (eqb n 0)) (λ e. rw (e, eqb-true n 0 e, cut-free 9 goneWord (word-free .1 .0)))
     (λ e. rw (e, cut-glue 9 keepWord (decimal n ∷ []) (word-free .0, (decimal-no-tab n, tt)), round lastNumber n h, e))
@@ -64,12 +64,12 @@ keep-says [] = tt
 keep-says (f ∷ fs) = keep-number f fs (numberOf lastNumber f) refl
 
 fields-say : (fs : List (List ℕ))
-    → Says fs (onField Refused fs (λ word rest. cond (same word goneWord) (goneRest rest) (cond (same word keepWord) (keepRest rest) Refused)))
+    → Says fs (onField Refused fs (λ word rest. cond (sameBytes word goneWord) (goneRest rest) (cond (sameBytes word keepWord) (keepRest rest) Refused)))
 fields-say [] = tt
 fields-say (w ∷ fs) =
-    cases (either (same w goneWord)) (λ e. rw (e, same-eq w goneWord e) (gone-says fs))
+    cases (either (sameBytes w goneWord)) (λ e. rw (e, same-eq w goneWord e) (gone-says fs))
     (λ e. rw e
-    (cases (either (same w keepWord)) (λ k. rw (k, same-eq w keepWord k) (keep-says fs)) (λ k. rw k tt)))
+    (cases (either (sameBytes w keepWord)) (λ k. rw (k, same-eq w keepWord k) (keep-says fs)) (λ k. rw k tt)))
 
 -- A line that is read as an entry is the entry's line.
 pub entry-back : (l : List ℕ) (n : ℕ) → entryOf l ≡ Entry n → (l ≡ entryLine n) × (n ≤ lastNumber)

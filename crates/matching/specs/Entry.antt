@@ -5,7 +5,7 @@ use mathlib.Core.List.{List, [], _∷_}
 use lib.Dec.{eqb}
 use Rattle.text.specs.Field.{fields, onField, onEnd, join}
 use Rattle.text.specs.Number.{numberOf, onNumber, decimal}
-use Rattle.text.specs.Word.{bytes, same}
+use Rattle.text.specs.Word.{bytes, sameBytes}
 use Rattle.matching.specs.declared.entry.EntryRead.{EntryRead}
 use Rattle.matching.specs.declared.entry.EntryRead.the-variants.{Entry, Refused}
 
@@ -37,7 +37,7 @@ goneRest fs = onEnd Refused fs (Entry 0)
 unfoldable pub entryOf : List ℕ → EntryRead
 entryOf line =
     onField Refused (fields line) (λ word fs.
-    cond (same word goneWord) (goneRest fs) (cond (same word keepWord) (keepRest fs) Refused))
+    cond (sameBytes word goneWord) (goneRest fs) (cond (sameBytes word keepWord) (keepRest fs) Refused))
 
 -- The line of an entry.
 unfoldable pub entryLine : ℕ → List ℕ

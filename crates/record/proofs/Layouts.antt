@@ -14,7 +14,7 @@ use Rattle.event.specs.declared.Event.{Event}
 use Rattle.event.proofs.Lawful.{code-of}
 use Rattle.text.specs.Field.{fields, onField, onEnd}
 use Rattle.text.specs.Number.{decimal, numberOf, onNumber}
-use Rattle.text.specs.Word.{same}
+use Rattle.text.specs.Word.{sameBytes}
 use Rattle.text.specs.declared.number.NumberRead.{NumberRead}
 use Rattle.text.specs.declared.number.NumberRead.the-variants.{Value, Malformed}
 use Rattle.text.proofs.Numbers.{low}
@@ -157,10 +157,10 @@ init-says w fs i =
     on-if P tt (eqb v 0) Refused (Init p v) (λ _. tt) (λ z. (rw (i, q₁, q₂, q₃), (a, (b, eqb-false v 0 z)))))))
 
 fields-say : (fs : List (List ℕ))
-    → Says fs (onField Refused fs (λ word rest. cond (same word initWord) (initRest rest) (eventRest (kindOf word) rest)))
+    → Says fs (onField Refused fs (λ word rest. cond (sameBytes word initWord) (initRest rest) (eventRest (kindOf word) rest)))
 fields-say [] = tt
 fields-say (w ∷ fs) =
-    on-if (Says (w ∷ fs)) tt (same w initWord) (initRest fs) (eventRest (kindOf w) fs) (λ h. init-says w fs (same-eq w initWord h))
+    on-if (Says (w ∷ fs)) tt (sameBytes w initWord) (initRest fs) (eventRest (kindOf w) fs) (λ h. init-says w fs (same-eq w initWord h))
     (λ _. event-says w fs)
 
 pub says : (l : List ℕ) → Says (fields l) (recordOf l)

@@ -10,7 +10,7 @@ use lib.ListN.{length, length-append}
 use borrow.Author.Tests.{leb-true}
 use Rattle.laws.proofs.Lists.{Each, Free, each-append}
 use Rattle.event.specs.Kind.{row, rlx, lastPlace}
-use Rattle.event.specs.Kind.{fields as event}
+use Rattle.event.specs.Kind.{uncoded}
 use Rattle.event.specs.declared.Event.{Event}
 use Rattle.text.specs.Cut.{glue}
 use Rattle.text.specs.Number.{decimal}
@@ -81,7 +81,7 @@ size-there ((false, f) ∷ ps) (n ∷ ns) h = omega (arith, size-there ps ns (h 
 
 -- the bytes of a kind's line with its LF, at most
 abbrev most : ℕ → ℕ
-most k = suc (length (wordAt kindWords k)) + cost (parts (shapeOf k) (event k 0 0 0 0)) mosts
+most k = suc (length (wordAt kindWords k)) + cost (parts (shapeOf k) (uncoded k 0 0 0 0)) mosts
 
 kind-cost : (k : ℕ) → k ≤ length kindWords → most k ≤ suc longestEvent
 unfolding row
@@ -124,7 +124,7 @@ digits =
     (arith, place-length lastPlace (omega arith), least 2 lastPlace (omega arith), value-length lastValue (omega arith), least 9 lastValue (omega arith))
 
 abbrev longest : Event
-longest = event 5 lastPlace rlx lastValue lastValue
+longest = uncoded 5 lastPlace rlx lastValue lastValue
 
 pub event-longest : length (eventLine longest) ≡ longestEvent
 unfolding eventLine eventFields row

@@ -6,7 +6,7 @@ use mathlib.Core.List.{List, []}
 use Rattle.event.specs.Kind.{row, lastPlace, lawful, takes}
 use Rattle.event.specs.declared.Event.{Event}
 use Rattle.text.specs.Cut.{cut}
-use Rattle.text.specs.Word.{same}
+use Rattle.text.specs.Word.{sameBytes}
 use Rattle.record.specs.Layout.{numberIn}
 use Rattle.record.specs.Record.{numberIf, orderIf, eventRest, recordOf}
 use Rattle.record.specs.declared.Record.the-variants.{Init, AnEvent, Refused}
@@ -14,7 +14,7 @@ use Rattle.record.proofs.Layouts.{line-says, init-back}
 
 -- an empty line is no record
 pub blank : recordOf [] ≡ Refused
-unfolding recordOf eventRest numberIf orderIf numberIn cut same row lawful takes
+unfolding recordOf eventRest numberIf orderIf numberIn cut sameBytes row lawful takes
 blank = refl
 
 pub line-lawful : (l : List ℕ) (e : Event) → recordOf l ≡ AnEvent e → lawful e ≡ true

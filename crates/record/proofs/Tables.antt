@@ -13,28 +13,28 @@ use borrow.Author.Tests.{eqb-true, leb-true, not-true}
 use Rattle.laws.proofs.Bools.{and-left, and-right}
 use Rattle.laws.proofs.Cases.{cases, either, side}
 use Rattle.laws.proofs.Lists.{Each, Free, every, every-at, every-each}
-use Rattle.text.specs.Word.{same}
+use Rattle.text.specs.Word.{sameBytes}
 use Rattle.text.proofs.Words.{same-eq}
 use Rattle.record.specs.Table.{wordIn}
 use Rattle.record.specs.Layout.{kindWords, orderWords, initWord, wordAt, numberIn, kindOf, orderOf}
 
 module _ (n : ℕ) (v : List ℕ) (vs : List (List ℕ)) (w : List ℕ) where
   -- the word is the first
-  pub number-hit : same w v ≡ true → numberIn n (v ∷ vs) w ≡ n
+  pub number-hit : sameBytes w v ≡ true → numberIn n (v ∷ vs) w ≡ n
   unfolding numberIn
   number-hit h = rw h
 
   -- it is not
-  pub number-miss : same w v ≡ false → numberIn n (v ∷ vs) w ≡ numberIn (suc n) vs w
+  pub number-miss : sameBytes w v ≡ false → numberIn n (v ∷ vs) w ≡ numberIn (suc n) vs w
   unfolding numberIn
   number-miss h = rw h
 
 -- the same of a table of rows, at the row i
 module _ (rows : List (List ℕ)) (i : ℕ) (w : List ℕ) where
-  pub row-hit : i < length rows → same w (wordIn (getD rows i [])) ≡ true → numberIn i (map wordIn (drop i rows)) w ≡ i
+  pub row-hit : i < length rows → sameBytes w (wordIn (getD rows i [])) ≡ true → numberIn i (map wordIn (drop i rows)) w ≡ i
   row-hit h e = rw (drop-cons rows i [] h) (number-hit i _ _ w e)
 
-  pub row-miss : i < length rows → same w (wordIn (getD rows i [])) ≡ false
+  pub row-miss : i < length rows → sameBytes w (wordIn (getD rows i [])) ≡ false
       → numberIn i (map wordIn (drop i rows)) w ≡ numberIn (i + 1) (map wordIn (drop (i + 1) rows)) w
   row-miss h e = rw (drop-cons rows i [] h, add-one i) (number-miss i _ _ w e)
 
@@ -54,7 +54,7 @@ record Found (n : ℕ) (ws : List (List ℕ)) (w : List ℕ) : Type 0 where
 found : (n : ℕ) (ws : List (List ℕ)) (w : List ℕ) → (numberIn n ws w ≡ 0 → ⊥) → Found n ws w
 found n [] w h = absurd (h (number-none n w))
 found n (v ∷ vs) w h =
-    cases (either (same w v)) (λ e. record { index = zero; number = omega (arith, number-hit n v vs w e); word = sym (same-eq w v e) })
+    cases (either (sameBytes w v)) (λ e. record { index = zero; number = omega (arith, number-hit n v vs w e); word = sym (same-eq w v e) })
     (λ e.
     let m : numberIn n (v ∷ vs) w ≡ numberIn (suc n) vs w = number-miss n v vs w e in
     let r : Found (suc n) vs w = found (suc n) vs w (λ z. h (m ∙ z)) in
@@ -80,17 +80,17 @@ each-to t (suc n) h k l =
 
 -- the words of the kinds and of the orders are numbered right
 pub kind-number : (k : ℕ) → k ≤ length kindWords → kindOf (wordAt kindWords k) ≡ k
-unfolding numberIn same
+unfolding numberIn sameBytes
 kind-number k h = eqb-true _ _ (each-to (λ n. eqb (kindOf (wordAt kindWords n)) n) (length kindWords) refl k h)
 
 pub order-number : (o : ℕ) → o ≤ length orderWords → orderOf (wordAt orderWords o) ≡ o
-unfolding numberIn same
+unfolding numberIn sameBytes
 order-number o h = eqb-true _ _ (each-to (λ n. eqb (orderOf (wordAt orderWords n)) n) (length orderWords) refl o h)
 
 -- none of the kinds' is `init`
-pub kind-not-init : (k : ℕ) → same (wordAt kindWords k) initWord ≡ false
-unfolding same
-kind-not-init k = not-true _ (every-at (λ w. not (same w initWord)) [] ([] ∷ kindWords) refl refl k)
+pub kind-not-init : (k : ℕ) → sameBytes (wordAt kindWords k) initWord ≡ false
+unfolding sameBytes
+kind-not-init k = not-true _ (every-at (λ w. not (sameBytes w initWord)) [] ([] ∷ kindWords) refl refl k)
 
 -- no byte of a word is below 11, so neither TAB nor LF is in it
 free : (s : ℕ) → s < 11 → (w : List ℕ) → every (leb 11) w ≡ true → Free s w

@@ -13,7 +13,7 @@ use Rattle.event.specs.declared.kind.Place.the-variants.{Location, Mutex, Nowhe
 use Rattle.record.specs.declared.shape.Shape.{Shape}
 use Rattle.text.specs.Field.{join}
 use Rattle.text.specs.Number.{decimal}
-use Rattle.text.specs.Word.{bytes, same}
+use Rattle.text.specs.Word.{bytes, sameBytes}
 
 -- The words of the kinds, by their numbers.
 abbrev pub kindWords : List (List ℕ)
@@ -56,7 +56,7 @@ wordAt ws n = getD ([] ∷ ws) n []
 -- The number of a word, where the first of the list has the number n; 0 for a word that is not in it.
 unfoldable pub numberIn : ℕ → List (List ℕ) → List ℕ → ℕ
 numberIn n [] w = 0
-numberIn n (v ∷ vs) w = cond (same w v) n (numberIn (suc n) vs w)
+numberIn n (v ∷ vs) w = cond (sameBytes w v) n (numberIn (suc n) vs w)
 
 -- The number of a kind's word, and of an order's or a mark's; 0 for another word.
 abbrev pub kindOf : List ℕ → ℕ

@@ -5,11 +5,11 @@ use mathlib.Core.List.{List}
 use mathlib.Core.Path.{_≡_}
 use lib.Dec.{eqb}
 use Rattle.event.specs.Kind.{lastPlace, lawful}
-use Rattle.event.specs.Kind.{fields as event}
+use Rattle.event.specs.Kind.{uncoded}
 use Rattle.event.specs.declared.Event.{Event}
 use Rattle.text.specs.Field.{fields, onField, onEnd}
 use Rattle.text.specs.Number.{numberOf, onNumber}
-use Rattle.text.specs.Word.{same}
+use Rattle.text.specs.Word.{sameBytes}
 use Rattle.record.specs.Layout.{initWord, kindOf, orderOf, shapeOf}
 use Rattle.record.specs.declared.Record.{Record}
 use Rattle.record.specs.declared.Record.the-variants.{Init, AnEvent, Refused}
@@ -51,7 +51,7 @@ eventRest kind fs =
     numberIf (shapeOf kind .first) lastValue fs₂ (λ first fs₃.
     numberIf (shapeOf kind .second) lastValue fs₃ (λ second fs₄.
     orderIf (shapeOf kind .mark) order fs₄ (λ mark fs₅.
-    onEnd Refused fs₅ (lawfulLine (event kind place mark first second)))))))
+    onEnd Refused fs₅ (lawfulLine (uncoded kind place mark first second)))))))
 
 -- An `init` line, after its word: location, value, and nothing more; the value is never 0.
 unfoldable pub initRest : List (List ℕ) → Record
@@ -62,4 +62,4 @@ initRest fs =
 
 -- What a line is: a starting value, an event, or not of the layout.
 unfoldable pub recordOf : List ℕ → Record
-recordOf line = onField Refused (fields line) (λ word fs. cond (same word initWord) (initRest fs) (eventRest (kindOf word) fs))
+recordOf line = onField Refused (fields line) (λ word fs. cond (sameBytes word initWord) (initRest fs) (eventRest (kindOf word) fs))

@@ -6,7 +6,7 @@ use mathlib.Core.Path.{_≡_, sym, _∙_, ap}
 use borrow.Author.Needs.{needs}
 use borrow.Author.Tests.{not-true, not-false}
 use Rattle.event.specs.Kind.{lastPlace}
-use Rattle.event.specs.Kind.{fields as event}
+use Rattle.event.specs.Kind.{uncoded}
 use Rattle.text.specs.Field.{fieldsFrom, onEnd}
 use Rattle.text.proofs.Takes.{ended, not-ended}
 use Rattle.record.specs.Record.{lastValue, numberIf, orderIf, lawfulLine, eventRest}
@@ -19,7 +19,7 @@ use Rattle.record.proofs.event_rest.Tie as tie
 
 -- what the fields come to that are left after the mark, the second value, the first, the order, the place and the word
 abbrev after-mark : ℕ → ℕ → ℕ → ℕ → ℕ → List (List ℕ) → Record
-after-mark k place first second mark fs = onEnd Refused fs (lawfulLine (event k place mark first second))
+after-mark k place first second mark fs = onEnd Refused fs (lawfulLine (uncoded k place mark first second))
 
 abbrev after-second : Shape → ℕ → ℕ → ℕ → ℕ → ℕ → List (List ℕ) → Record
 after-second s k place order first second fs = orderIf (s .mark) order fs (after-mark k place first second)
@@ -131,7 +131,7 @@ returns-6 c = sym (past₅ (c .before .before) ∙ not-ended _ _ _ _ (sym (c .be
 end : (c : tie.Else1) → let t = c₄ (c₅ (c .before .before)) in
     let r = c₁ (c₂ (c₃ t)) in
     whole r
-    ≡ lawfulLine (event (kind r) (place (c₂ (c₃ t))) (c .before .before .before .mark .given .0 .0) (first t) (second (c₅ (c .before .before))))
+    ≡ lawfulLine (uncoded (kind r) (place (c₂ (c₃ t))) (c .before .before .before .mark .given .0 .0) (first t) (second (c₅ (c .before .before))))
 end c = past₅ (c .before .before) ∙ ended _ _ _ _ (sym (c .before .ends-at .ensures) ∙ not-false _ (c .if1 .left))
 
 returns-7 : tie.Need-returns-7

@@ -4,7 +4,7 @@ use mathlib.Core.List.{[], map}
 use mathlib.Core.Path.{_≡_, refl, sym, _∙_}
 use native.Mathlib.Omega.{arith}
 use lib.ListN.{length, getD, drop}
-use Rattle.text.specs.Word.{same}
+use Rattle.text.specs.Word.{sameBytes}
 use Rattle.record.specs.Layout.{numberIn}
 use Rattle.record.specs.Table.{wordIn}
 use Rattle.record.proofs.Tables.{row-hit, row-miss, row-none}
@@ -20,7 +20,7 @@ abbrev μ-loop : tie.MeasureT-loop
 -- whether the word is that of the row at hand
 asked : (c : tie.After-same-bytes Inv-loop μ-loop) → let l = c .before .before .before .before in
     let a = l .before .before .args in
-    c .same-bytes .result ≡ same (a .word .now) (wordIn (getD (a .table .now) (l .loop .i) []))
+    c .same-bytes .result ≡ sameBytes (a .word .now) (wordIn (getD (a .table .now) (l .loop .i) []))
 asked c = rw (c .before .word-in .ensures) at (c .same-bytes .ensures)
 
 returns : tie.Need-returns Inv-loop μ-loop

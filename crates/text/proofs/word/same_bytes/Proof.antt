@@ -3,13 +3,13 @@ use native.Mathlib.Omega.{arith}
 use mathlib.Core.Path.{_≡_, refl, sym, _∙_}
 use Prim.Native.Nat.{_-_}
 use lib.ListN.{length, drop}
-use Rattle.text.specs.Word.{same}
+use Rattle.text.specs.Word.{sameBytes}
 use Rattle.text.proofs.Words.{same-len, same-end, same-go, same-no}
 use Rattle.text.proofs.word.same_bytes.Statement.{statement}
 use Rattle.text.proofs.word.same_bytes.Tie as tie
 
 abbrev Inv-loop : tie.InvT-loop
-Inv-loop a b i₀ i = same a b ≡ same (drop i a) (drop i b)
+Inv-loop a b i₀ i = sameBytes a b ≡ sameBytes (drop i a) (drop i b)
 
 abbrev μ-loop : tie.MeasureT-loop
 μ-loop a b i₀ i = length a - i
