@@ -17,7 +17,7 @@ use Rattle.matching.specs.Reading.{entriesOf, surveyOf as matchingSurvey, readO
 use Rattle.text.specs.Line.{saidIn}
 use Rattle.rules.specs.Verdict.{startAnswer, countAnswer, entryAnswer, sourceAnswer, targetAnswer, verdict}
 use Rattle.checker.specs.Check.{readingAnswer, verdictOf, checkOf}
-use Rattle.checker.specs.Line.{counted, nthLine, lineOf, faultSide, offendingLine}
+use Rattle.checker.specs.Line.{counted, nthLine, lineOf, faultSide, offending, offendingLine, standing}
 use Rattle.checker.specs.Cases.{table, all-hold}
 
 pub P1-to-P12 : all-hold table ≡ true
@@ -31,6 +31,6 @@ P1-to-P12 = refl
 pub P10-line :
     offendingLine (bytes "trace\t1\nstore\t1\t5\nunlock\t0\n") (bytes "trace\t1\nunlock\t0\nstore\t1\t5\n") (answer 12 1 2)
     ≡ bytes "unlock\t0"
-unfolding offendingLine faultSide lineOf nthLine counted recordOf eventRest initRest numberIf orderIf numberIn numberOf
+unfolding offending faultSide lineOf nthLine standing counted recordOf eventRest initRest numberIf orderIf numberIn numberOf
     digitsOn valueOn allDigits cut sameBytes lawful takes row
 P10-line = refl

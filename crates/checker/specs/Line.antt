@@ -24,21 +24,27 @@ unfoldable pub counted : Bool → List ℕ → Bool
 counted false l = true
 counted true l = isEvent (recordOf l)
 
--- The k-th line that is counted, from 1; nothing if there are not so many.
-unfoldable pub nthLine : Bool → ℕ → List (List ℕ) → List ℕ
-nthLine only k [] = []
-nthLine only k (l ∷ ls) = cond (counted only l) (cond (eqb k 1) l (nthLine only (k - 1) ls)) (nthLine only k ls)
-
 -- A part of a text, from one place to another.
 abbrev pub span : ℕ → ℕ → Span
 span from to = record { from = from; to = to }
 
--- Where the k-th line that is counted stands, of lines the first of which stands at a place; nowhere if there are not so many.
-unfoldable pub nthSpan : Bool → ℕ → ℕ → List (List ℕ) → Span
-nthSpan only k at [] = span 0 0
-nthSpan only k at (l ∷ ls) =
-    cond (counted only l) (cond (eqb k 1) (span at (at + length l)) (nthSpan only (k - 1) (at + length l + 1) ls))
-    (nthSpan only k (at + length l + 1) ls)
+-- A line, and where it stands in its text.
+pub record Standing : Type 0 where
+  pub line : List ℕ
+  pub place : Span
+
+abbrev pub nothing : Standing
+nothing = record { line = []; place = span 0 0 }
+
+-- Lines, of which the first stands at a place.
+unfoldable pub standing : ℕ → List (List ℕ) → List Standing
+standing at [] = []
+standing at (l ∷ ls) = record { line = l; place = span at (at + length l) } ∷ standing (at + length l + 1) ls
+
+-- The k-th line that is counted, from 1; nothing if there are not so many.
+unfoldable pub nthLine : Bool → ℕ → List Standing → Standing
+nthLine only k [] = nothing
+nthLine only k (s ∷ ss) = cond (counted only (s .line)) (cond (eqb k 1) s (nthLine only (k - 1) ss)) (nthLine only k ss)
 
 -- The place of 2, 3 and 4 is a line; that of 5, 6 and 10 to 16 is an event.
 abbrev pub lineFaults : List ℕ
@@ -48,32 +54,27 @@ abbrev pub eventFaults : List ℕ
 eventFaults = 5 ∷ 6 ∷ 10 ∷ 11 ∷ 12 ∷ 13 ∷ 14 ∷ 15 ∷ 16 ∷ []
 
 -- The line of a text that an answer's number and place name, without its LF; nothing for another number.
-unfoldable pub lineOf : ℕ → ℕ → List ℕ → List ℕ
+unfoldable pub lineOf : ℕ → ℕ → List ℕ → Standing
 lineOf number place t =
-    cond (has number lineFaults) (nthLine false place (split t))
-    (cond (has number eventFaults) (nthLine true place (split t)) [])
-
--- Where it stands.
-unfoldable pub lineSpan : ℕ → ℕ → List ℕ → Span
-lineSpan number place t =
-    cond (has number lineFaults) (nthSpan false place 0 (split t))
-    (cond (has number eventFaults) (nthSpan true place 0 (split t)) (span 0 0))
+    cond (has number lineFaults) (nthLine false place (standing 0 (split t)))
+    (cond (has number eventFaults) (nthLine true place (standing 0 (split t))) nothing)
 
 -- The side whose text has the line at fault: none where the number has no line.
 unfoldable pub faultSide : Answer → ℕ
 faultSide a = cond (has (a .number) lineFaults || has (a .number) eventFaults) (a .side) 0
 
--- The offending line of a check: of the source text, side 1, or the target text, side 2; else nothing.
-unfoldable pub offendingLine : List ℕ → List ℕ → Answer → List ℕ
-offendingLine source target a =
+-- The line at fault: of the source text, side 1, or the target text, side 2; else nothing.
+unfoldable pub offending : List ℕ → List ℕ → Answer → Standing
+offending source target a =
     cond (eqb (faultSide a) 1) (lineOf (a .number) (a .place) source)
-    (cond (eqb (faultSide a) 2) (lineOf (a .number) (a .place) target) [])
+    (cond (eqb (faultSide a) 2) (lineOf (a .number) (a .place) target) nothing)
 
--- Where it stands.
-unfoldable pub offendingSpan : List ℕ → List ℕ → Answer → Span
-offendingSpan source target a =
-    cond (eqb (faultSide a) 1) (lineSpan (a .number) (a .place) source)
-    (cond (eqb (faultSide a) 2) (lineSpan (a .number) (a .place) target) (span 0 0))
+-- The offending line of a check, and where it stands.
+abbrev pub offendingLine : List ℕ → List ℕ → Answer → List ℕ
+offendingLine source target a = offending source target a .line
+
+abbrev pub offendingSpan : List ℕ → List ℕ → Answer → Span
+offendingSpan source target a = offending source target a .place
 
 -- The text that it is a part of: the target, side 2, else the source.
 abbrev pub faultText : List ℕ → List ℕ → Answer → List ℕ

@@ -8,11 +8,10 @@ ghost use Rattle.checker.specs.Line.{
   isEvent,
   counted,
   nthLine,
-  nthSpan,
+  standing,
   lineFaults,
   eventFaults,
   lineOf,
-  lineSpan,
   faultSide,
   faultText,
   offendingLine,
@@ -77,8 +76,8 @@ fn left_after(hit: bool, left: usize) -> usize
 
 // The k-th line that is counted, from 1; an empty part if there are not so many.
 fn span_of(text: &[u8], only: bool, k: usize) -> Span
-    ensures { λ r. ⌜ Spans (now (text .entry)) (nthLine only k (split (now (text .entry)))) r ⌝ }
-    ensures { λ r. ⌜ r ≡ nthSpan only k 0 (split (now (text .entry))) ⌝ }
+    ensures { λ r. ⌜ Spans (now (text .entry)) (nthLine only k (standing 0 (split (now (text .entry)))) .line) r ⌝ }
+    ensures { λ r. ⌜ r ≡ nthLine only k (standing 0 (split (now (text .entry)))) .place ⌝ }
 {
     if k == 0 {
         return Span { from: 0, to: 0 };
@@ -113,8 +112,8 @@ fn is_at_an_event(number: Number) -> bool
 
 // The part of a text that an answer's number and place name.
 fn fault_span(text: &[u8], number: Number, place: usize) -> Span
-    ensures { λ r. ⌜ Spans (now (text .entry)) (lineOf number place (now (text .entry))) r ⌝ }
-    ensures { λ r. ⌜ r ≡ lineSpan number place (now (text .entry)) ⌝ }
+    ensures { λ r. ⌜ Spans (now (text .entry)) (lineOf number place (now (text .entry)) .line) r ⌝ }
+    ensures { λ r. ⌜ r ≡ lineOf number place (now (text .entry)) .place ⌝ }
 {
     if is_at_a_line(number) {
         return span_of(text, false, place);

@@ -1,24 +1,21 @@
 -- The line that is sought, from each line on, is that from the next line on with one less to count if it is counted. Assumes nothing.
 use Prim.Native.Nat.{ℕ, _+_, _-_, _≤_}
 use mathlib.Core.List.{List, _∷_}
-use mathlib.Core.Path.{_≡_, sym, _∙_}
+use mathlib.Core.Path.{_≡_, sym, _∙_, ap}
 use native.Mathlib.Omega.{arith}
 use lib.ListN.{length, drop, length-drop}
 use lib.Seq.{length-take-le}
 use Rattle.text.specs.Line.{split, splitFrom}
 use Rattle.text.proofs.Cuts.{from-start, from-out}
 use Rattle.text.proofs.Walk.{line, parts-line, line-in}
-use Rattle.checker.specs.Line.{nthLine, nthSpan}
-use Rattle.checker.proofs.Lines.{none-zero, none-left, line-found, line-passed, left-some, nowhere-zero, nowhere-left, span-found, span-passed}
+use Rattle.checker.specs.Line.{Standing, nothing, nthLine, standing}
+use Rattle.checker.proofs.Lines.{left-some, line-found, line-passed, none-left, none-zero}
 use Rattle.checker.proofs.line.span_of.Statement.{statement}
 use Rattle.checker.proofs.line.span_of.Tie as tie
 
 abbrev Inv-loop : tie.InvT-loop
 Inv-loop text only k at₀ left₀ at left =
-    (at ≤ length text + 1)
-    × ((1 ≤ left)
-    × ((nthLine only k (split text) ≡ nthLine only left (splitFrom text at))
-    × (nthSpan only k 0 (split text) ≡ nthSpan only left at (splitFrom text at))))
+    (at ≤ length text + 1) × ((1 ≤ left) × (nthLine only k (standing 0 (split text)) ≡ nthLine only left (standing at (splitFrom text at))))
 
 abbrev μ-loop : tie.MeasureT-loop
 μ-loop text only k at₀ left₀ at left = length text + 1 - at
@@ -53,29 +50,23 @@ size c =
     let q : n ≤ length (drop (at (end c)) t) = omega (arith, ends (end c), length-drop (at (end c)) t) in
     omega (arith, ends (end c), length-take-le n (drop (at (end c)) t) q)
 
-whole : (c : tie.After-ends-here Inv-loop μ-loop) → nthLine (begin (end c) .args .only) (begin (end c) .args .k) (split (text (end c)))
-    ≡ nthLine (begin (end c) .args .only) (end c .before .before .loop .left) (this c ∷ others c)
+whole : (c : tie.After-ends-here Inv-loop μ-loop)
+    → nthLine (begin (end c) .args .only) (begin (end c) .args .k) (standing 0 (split (text (end c))))
+    ≡ nthLine (begin (end c) .args .only) (end c .before .before .loop .left) (standing (at (end c)) (this c ∷ others c))
 whole c =
-    end c .before .before .loop .inv .1 .1 .0
-    ∙ rw (parts-line (text (end c)) (at (end c)) (end c .line-end .result) (end c .line-end .ensures) (omega arith))
-
-everywhere : (c : tie.After-ends-here Inv-loop μ-loop)
-    → nthSpan (begin (end c) .args .only) (begin (end c) .args .k) 0 (split (text (end c)))
-    ≡ nthSpan (begin (end c) .args .only) (end c .before .before .loop .left) (at (end c)) (this c ∷ others c)
-everywhere c =
-    end c .before .before .loop .inv .1 .1 .1
+    end c .before .before .loop .inv .1 .1
     ∙ rw (parts-line (text (end c)) (at (end c)) (end c .line-end .result) (end c .line-end .ensures) (omega arith))
 
 returns : tie.Need-returns Inv-loop μ-loop
 returns c =
     let t = c .before .before .args in
-    let ls = split (t .text .now) in (
-      record { rises = omega arith; within = omega arith; is = rw (c .if1 .taken) (sym (none-zero (t .only) ls)) },
-      rw (c .if1 .taken) (sym (nowhere-zero (t .only) 0 ls)),
+    let z = sym (none-zero (t .only) (standing 0 (split (t .text .now)))) in (
+      record { rises = omega arith; within = omega arith; is = rw (c .if1 .taken) (ap (λ (s : Standing). s .line) z) },
+      rw (c .if1 .taken) (ap (λ (s : Standing). s .place) z),
     )
 
 loop-holds : tie.Need-loop-holds Inv-loop μ-loop
-loop-holds c = (omega arith, (omega arith, (rw (from-start 10 (c .before .before .args .text .now)), rw (from-start 10 (c .before .before .args .text .now)))))
+loop-holds c = (omega arith, (omega arith, rw (from-start 10 (c .before .before .args .text .now))))
 
 line-end-requires : tie.Need-line-end-requires Inv-loop μ-loop
 line-end-requires c κs = tt
@@ -98,13 +89,10 @@ ends-here-requires c κs = tt
 returns-2 : tie.Need-returns-2 Inv-loop μ-loop
 returns-2 c =
     let h = c .before in
-    let p = sym (h .ends-here .ensures) ∙ c .if2 .taken in (
-      record {
-        rises = omega (arith, ends (end h));
-        within = omega (arith, ends (end h));
-        is = sym (whole h ∙ line-found _ _ (this h) (others h) _ (h .before .is-counted .ensures) p);
-      },
-      sym (everywhere h ∙ span-found _ _ _ _ (this h) (others h) _ (size h) (h .before .is-counted .ensures) p),
+    let p = sym (h .ends-here .ensures) ∙ c .if2 .taken in
+    let f = sym (whole h ∙ line-found _ _ _ _ (this h) (others h) _ (size h) (h .before .is-counted .ensures) p) in (
+      record { rises = omega (arith, ends (end h)); within = omega (arith, ends (end h)); is = ap (λ (s : Standing). s .line) f },
+      ap (λ (s : Standing). s .place) f,
     )
 
 left-after-requires : tie.Need-left-after-requires Inv-loop μ-loop
@@ -123,23 +111,17 @@ loop-again c =
       omega (arith, ends (end h)),
       (
         rw (c .left-after .ensures) (left-some (h .before .is-counted .result) (end h .before .before .loop .left) (end h .before .before .loop .inv .1 .0) p),
-        (
-          rw (c .left-after .ensures) (whole h ∙ line-passed _ _ (this h) (others h) _ (h .before .is-counted .ensures) p),
-          rw (c .left-after .ensures) (everywhere h ∙ span-passed _ _ _ _ (this h) (others h) _ (size h) (h .before .is-counted .ensures) p),
-        ),
+        rw (c .left-after .ensures) (whole h ∙ line-passed _ _ _ _ (this h) (others h) _ (size h) (h .before .is-counted .ensures) p),
       ),
     )
 
 returns-3 : tie.Need-returns-3 Inv-loop μ-loop
 returns-3 c =
     let a = c .before .before .before .before .args in
-    let l = c .before .loop in (
-      record {
-        rises = omega arith;
-        within = omega arith;
-        is = sym (l .inv .1 .1 .0 ∙ rw (from-out 10 (a .text .now) (l .at) (omega arith)) (none-left _ _));
-      },
-      sym (l .inv .1 .1 .1 ∙ rw (from-out 10 (a .text .now) (l .at) (omega arith)) (nowhere-left _ _ _)),
+    let l = c .before .loop in
+    let n = sym {b = nothing} (l .inv .1 .1 ∙ rw (from-out 10 (a .text .now) (l .at) (omega arith)) (none-left _ _ _)) in (
+      record { rises = omega arith; within = omega arith; is = ap (λ (s : Standing). s .line) n },
+      ap (λ (s : Standing). s .place) n,
     )
 
 pub span-of-spec : {M : Type 1} → statement M
