@@ -12,6 +12,7 @@ use Rattle.event.specs.Memory.{stepped}
 use Rattle.event.specs.declared.Answer.{Answer}
 use Rattle.event.specs.declared.Event.{Event}
 use Rattle.event.specs.declared.memory.Memory.{Memory}
+use Rattle.event.specs.Kind.{places}
 use Rattle.trace.specs.Fault.{eventFault}
 use Rattle.trace.specs.Reading.{eventsOf, surveyOf, readOf}
 use Rattle.frame.proofs.Settled.{first-done}
@@ -38,7 +39,7 @@ module _ (side : ℕ) (t room : List ℕ) (z : readOf side t room .answer .numbe
   survey : surveyOf side t .answer .number ≡ 0
   survey = rw (read-passed side t room z) at z
 
-  pub cells : length (readOf side t room .memory .cells) ≡ 256
+  pub cells : length (readOf side t room .memory .cells) ≡ places
   cells = rw (read-passed side t room z) (text-whole side t survey .fits .size)
 
   events : T (right (readOf side t room .memory) (eventsOf t))

@@ -1,15 +1,16 @@
 -- Rooms that were filled hold the events and entries of their texts, which are lawful and few. Assumes nothing.
-use Prim.Native.Nat.{ℕ, _*_, _/_, _≤_, _<_}
+use Prim.Native.Nat.{ℕ, _*_, _≤_, _<_}
 use mathlib.Core.Path.{_≡_, refl}
 use mathlib.Core.List.{List}
 use native.Mathlib.Omega.{arith}
 use lib.ListN.{length, take, drop, length-append}
 use lib.Seq.{take-at}
 use Rattle.laws.proofs.Lists.{each-imp}
-use Rattle.event.specs.Room.{flat, onward, Placed}
+use Rattle.event.specs.Room.{flat, onward, Placed, capacity, eventWords}
 use Rattle.event.specs.declared.Event.{Event}
 use Rattle.event.proofs.Rooms.{flat-length, onward-flat, each-event}
 use Rattle.event.proofs.Lawful.{place-below}
+use Rattle.event.specs.Kind.{places}
 use Rattle.record.specs.Record.{Fit}
 use Rattle.trace.specs.Reading.{eventsOf, surveyOf, front, readOf}
 use Rattle.trace.specs.Text.{Fits}
@@ -23,10 +24,10 @@ use Rattle.checker.specs.Check.{Lent, sourceRead, targetRead, entriesRea
 
 -- what a filled room says of the trace that was read into it
 pub record Filled (t : List ℕ) (r : TraceRead) (room : List ℕ) : Type 0 where
-  pub inside : r .events * 6 ≤ length room
+  pub inside : r .events * eventWords ≤ length room
   pub few : r .events ≤ 800
-  pub front : take (r .events * 6) room ≡ flat (eventsOf t)
-  pub placed : Placed (take (r .events * 6) room)
+  pub front : take (r .events * eventWords) room ≡ flat (eventsOf t)
+  pub placed : Placed (take (r .events * eventWords) room)
 
 module _ (side : ℕ) (t room : List ℕ) (z : readOf side t room .answer .number ≡ 0) where
   passed : surveyOf side t .answer .number ≡ 0
@@ -38,17 +39,17 @@ module _ (side : ℕ) (t room : List ℕ) (z : readOf side t room .answer .numbe
   counted : readOf side t room .events ≡ length (eventsOf t)
   counted = rw (read-passed side t room z) (counts side t passed)
 
-  at-front : take (readOf side t room .events * 6) (front (eventsOf t) room) ≡ flat (eventsOf t)
-  at-front = rw counted (take-at (flat (eventsOf t)) (drop (length (eventsOf t) * 6) room) (length (eventsOf t) * 6) (flat-length (eventsOf t)))
+  at-front : take (readOf side t room .events * eventWords) (front (eventsOf t) room) ≡ flat (eventsOf t)
+  at-front = rw counted (take-at (flat (eventsOf t)) (drop (length (eventsOf t) * eventWords) room) (length (eventsOf t) * eventWords) (flat-length (eventsOf t)))
 
   in-place : Placed (flat (eventsOf t))
   in-place i h =
-      each-event (λ e. e .place < 256) (eventsOf t) (each-imp Fit (λ e. e .place < 256) (λ e f. place-below e (f .0)) (eventsOf t) (fits .events)) i
+      each-event (λ e. e .place < places) (eventsOf t) (each-imp Fit (λ e. e .place < places) (λ e f. place-below e (f .0)) (eventsOf t) (fits .events)) i
       (omega (arith, flat-length (eventsOf t)))
 
   filled-front : Filled t (readOf side t room) (front (eventsOf t) room)
   filled-front = record {
-    inside = omega (arith, counted, flat-length (eventsOf t), length-append (flat (eventsOf t)) (drop (length (eventsOf t) * 6) room));
+    inside = omega (arith, counted, flat-length (eventsOf t), length-append (flat (eventsOf t)) (drop (length (eventsOf t) * eventWords) room));
     few = omega (arith, counted, fits .few);
     front = at-front;
     placed = rw at-front in-place;
@@ -58,9 +59,9 @@ module _ (side : ℕ) (t room : List ℕ) (z : readOf side t room .answer .numbe
   filled r e room′ f = rw (← e, f) filled-front
 
 -- the events of a room that holds just their words
-held : (es : List Event) → onward (flat es) 0 (length (flat es) / 6) ≡ es
+held : (es : List Event) → onward (flat es) 0 (capacity (flat es)) ≡ es
 held es =
-    let n : length (flat es) / 6 ≡ length es = omega (arith, flat-length es) in
+    let n : capacity (flat es) ≡ length es = omega (arith, flat-length es) in
     rw n (onward-flat es)
 
 -- what a filled room says of the matching that was read into it
@@ -84,7 +85,7 @@ module _ (t room : List ℕ) (z : entriesRead t room .answer .number ≡ 0) wher
 -- filled rooms are judged as their texts are
 pub judged-is : (l : Lent) (s t : TraceRead) (m : MatchingRead) (sr tr er : List ℕ) → sourceRead l ≡ s → targetRead l ≡ t → entriesReading l ≡ m
     → Filled (l .source) s sr → Filled (l .target) t tr → Entered (l .matching) m er
-    → judgedOf s t (m .entries) (take (s .events * 6) sr) (take (t .events * 6) tr) (take (m .entries) er)
+    → judgedOf s t (m .entries) (take (s .events * eventWords) sr) (take (t .events * eventWords) tr) (take (m .entries) er)
     ≡ record { answer = verdictOf l; source = heldOf (sourceRead l); target = heldOf (targetRead l); entries = entriesReading l .entries }
 unfolding judgedOf verdictOf
 judged-is l s t m sr tr er p q k f g e =

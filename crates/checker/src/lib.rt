@@ -4,7 +4,7 @@ pub mod line;
 ghost use mathlib.Core.Path.{_≡_};
 ghost use Prim.Native.Nat.{_*_, _≤_};
 ghost use lib.ListN.{length, take};
-ghost use Rattle.event.specs.Room.{Placed};
+ghost use Rattle.event.specs.Room.{Placed, eventWords};
 ghost use Rattle.checker.specs.Check.{Checks, heldOf, judgedOf, lent, refused};
 use event::Answer;
 use event::Entry;
@@ -53,15 +53,15 @@ fn judged(
     target_room: &[Word],
     entry_room: &[Entry],
 ) -> Checked
-    requires { ⌜ source .events * 6 ≤ length (now «source_room») ⌝ }
-    requires { ⌜ target .events * 6 ≤ length (now «target_room») ⌝ }
+    requires { ⌜ source .events * eventWords ≤ length (now «source_room») ⌝ }
+    requires { ⌜ target .events * eventWords ≤ length (now «target_room») ⌝ }
     requires { ⌜ entries ≤ length (now «entry_room») ⌝ }
     requires { ⌜ (source .events ≤ 800) × (target .events ≤ 800) ⌝ }
-    requires { ⌜ Placed (take (source .events * 6) (now «source_room»)) ⌝ }
-    requires { ⌜ Placed (take (target .events * 6) (now «target_room»)) ⌝ }
+    requires { ⌜ Placed (take (source .events * eventWords) (now «source_room»)) ⌝ }
+    requires { ⌜ Placed (take (target .events * eventWords) (now «target_room»)) ⌝ }
     ensures { λ r. ⌜ r ≡ judgedOf source target entries
-        (take (source .events * 6) (now («source_room» .entry)))
-        (take (target .events * 6) (now («target_room» .entry)))
+        (take (source .events * eventWords) (now («source_room» .entry)))
+        (take (target .events * eventWords) (now («target_room» .entry)))
         (take entries (now («entry_room» .entry))) ⌝ }
 {
     let source_words = source.events * WORDS;

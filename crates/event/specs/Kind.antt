@@ -1,5 +1,5 @@
 -- Document 01, "Trace text": the fixed table of kinds, and which events are lawful. Assumes nothing.
-use Prim.Native.Nat.{ℕ}
+use Prim.Native.Nat.{ℕ, suc}
 use mathlib.Core.Bool.{Bool, true, false, _&&_, _||_, not}
 use mathlib.Core.List.{List, [], _∷_}
 use lib.Dec.{eqb, leb}
@@ -85,6 +85,10 @@ row k = getD rows k noKind
 -- the greatest location or mutex
 abbrev pub lastPlace : ℕ
 lastPlace = 255
+
+-- how many places there are
+abbrev pub places : ℕ
+places = suc lastPlace
 
 -- locations and mutexes are 0 to 255; an event that has neither has 0 there
 abbrev pub fitsPlace : Place → ℕ → Bool

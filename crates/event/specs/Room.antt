@@ -4,11 +4,16 @@ use mathlib.Core.Bool.{Bool, cond}
 use mathlib.Core.List.{List, [], _∷_, _++_}
 use lib.Dec.{ltb}
 use lib.ListN.{length, getD, take, drop}
+use Rattle.event.specs.Kind.{places}
 use Rattle.event.specs.declared.Event.{Event}
 
 -- an event's six words
 abbrev pub words : Event → List ℕ
 words e = e .kind ∷ e .place ∷ e .order ∷ e .first ∷ e .second ∷ e .code ∷ []
+
+-- how many they are
+abbrev pub eventWords : ℕ
+eventWords = 6
 
 -- the words of events, one event after the other
 unfoldable pub flat : List Event → List ℕ
@@ -30,13 +35,17 @@ eventFrom l at = record {
 abbrev pub noEvent : Event
 noEvent = record { kind = 0; place = 0; order = 0; first = 0; second = 0; code = 0 }
 
--- whether the event at an index lies in a room whole
+-- how many events lie in a room whole
+abbrev pub capacity : List ℕ → ℕ
+capacity l = length l / eventWords
+
+-- whether the event at an index does
 abbrev pub inRoom : List ℕ → ℕ → Bool
-inRoom l i = ltb i (length l / 6)
+inRoom l i = ltb i (capacity l)
 
 -- the event at an index of a room
 unfoldable pub eventAt : List ℕ → ℕ → Event
-eventAt l i = cond (inRoom l i) (eventFrom l (i * 6)) noEvent
+eventAt l i = cond (inRoom l i) (eventFrom l (i * eventWords)) noEvent
 
 -- the n events of a room from an index on
 unfoldable pub onward : List ℕ → ℕ → ℕ → List Event
@@ -45,12 +54,12 @@ onward l i (suc n) = eventAt l i ∷ onward l (i + 1) n
 
 -- the events that lie in a room whole
 abbrev pub wholeEvents : List ℕ → List Event
-wholeEvents l = onward l 0 (length l / 6)
+wholeEvents l = onward l 0 (capacity l)
 
 -- each of them has its place in range
 abbrev pub Placed : List ℕ → Type 0
-Placed l = (i : ℕ) → i < length l / 6 → eventAt l i .place < 256
+Placed l = (i : ℕ) → i < capacity l → eventAt l i .place < places
 
 -- a room with an event put at an index; where its words do not fit, the room stays as it is
 unfoldable pub putAt : List ℕ → ℕ → Event → List ℕ
-putAt l i e = cond (inRoom l i) (take (i * 6) l ++ words e ++ drop (i * 6 + 6) l) l
+putAt l i e = cond (inRoom l i) (take (i * eventWords) l ++ words e ++ drop (i * eventWords + eventWords) l) l

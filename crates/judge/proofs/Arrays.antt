@@ -10,6 +10,7 @@ use lib.ListN.{length, getD, set, replicate, getD-replicate}
 use lib.Seq.{getD-set-same, getD-set-other}
 use borrow.Author.Tests.{eqb-true, eqb-false, eq-eqb, ne-eqb}
 use Rattle.laws.proofs.Cases.{cases, either}
+use Rattle.event.specs.Kind.{places}
 use Rattle.rules.specs.View.{View, isWall}
 use Rattle.rules.specs.Fault.{Fate, Item, isGone, isNone, item, near}
 use Rattle.judge.specs.Pass.{Marked}
@@ -53,15 +54,15 @@ marked-next marks b k h size m l p i =
 
 -- the locations without an access since the last synchronising event
 abbrev pub Fresh : List Bool → List Item → Type 0
-Fresh fresh b = ArrayOf 256 false fresh (λ l. isNone (near l b))
+Fresh fresh b = ArrayOf places false fresh (λ l. isNone (near l b))
 
-pub fresh-start : Fresh (replicate 256 true) []
-fresh-start = array-all 256 false true (λ l. isNone (near l [])) (λ l. refl)
+pub fresh-start : Fresh (replicate places true) []
+fresh-start = array-all places false true (λ l. isNone (near l [])) (λ l. refl)
 
-pub fresh-wall : (v : View) → isWall v ≡ true → (f : Fate) (b : List Item) → Fresh (replicate 256 true) (item v f ∷ b)
-fresh-wall v h f b = rw (walled v h) (λ l k. getD-replicate {A = Bool} 256 l true false k)
+pub fresh-wall : (v : View) → isWall v ≡ true → (f : Fate) (b : List Item) → Fresh (replicate places true) (item v f ∷ b)
+fresh-wall v h f b = rw (walled v h) (λ l k. getD-replicate {A = Bool} places l true false k)
 
-pub fresh-plain : {v : View} {p x : ℕ} → PlainAt v p x → (f : Fate) (b : List Item) (fresh : List Bool) {i : ℕ} → i ≡ p → i < 256
-    → length fresh ≡ 256 → Fresh fresh b → Fresh (set fresh i false) (item v f ∷ b)
+pub fresh-plain : {v : View} {p x : ℕ} → PlainAt v p x → (f : Fate) (b : List Item) (fresh : List Bool) {i : ℕ} → i ≡ p → i < places
+    → length fresh ≡ places → Fresh fresh b → Fresh (set fresh i false) (item v f ∷ b)
 fresh-plain {v} w f b fresh e k size m =
-    array-at 256 false fresh (λ l. isNone (near l b)) (λ l. isNone (near l (item v f ∷ b))) (λ l. false) (none-at w f b) e refl k size m
+    array-at places false fresh (λ l. isNone (near l b)) (λ l. isNone (near l (item v f ∷ b))) (λ l. false) (none-at w f b) e refl k size m

@@ -2,14 +2,15 @@
 -- Assumes nothing.
 use mathlib.Core.Path.{_≡_, refl, sym, _∙_, ap}
 use mathlib.Core.List.{List, _∷_}
-use Prim.Native.Nat.{ℕ, zero, suc, _+_, _-_, _/_, _≤_, _<_}
+use Prim.Native.Nat.{ℕ, zero, suc, _+_, _-_, _≤_, _<_}
 use native.Mathlib.Numerals.{add-one}
 use native.Mathlib.Omega.{arith}
 use lib.ListN.{length, getD, drop}
 use lib.Seq.{drop-cons}
 use borrow.Author.Tests.{le-ltb}
 use Rattle.laws.proofs.Cases.{cases, side}
-use Rattle.event.specs.Room.{Placed, eventAt, onward, noEvent}
+use Rattle.event.specs.Kind.{places}
+use Rattle.event.specs.Room.{Placed, eventAt, onward, noEvent, capacity}
 use Rattle.event.specs.declared.Event.{Event}
 
 module _ (l : List ℕ) where
@@ -25,23 +26,23 @@ module _ (l : List ℕ) where
   onward-past (suc n) i zero h = absurd (omega arith)
   onward-past (suc n) i (suc k) h = onward-past n (i + 1) k (omega arith)
 
-  past : (k : ℕ) → length l / 6 ≤ k → eventAt l k ≡ noEvent
+  past : (k : ℕ) → capacity l ≤ k → eventAt l k ≡ noEvent
   unfolding eventAt
-  past k h = rw (le-ltb k (length l / 6) h)
+  past k h = rw (le-ltb k (capacity l) h)
 
   -- also past the end, where there is no event
-  pub room-at : (k : ℕ) → getD (onward l 0 (length l / 6)) k noEvent ≡ eventAt l k
+  pub room-at : (k : ℕ) → getD (onward l 0 (capacity l)) k noEvent ≡ eventAt l k
   room-at k =
-      cases (side k (length l / 6))
-      (λ h. let e : 0 + k ≡ k = omega arith in onward-at (length l / 6) 0 k h ∙ ap (eventAt l) e)
-      (λ h. onward-past (length l / 6) 0 k h ∙ sym (past k h))
+      cases (side k (capacity l))
+      (λ h. let e : 0 + k ≡ k = omega arith in onward-at (capacity l) 0 k h ∙ ap (eventAt l) e)
+      (λ h. onward-past (capacity l) 0 k h ∙ sym (past k h))
 
   pub onward-next : (n i : ℕ) (e : Event) → i < n → e ≡ eventAt l i → onward l i (n - i) ≡ e ∷ onward l (i + 1) (n - (i + 1))
   unfolding onward
   onward-next n i e h q = let m : n - i ≡ suc (n - (i + 1)) = omega arith in rw (m, q)
 
   -- a room whose places are below 256, and an index that is an event's place
-  pub place-in : Placed l → (i : ℕ) → i < length l / 6 → (e : Event) → e ≡ eventAt l i → {p : ℕ} → p ≡ e .place → p < 256
+  pub place-in : Placed l → (i : ℕ) → i < capacity l → (e : Event) → e ≡ eventAt l i → {p : ℕ} → p ≡ e .place → p < places
   place-in low i h e q r = rw (r, q) (low i h)
 
   pub onward-length : (i n : ℕ) → length (onward l i n) ≡ n

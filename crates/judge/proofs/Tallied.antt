@@ -11,6 +11,7 @@ use lib.ListN.{length, getD, set, replicate, getD-replicate, length-set}
 use lib.Seq.{getD-set-same, getD-set-other}
 use borrow.Author.Tests.{eq-eqb, eqb-false, eqb-true}
 use Rattle.laws.proofs.Cases.{cases, either}
+use Rattle.event.specs.Kind.{places}
 use Rattle.rules.specs.View.{View, isLoad, isWall}
 use Rattle.rules.specs.Fault.{Item, closing, fate, group, item, witness}
 use Rattle.judge.specs.Pass.{cellOf, takesOver, topAfter, topsOf, witnessOf, witnessed}
@@ -24,13 +25,13 @@ use Rattle.judge.proofs.Passes.{PlainAt, any, at-plain, isAt, top-next,
 -- ---- the witness
 
 abbrev pub Witnesses : List Bool → List ℕ → List Item → Type 0
-Witnesses present value b = (l : ℕ) → l < 256 → witnessed (witnessOf (getD present l false) (getD value l 0)) ≡ witness (group l b)
+Witnesses present value b = (l : ℕ) → l < places → witnessed (witnessOf (getD present l false) (getD value l 0)) ≡ witness (group l b)
 
-witness-wall : (v : View) → isWall v ≡ true → (n : ℕ) (b : List Item) (value : List ℕ) → Witnesses (replicate 256 false) value (item v (fate n) ∷ b)
-witness-wall v h n b value = rw (walled v h) (λ l k. rw (getD-replicate {A = Bool} 256 l false false k))
+witness-wall : (v : View) → isWall v ≡ true → (n : ℕ) (b : List Item) (value : List ℕ) → Witnesses (replicate places false) value (item v (fate n) ∷ b)
+witness-wall v h n b value = rw (walled v h) (λ l k. rw (getD-replicate {A = Bool} places l false false k))
 
-witness-plain : {v : View} {p x : ℕ} → PlainAt v p x → (n : ℕ) (b : List Item) (fresh present : List Bool) (value : List ℕ) {i : ℕ} → i ≡ p → i < 256
-    → length present ≡ 256 → length value ≡ 256 → Fresh fresh b → Witnesses present value b → (w : Witness)
+witness-plain : {v : View} {p x : ℕ} → PlainAt v p x → (n : ℕ) (b : List Item) (fresh present : List Bool) (value : List ℕ) {i : ℕ} → i ≡ p → i < places
+    → length present ≡ places → length value ≡ places → Fresh fresh b → Witnesses present value b → (w : Witness)
     → witnessed w ≡ cond (takesOver (isLoad v) n (getD fresh i false)) (some x) (witnessed (witnessOf (getD present i false) (getD value i 0)))
     → Witnesses (set present i (w .present)) (set value i (w .value)) (item v (fate n) ∷ b)
 witness-plain {p = p} s n b fresh present value {i} e k size size′ f m w q l j =
@@ -55,43 +56,43 @@ module _ (v : View) (n : ℕ) (b : List Item) where
   top-no test h p = p ∙ sym (top-next test v n b ∙ rw h)
 
 abbrev pub Here : List ℕ → List Item → Type 0
-Here here b = ArrayOf 256 0 here (λ l. topBy (isAt l) b)
+Here here b = ArrayOf places 0 here (λ l. topBy (isAt l) b)
 
-here-plain : {v : View} {p x : ℕ} → PlainAt v p x → (n : ℕ) (b : List Item) (here : List ℕ) {i : ℕ} → i ≡ p → i < 256 → length here ≡ 256 → Here here b
+here-plain : {v : View} {p x : ℕ} → PlainAt v p x → (n : ℕ) (b : List Item) (here : List ℕ) {i : ℕ} → i ≡ p → i < places → length here ≡ places → Here here b
     → {r : ℕ} → r ≡ topAfter n (getD here i 0) → Here (set here i r) (item v (fate n) ∷ b)
 here-plain {v} w n b here {i} e k size m g =
-    array-at 256 0 here (λ l. topBy (isAt l) b) (λ l. topBy (isAt l) (item v (fate n) ∷ b)) (λ l. topAfter n (topBy (isAt l) b))
+    array-at places 0 here (λ l. topBy (isAt l) b) (λ l. topBy (isAt l) (item v (fate n) ∷ b)) (λ l. topAfter n (topBy (isAt l) b))
     (λ l. top-next (isAt l) v n b ∙ rw (at-plain w l)) e (g ∙ rw (m i k)) k size m
 
 -- ---- all of it
 
 pub record Tallied (fresh present : List Bool) (value here : List ℕ) (all walls : ℕ) (b : List Item) : Type 0 where
-  pub fresh-size : length fresh ≡ 256
-  pub present-size : length present ≡ 256
-  pub value-size : length value ≡ 256
-  pub here-size : length here ≡ 256
+  pub fresh-size : length fresh ≡ places
+  pub present-size : length present ≡ places
+  pub value-size : length value ≡ places
+  pub here-size : length here ≡ places
   pub fresh-is : Fresh fresh b
   pub witness-is : Witnesses present value b
   pub here-is : Here here b
   pub all-is : all ≡ topBy any b
   pub walls-is : walls ≡ topBy isWall b
 
-pub tallied-start : Tallied (replicate 256 true) (replicate 256 false) (replicate 256 0) (replicate 256 0) 0 0 []
+pub tallied-start : Tallied (replicate places true) (replicate places false) (replicate places 0) (replicate places 0) 0 0 []
 tallied-start = record {
   fresh-size = refl;
   present-size = refl;
   value-size = refl;
   here-size = refl;
   fresh-is = fresh-start;
-  witness-is = λ l k. rw (getD-replicate {A = Bool} 256 l false false k);
-  here-is = array-all 256 0 0 (λ l. topBy (isAt l) []) (λ l. refl);
+  witness-is = λ l k. rw (getD-replicate {A = Bool} places l false false k);
+  here-is = array-all places 0 0 (λ l. topBy (isAt l) []) (λ l. refl);
   all-is = refl;
   walls-is = refl;
 }
 
 module _ {fresh present : List Bool} {value here : List ℕ} {all walls : ℕ} {b : List Item} (n : ℕ) (t : Tallied fresh present value here all walls b) where
   pub tallied-wall : (v : View) → isWall v ≡ true → {all′ walls′ : ℕ} → all′ ≡ topAfter n all → walls′ ≡ topAfter n walls
-      → Tallied (replicate 256 true) (replicate 256 false) value here all′ walls′ (item v (fate n) ∷ b)
+      → Tallied (replicate places true) (replicate places false) value here all′ walls′ (item v (fate n) ∷ b)
   tallied-wall v h p q = record {
     fresh-size = refl;
     present-size = refl;
@@ -104,7 +105,7 @@ module _ {fresh present : List Bool} {value here : List ℕ} {all walls : ℕ} {
     walls-is = top-yes v n b isWall h (t .walls-is) q;
   }
 
-  pub tallied-plain : {v : View} {p x : ℕ} → PlainAt v p x → isWall v ≡ false → {i : ℕ} → i ≡ p → i < 256
+  pub tallied-plain : {v : View} {p x : ℕ} → PlainAt v p x → isWall v ≡ false → {i : ℕ} → i ≡ p → i < places
       → {all′ r : ℕ} → all′ ≡ topAfter n all → r ≡ topAfter n (getD here i 0) → (w : Witness)
       → witnessed w ≡ cond (takesOver (isLoad v) n (getD fresh i false)) (some x) (witnessed (witnessOf (getD present i false) (getD value i 0)))
       → Tallied (set fresh i false) (set present i (w .present)) (set value i (w .value)) (set here i r) all′ walls (item v (fate n) ∷ b)
@@ -123,7 +124,7 @@ module _ {fresh present : List Bool} {value here : List ℕ} {all walls : ℕ} {
 -- ---- what the tests ask
 
 pub right : {fresh present : List Bool} {value here : List ℕ} {all walls : ℕ} {b : List Item} → Tallied fresh present value here all walls b
-    → (a : List Item) (i : ℕ) → i < 256 → {d : Bool} → d ≡ closing (group i a)
+    → (a : List Item) (i : ℕ) → i < places → {d : Bool} → d ≡ closing (group i a)
     → {c : Cell} → c ≡ cellOf (getD fresh i false) d → {w : Witness} → w ≡ witnessOf (getD present i false) (getD value i 0)
     → {s : Tops} → s ≡ topsOf all walls (getD here i 0) → Right b a i c (witnessed w) s
 right t a i k d c w s = record {

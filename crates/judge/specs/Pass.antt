@@ -4,11 +4,11 @@ use mathlib.Core.Path.{_≡_}
 use mathlib.Core.Bool.{Bool, false, not, cond, _&&_, _||_}
 use mathlib.Core.Option.{Option, none, some}
 use mathlib.Core.List.{List}
-use Prim.Native.Nat.{ℕ, _+_, _-_, _/_, _<_}
+use Prim.Native.Nat.{ℕ, _+_, _-_, _<_}
 use lib.Dec.{ltb}
-use lib.ListN.{length, getD, drop}
+use lib.ListN.{getD, drop}
 use Rattle.event.specs.Kind.{isLoadKind, has}
-use Rattle.event.specs.Room.{eventAt, onward}
+use Rattle.event.specs.Room.{eventAt, onward, capacity}
 use Rattle.rules.specs.View.{View, wall, load, store, view, isWall}
 use Rattle.rules.specs.Fault.{Item, closing, fate, group, is, isGone, unlike}
 use Rattle.judge.specs.declared.source.Cell.{Cell}
@@ -35,7 +35,7 @@ closingAfter isLoad n closing = isLoad && (not (isGone n) || closing)
 
 -- the events of a room from an index on, with their entries
 abbrev pub itemsFrom : List ℕ → List ℕ → ℕ → List Item
-itemsFrom l ns i = items view (onward l i (length l / 6 - i)) (drop i ns)
+itemsFrom l ns i = items view (onward l i (capacity l - i)) (drop i ns)
 
 -- whether a store at the index, to the location of the event there, is closing
 abbrev pub closingAt : List ℕ → List ℕ → ℕ → Bool
@@ -55,7 +55,7 @@ topAfter n top = cond (isGone n) top (larger n top)
 
 -- the flags say of each event whether a store there is closing
 abbrev pub Flagged : List Bool → List ℕ → List ℕ → Type 0
-Flagged flags l ns = (i : ℕ) → i < length l / 6 → getD flags i false ≡ closingAt l ns i
+Flagged flags l ns = (i : ℕ) → i < capacity l → getD flags i false ≡ closingAt l ns i
 
 -- what the code makes of its numbers and tests
 abbrev pub cellOf : Bool → Bool → Cell

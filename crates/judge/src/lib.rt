@@ -6,9 +6,8 @@ pub mod target;
 pub mod view;
 
 ghost use mathlib.Core.Path.{_≡_};
-ghost use Prim.Native.Nat.{_/_, _≤_};
-ghost use lib.ListN.{length};
-ghost use Rattle.event.specs.Room.{Placed, wholeEvents};
+ghost use Prim.Native.Nat.{_≤_};
+ghost use Rattle.event.specs.Room.{Placed, wholeEvents, capacity};
 ghost use Rattle.rules.specs.View.{view};
 ghost use Rattle.rules.specs.Verdict.{verdict};
 use entries::entry_answer;
@@ -29,9 +28,9 @@ pub fn judge(
     target: &[Word],
     entries: &[Entry],
 ) -> Answer
-    requires { ⌜ length (now source) / 6 ≤ 800 ⌝ }
+    requires { ⌜ capacity (now source) ≤ 800 ⌝ }
     requires { ⌜ Placed (now source) ⌝ }
-    requires { ⌜ length (now target) / 6 ≤ 800 ⌝ }
+    requires { ⌜ capacity (now target) ≤ 800 ⌝ }
     requires { ⌜ Placed (now target) ⌝ }
     ensures { λ r. ⌜ r ≡ verdict view (start .cells) («target_start» .cells)
         (wholeEvents (now (source .entry))) (wholeEvents (now (target .entry))) (now (entries .entry)) ⌝ }

@@ -3,9 +3,9 @@ ghost use mathlib.Core.Path.{_≡_};
 ghost use mathlib.Core.Bool.{false, cond};
 ghost use mathlib.Core.Option.{some};
 ghost use mathlib.Core.List.{[]};
-ghost use Prim.Native.Nat.{_/_, _≤_, _<_};
+ghost use Prim.Native.Nat.{_≤_, _<_};
 ghost use lib.ListN.{length};
-ghost use Rattle.event.specs.Room.{Placed, wholeEvents};
+ghost use Rattle.event.specs.Room.{Placed, wholeEvents, capacity};
 ghost use Rattle.rules.specs.View.{view};
 ghost use Rattle.rules.specs.Fault.{fate, is, isGone, unlike};
 ghost use Rattle.rules.specs.Verdict.{sourceAnswer};
@@ -40,9 +40,9 @@ fn closing_after(load: bool, entry: Entry, closing: bool) -> bool
 
 // For each source event, whether a store to its location there is closing.
 fn closing_flags(source: &[Word], entries: &[Entry]) -> [bool; 800]
-    requires { ⌜ length (now source) / 6 ≤ 800 ⌝ }
+    requires { ⌜ capacity (now source) ≤ 800 ⌝ }
     requires { ⌜ Placed (now source) ⌝ }
-    requires { ⌜ length (now entries) ≡ length (now source) / 6 ⌝ }
+    requires { ⌜ length (now entries) ≡ capacity (now source) ⌝ }
     ensures { λ r. ⌜ Flagged r (now (source .entry)) (now (entries .entry)) ⌝ }
 {
     let mut closing: [bool; 256] = [true; 256];
@@ -241,9 +241,9 @@ fn witness_after(over: bool, value: Word, witness: Witness) -> Witness
 
 // The source events upward.
 fn source_pass(source: &[Word], target: &[Word], entries: &[Entry], flags: &[bool; 800]) -> Answer
-    requires { ⌜ length (now source) / 6 ≤ 800 ⌝ }
+    requires { ⌜ capacity (now source) ≤ 800 ⌝ }
     requires { ⌜ Placed (now source) ⌝ }
-    requires { ⌜ length (now entries) ≡ length (now source) / 6 ⌝ }
+    requires { ⌜ length (now entries) ≡ capacity (now source) ⌝ }
     requires { ⌜ Flagged (now flags) (now source) (now entries) ⌝ }
     ensures { λ r. ⌜ r ≡ sourceAnswer view (wholeEvents (now (target .entry))) 1 [] (wholeEvents (now (source .entry))) (now (entries .entry)) ⌝ }
 {
@@ -284,9 +284,9 @@ fn source_pass(source: &[Word], target: &[Word], entries: &[Entry], flags: &[boo
 }
 
 pub(crate) fn source_answer(source: &[Word], target: &[Word], entries: &[Entry]) -> Answer
-    requires { ⌜ length (now source) / 6 ≤ 800 ⌝ }
+    requires { ⌜ capacity (now source) ≤ 800 ⌝ }
     requires { ⌜ Placed (now source) ⌝ }
-    requires { ⌜ length (now entries) ≡ length (now source) / 6 ⌝ }
+    requires { ⌜ length (now entries) ≡ capacity (now source) ⌝ }
     ensures { λ r. ⌜ r ≡ sourceAnswer view (wholeEvents (now (target .entry))) 1 [] (wholeEvents (now (source .entry))) (now (entries .entry)) ⌝ }
 {
     let flags = closing_flags(source, entries);

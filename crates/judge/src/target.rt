@@ -1,9 +1,8 @@
 // Answers 15 and 16: the target events without a source.
 ghost use mathlib.Core.Path.{_≡_};
 ghost use mathlib.Core.List.{List, []};
-ghost use Prim.Native.Nat.{ℕ, _/_, _≤_, _<_};
-ghost use lib.ListN.{length};
-ghost use Rattle.event.specs.Room.{Placed, wholeEvents};
+ghost use Prim.Native.Nat.{ℕ, _≤_, _<_};
+ghost use Rattle.event.specs.Room.{Placed, wholeEvents, capacity};
 ghost use Rattle.rules.specs.View.{view};
 ghost use Rattle.rules.specs.Verdict.{targetAnswer};
 ghost use Rattle.judge.specs.Pass.{Marked, targetFaultBy, unsupportedBy};
@@ -45,7 +44,7 @@ fn target_fault(kind: Word, unsupported: bool) -> Number
 }
 
 pub(crate) fn target_answer(target: &[Word], marks: &[bool; 801]) -> Answer
-    requires { ⌜ length (now target) / 6 ≤ 800 ⌝ }
+    requires { ⌜ capacity (now target) ≤ 800 ⌝ }
     requires { ⌜ Placed (now target) ⌝ }
     ensures { λ r. ⌜ ((ns : List ℕ) → Marked (now (marks .entry)) ns → r ≡ targetAnswer view ns 1 [] (wholeEvents (now (target .entry)))) ⌝ }
 {

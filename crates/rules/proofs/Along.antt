@@ -11,7 +11,7 @@ use lib.ListN.{length, set}
 use lib.Seq.{set-getD}
 use borrow.Author.Tests.{eqb-true}
 use Rattle.event.specs.Memory.{stepped}
-use Rattle.event.specs.Kind.{lawful}
+use Rattle.event.specs.Kind.{lawful, places}
 use Rattle.event.specs.declared.Event.{Event}
 use Rattle.event.specs.declared.memory.Memory.{Memory}
 use Rattle.event.specs.declared.memory.Stepped.{Stepped}
@@ -92,7 +92,7 @@ module _ (look : Event → View) (truthful : Truthful look) where
       go true j h = j ∙ ap valueOf (sym i) ∙ h
       go false j h = j ∙ k h
 
-  knows-next : (x : Traced) (b : List Traced) (m : Memory) → length (m .cells) ≡ 256 → Knows b m → T (stepped m (eventOf x) .right)
+  knows-next : (x : Traced) (b : List Traced) (m : Memory) → length (m .cells) ≡ places → Knows b m → T (stepped m (eventOf x) .right)
       → Knows (x ∷ b) (stepped m (eventOf x) .memory)
   knows-next x b m c k h p w =
       meets x (viewed look x) (cell m) (cell (stepped m (eventOf x) .memory)) p w (group (viewed look) p b) refl (effect truthful m (eventOf x) c h) (k p w)
@@ -131,9 +131,9 @@ module _ (look : Event → View) (truthful : Truthful look) where
   lawful-new (traced (old i) e) w = absurd w
   lawful-new (traced (new n) e) w = w
 
-  pub keeping : (m : Memory) → length (m .cells) ≡ 256 → Keeping (changes look) m
+  pub keeping : (m : Memory) → length (m .cells) ≡ places → Keeping (changes look) m
   keeping m c = record {
-    Knows = λ b n. (length (n .cells) ≡ 256) × Knows b n;
+    Knows = λ b n. (length (n .cells) ≡ places) × Knows b n;
     start = (c, λ p w k. absurd k);
     onward = λ x b n w f. (step-length n (eventOf x) ∙ w .0, knows-next x b n (w .0) (w .1) f);
     removing = λ x b a n r w h. removed x b a n (look (eventOf x)) refl r (w .1) h;

@@ -8,7 +8,7 @@ use native.Mathlib.Omega.{arith}
 use borrow.Author.Tests.{le-leb}
 use lib.Dec.{eqb, ltb}
 use lib.ListN.{length}
-use Rattle.event.specs.Kind.{has, isLoadKind}
+use Rattle.event.specs.Kind.{has, isLoadKind, places}
 use Rattle.event.specs.Answer.{first, InTable}
 use Rattle.event.specs.declared.Event.{Event}
 use Rattle.event.proofs.Answers.{Among, Given, none, one, among-cond, given-cond, given-fault, given-in, in-cond, in-first}
@@ -75,7 +75,7 @@ module _ (view : Event → View) where
   count-among s ns = among-cond _ (eqb (length ns) (length s)) none (one refl)
 
   -- 7's place is a location
-  start-in : (l : ℕ) (c d : List ℕ) → l + length c ≤ 256 → InTable (startAnswer l c d)
+  start-in : (l : ℕ) (c d : List ℕ) → l + length c ≤ places → InTable (startAnswer l c d)
   unfolding startAnswer
   start-in l [] d h = refl
   start-in l (v ∷ c) [] h = refl
@@ -86,7 +86,7 @@ module _ (view : Event → View) where
   count-in s ns = in-cond (eqb (length ns) (length s)) _ _ refl refl
 
   -- "Numbers that come back": the verdict is a row of the table
-  pub verdict-in : (m n : List ℕ) (s t : List Event) (ns : List ℕ) → length m ≡ 256 → InTable (verdict view m n s t ns)
+  pub verdict-in : (m n : List ℕ) (s t : List Event) (ns : List ℕ) → length m ≡ places → InTable (verdict view m n s t ns)
   unfolding verdict
   verdict-in m n s t ns h =
       let a = startAnswer 0 m n in

@@ -7,7 +7,7 @@ use Prim.Native.Nat.{ℕ, _<_}
 use lib.ListN.{length-set, length, getD, set}
 use lib.Seq.{set-getD}
 use lib.Dec.{T, eqb}
-use Rattle.event.specs.Kind.{used, row, lawful, plain}
+use Rattle.event.specs.Kind.{used, row, lawful, plain, places}
 use Rattle.event.specs.Memory.{after, latest, left, stepped}
 use Rattle.event.proofs.Lawful.{place-below}
 use Rattle.event.proofs.Table.{plain-load, plain-store}
@@ -68,8 +68,8 @@ acts-of m e is-wall l p = absurd p
 -- a plain event's location is one of the 256
 abbrev pub Bound : View → Type 0
 Bound wall = Unit {0}
-Bound (load p v u) = p < 256
-Bound (store p v) = p < 256
+Bound (load p v u) = p < places
+Bound (store p v) = p < places
 
 bounds-of : (e : Event) {v : View} → Kinds e v → T (lawful e) → Bound v
 bounds-of e (is-load k r) l = place-below e (T-true (lawful e) l)

@@ -12,7 +12,7 @@ use lib.Seq.{getD-set-same, getD-set-other}
 use borrow.Author.Tests.{eqb-true, eqb-false}
 use Rattle.laws.proofs.Lists.{Each}
 use Rattle.event.specs.Memory.{stepped}
-use Rattle.event.specs.Kind.{lawful}
+use Rattle.event.specs.Kind.{lawful, places}
 use Rattle.event.specs.declared.Event.{Event}
 use Rattle.event.specs.declared.memory.Memory.{Memory}
 use Rattle.rules.specs.View.{View, load, store, wall}
@@ -64,19 +64,19 @@ cell-put m p v l h = go (eqb l p) refl
     go true q = rw (eqb-true l p q) (getD-set-same (m .cells) p v 0 h)
     go false q = getD-set-other (m .cells) p l v 0 (eqb-false l p q)
 
-effect-of : (m : Memory) (e : Event) (v : View) → (Plain v → stepped m e ≡ act v m) → Bound v → length (m .cells) ≡ 256 → T (stepped m e .right)
+effect-of : (m : Memory) (e : Event) (v : View) → (Plain v → stepped m e ≡ act v m) → Bound v → length (m .cells) ≡ places → T (stepped m e .right)
     → Effect (cell m) v (cell (stepped m e .memory))
 effect-of m e wall a b c h = tt
 effect-of m e (load p v u) a b c h = (sym (eqb→eq v (cell m p) (rw (a tt) at h)), λ l. rw (a tt))
 effect-of m e (store p v) a b c h = λ l. rw (a tt) (cell-put m p v l (omega arith))
 
-pub effect : {look : Event → View} → Truthful look → (m : Memory) (e : Event) → length (m .cells) ≡ 256 → T (stepped m e .right)
+pub effect : {look : Event → View} → Truthful look → (m : Memory) (e : Event) → length (m .cells) ≡ places → T (stepped m e .right)
     → Effect (cell m) (look e) (cell (stepped m e .memory))
 effect {look} truthful m e c h =
     let l = right-lawful m e h in effect-of m e (look e) (truthful .acts m e l) (truthful .bounds e l) c h
 
 module _ (look : Event → View) (truthful : Truthful look) where
-  agree : (l : ℕ) (m : Memory) (n : Option ℕ) {s : List Event} {x : List Item} → Over (Faces look) s x → length (m .cells) ≡ 256 → T (right m s)
+  agree : (l : ℕ) (m : Memory) (n : Option ℕ) {s : List Event} {x : List Item} → Over (Faces look) s x → length (m .cells) ≡ places → T (right m s)
       → fits n (cell m l) → Agree n (word l x)
   agree l m n over-nil c h f = tt
   agree l m n (over-cons {x = e} {y = y} {s = s} {t = x} q o) c h f =
@@ -94,10 +94,10 @@ module _ (look : Event → View) (truthful : Truthful look) where
   over-targets ns k [] = over-nil
   over-targets ns k (e ∷ t) = over-cons refl (over-targets ns (suc k) t)
 
-  pub agrees-source : (m : Memory) (s : List Event) (ns : List ℕ) → length (m .cells) ≡ 256 → length ns ≡ length s → T (right m s) → Agrees (items look s ns)
+  pub agrees-source : (m : Memory) (s : List Event) (ns : List ℕ) → length (m .cells) ≡ places → length ns ≡ length s → T (right m s) → Agrees (items look s ns)
   agrees-source m s ns c h r l = agree l m none (over-items s ns h) c r tt
 
-  pub agrees-target : (m : Memory) (ns : List ℕ) (t : List Event) → length (m .cells) ≡ 256 → T (right m t) → Agrees (targetItems look ns 1 t)
+  pub agrees-target : (m : Memory) (ns : List ℕ) (t : List Event) → length (m .cells) ≡ places → T (right m t) → Agrees (targetItems look ns 1 t)
   agrees-target m ns t c r l = agree l m none (over-targets ns 1 t) c r tt
 
 pub all-lawful : (m : Memory) (s : List Event) → T (right m s) → Each (λ e. T (lawful e)) s

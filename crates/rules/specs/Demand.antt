@@ -11,6 +11,7 @@ use Rattle.event.specs.Memory.{stepped}
 use Rattle.event.specs.declared.Event.{Event}
 use Rattle.event.specs.Answer.{done}
 use Rattle.event.specs.declared.memory.Memory.{Memory}
+use Rattle.event.specs.Kind.{places}
 use Rattle.rules.specs.View.{view}
 use Rattle.rules.specs.Moves.{Run, By}
 use Rattle.rules.specs.Run.{Ends, Realises, Traced, changes, eventOf, new, old, tagOf}
@@ -30,8 +31,8 @@ final m (e ∷ s) = final (stepped m e .memory) s
 -- Two traces from memories of 256 cells and a matching to which none of the answers 1 to 9 is given. (Answer 5, a location used by plain and
 -- atomic events, need not be ruled out: nearness ends at every atomic event anyhow.)
 pub record Passed (m n : Memory) (s t : List Event) (ns : List ℕ) : Type 0 where
-  pub source-cells : length (m .cells) ≡ 256
-  pub target-cells : length (n .cells) ≡ 256
+  pub source-cells : length (m .cells) ≡ places
+  pub target-cells : length (n .cells) ≡ places
   pub source : T (right m s)
   pub target : T (right n t)
   pub start : startAnswer 0 (m .cells) (n .cells) ≡ done
@@ -48,7 +49,7 @@ Demand3 =
 -- value that the first leaves there.
 abbrev pub Values : Type 0
 Values =
-    (m : Memory) (s u : List Traced) (r : Run (changes view) s u) → length (m .cells) ≡ 256 → T (right m (map eventOf s))
+    (m : Memory) (s u : List Traced) (r : Run (changes view) s u) → length (m .cells) ≡ places → T (right m (map eventOf s))
     → (x : List Traced) → By (changes view) x (r .1) ⊎ By (changes view) x (r .2)
     → T (right m (map eventOf x)) × (final m (map eventOf x) ≡ final m (map eventOf s))
 

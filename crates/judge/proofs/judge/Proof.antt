@@ -1,12 +1,12 @@
 -- Each answer is handed on if it refuses, and the next is asked if it does not. Assumes nothing.
-use Prim.Native.Nat.{ℕ, _/_}
+use Prim.Native.Nat.{ℕ}
 use mathlib.Core.List.{List, []}
 use mathlib.Core.Path.{_≡_, refl, sym, _∙_, ap}
 use native.Mathlib.Omega.{arith}
 use lib.ListN.{length}
 use borrow.Author.Tests.{eq-eqb, ne-eqb}
 use Rattle.event.specs.Answer.{answer, done, first}
-use Rattle.event.specs.Room.{onward}
+use Rattle.event.specs.Room.{onward, capacity}
 use Rattle.event.specs.declared.Answer.{Answer}
 use Rattle.event.specs.declared.Event.{Event}
 use Rattle.rules.specs.View.{view}
@@ -23,26 +23,26 @@ goes : {r x : Answer} (a b : Answer) → x ≡ a → x .number ≡ 0 → r ≡ b
 goes a b e z h = rw (eq-eqb (a .number) 0 (ap (λ (x : Answer). x .number) (sym e) ∙ z)) h
 
 -- 8, over a room
-count-stops : (l ns : List ℕ) → (length ns ≡ length l / 6 → ⊥) → answer 8 3 (length ns) ≡ countAnswer (onward l 0 (length l / 6)) ns
+count-stops : (l ns : List ℕ) → (length ns ≡ capacity l → ⊥) → answer 8 3 (length ns) ≡ countAnswer (onward l 0 (capacity l)) ns
 unfolding countAnswer
-count-stops l ns h = rw (onward-length l 0 (length l / 6), ne-eqb (length ns) (length l / 6) h)
+count-stops l ns h = rw (onward-length l 0 (capacity l), ne-eqb (length ns) (capacity l) h)
 
-count-goes : (l ns : List ℕ) → length ns ≡ length l / 6 → done ≡ countAnswer (onward l 0 (length l / 6)) ns
+count-goes : (l ns : List ℕ) → length ns ≡ capacity l → done ≡ countAnswer (onward l 0 (capacity l)) ns
 unfolding countAnswer
-count-goes l ns h = rw (onward-length l 0 (length l / 6), eq-eqb (length ns) (length l / 6) h)
+count-goes l ns h = rw (onward-length l 0 (capacity l), eq-eqb (length ns) (capacity l) h)
 
 -- the answers in their order
 abbrev events : List ℕ → List Event
-events r = onward r 0 (length r / 6)
+events r = onward r 0 (capacity r)
 
 abbrev after-count : List ℕ → List ℕ → List ℕ → Answer
 after-count l t ns =
-    first (entryAnswer (length t / 6) 1 [] ns) (first (sourceAnswer view (events t) 1 [] (events l) ns) (targetAnswer view ns 1 [] (events t)))
+    first (entryAnswer (capacity t) 1 [] ns) (first (sourceAnswer view (events t) 1 [] (events l) ns) (targetAnswer view ns 1 [] (events t)))
 
 in-order : (m n l t ns : List ℕ) {r : Answer} → r ≡ first (startAnswer 0 m n) (first (countAnswer (events l) ns) (after-count l t ns))
     → r ≡ verdict view m n (events l) (events t) ns
 unfolding verdict
-in-order m n l t ns e = rw (onward-length t 0 (length t / 6)) e
+in-order m n l t ns e = rw (onward-length t 0 (capacity t)) e
 
 -- the arguments
 module _ (c : tie.After-start-answer) where

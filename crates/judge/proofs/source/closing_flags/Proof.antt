@@ -1,12 +1,14 @@
 -- The pass goes from the end: the array says of each location whether a store before the events passed is closing, and an event's flag is what the
 -- array says at its location when the event comes, so the flags of the events passed are right. Assumes nothing.
-use Prim.Native.Nat.{ℕ, _+_, _-_, _/_, _≤_, _<_}
+use Prim.Native.Nat.{ℕ, _+_, _-_, _≤_, _<_}
 use mathlib.Core.Bool.{Bool, true, false}
 use mathlib.Core.List.{List, _∷_}
 use mathlib.Core.Path.{_≡_, refl, sym, _∙_}
 use native.Mathlib.Omega.{arith}
 use lib.ListN.{length, getD, set, replicate, length-set}
 use Rattle.event.specs.declared.Event.{Event}
+use Rattle.event.specs.Room.{capacity}
+use Rattle.event.specs.Kind.{places}
 use Rattle.rules.specs.View.{view, isWall}
 use Rattle.rules.specs.Fault.{Item, fate, item}
 use Rattle.judge.specs.Pass.{closingAt, itemsFrom}
@@ -19,11 +21,11 @@ use Rattle.judge.proofs.source.closing_flags.Tie as tie
 
 -- the events from the index on are passed
 record Passed (source entries : List ℕ) (closing flags : List Bool) (i : ℕ) : Type 0 where
-  bound : i ≤ length source / 6
-  closing-size : length closing ≡ 256
+  bound : i ≤ capacity source
+  closing-size : length closing ≡ places
   flags-size : length flags ≡ 800
   closed : Closed closing (itemsFrom source entries i)
-  flagged : (k : ℕ) → i ≤ k → k < length source / 6 → getD flags k false ≡ closingAt source entries k
+  flagged : (k : ℕ) → i ≤ k → k < capacity source → getD flags k false ≡ closingAt source entries k
 
 abbrev Inv-loop : tie.InvT-loop
 Inv-loop source entries closing₀ flags₀ i₀ closing flags i = Passed source entries closing flags i
@@ -57,7 +59,7 @@ module _ (c : tie.After-index-of Inv-loop μ-loop) where
   abbrev behind : List Item
   behind = itemsFrom room entries (turn .loop .i)
 
-  in-room : c .index-of .result < 256
+  in-room : c .index-of .result < places
   in-room = place-in room (begin .pre .1 .0) index (omega arith) event (c .before .get .ensures) (c .index-of .ensures)
 
   step : turn .loop .i ≡ index + 1
@@ -66,13 +68,13 @@ module _ (c : tie.After-index-of Inv-loop μ-loop) where
   abbrev was : Bool
   was = getD (turn .loop .closing) (c .index-of .result) false
 
-  flags-are : (k : ℕ) → index ≤ k → k < length room / 6 → getD (set (turn .loop .flags) index was) k false ≡ closingAt room entries k
+  flags-are : (k : ℕ) → index ≤ k → k < capacity room → getD (set (turn .loop .flags) index was) k false ≡ closingAt room entries k
   flags-are =
-      flags-next (turn .loop .flags) (closingAt room entries) index (length room / 6) step (omega arith)
+      flags-next (turn .loop .flags) (closingAt room entries) index (capacity room) step (omega arith)
       (flag-is room entries index event step (c .before .get .ensures) (c .index-of .ensures) (turn .loop .inv .closed (c .index-of .result) in-room))
       (turn .loop .inv .flagged)
 
-  passed : (cells : List Bool) → length cells ≡ 256 → Closed cells (item (view event) (fate entry) ∷ behind)
+  passed : (cells : List Bool) → length cells ≡ places → Closed cells (item (view event) (fate entry) ∷ behind)
       → Passed room entries cells (set (turn .loop .flags) index was) index
   passed cells size closed = record {
     bound = omega arith;
@@ -90,19 +92,19 @@ wall-is c e = sym (c .is-wall .ensures) ∙ e
 loop-holds : tie.Need-loop-holds Inv-loop μ-loop
 loop-holds c =
     let b = c .before .before in
-    let e : length (b .args .entries .now) ≡ length (b .args .source .now) / 6 = b .pre .1 .1 in
+    let e : length (b .args .entries .now) ≡ capacity (b .args .source .now) = b .pre .1 .1 in
     record {
       bound = omega arith;
       closing-size = refl;
       flags-size = refl;
-      closed = closed-is (replicate 256 true) (items-end (b .args .source .now) (b .args .entries .now) e _ e) closed-start;
+      closed = closed-is (replicate places true) (items-end (b .args .source .now) (b .args .entries .now) e _ e) closed-start;
       flagged = λ k h i. absurd (omega arith);
     }
 
 loop-again : tie.Need-loop-again Inv-loop μ-loop
 loop-again c =
     let a = c .before .before in
-    passed a (replicate 256 true) refl (closed-wall (view (event a)) (wall-is (c .before) (c .if1 .taken)) _ (behind a))
+    passed a (replicate places true) refl (closed-wall (view (event a)) (wall-is (c .before) (c .if1 .taken)) _ (behind a))
 
 loop-again-2 : tie.Need-loop-again-2 Inv-loop μ-loop
 loop-again-2 c =

@@ -2,11 +2,10 @@
 use mathlib.Core.Path.{_≡_, sym, _∙_, ap}
 use mathlib.Core.Bool.{false, not, false≢true}
 use mathlib.Core.List.{List}
-use Prim.Native.Nat.{ℕ, zero, suc, _-_, _/_}
+use Prim.Native.Nat.{ℕ, zero, suc, _-_}
 use native.Mathlib.Omega.{arith}
 use borrow.Author.Needs.{needs}
-use lib.ListN.{length}
-use Rattle.event.specs.Room.{eventAt, onward}
+use Rattle.event.specs.Room.{eventAt, onward, capacity}
 use Rattle.event.specs.declared.Event.{Event}
 use Rattle.rules.specs.View.{same}
 use Rattle.rules.specs.Fault.{fate, isGone, unlike}
@@ -15,14 +14,14 @@ use Rattle.judge.proofs.Events.{room-at}
 use Rattle.judge.proofs.source.differs.Statement.{statement}
 use Rattle.judge.proofs.source.differs.Tie as tie
 
-unlike-at : (l : List ℕ) (e : Event) (n : ℕ) → isGone n ≡ false → unlike (onward l 0 (length l / 6)) e (fate n) ≡ not (same e (eventAt l (n - 1)))
+unlike-at : (l : List ℕ) (e : Event) (n : ℕ) → isGone n ≡ false → unlike (onward l 0 (capacity l)) e (fate n) ≡ not (same e (eventAt l (n - 1)))
 unlike-at l e zero g = absurd (false≢true (sym g))
 unlike-at l e (suc n) g =
     let i : n ≡ suc n - 1 = omega arith in
     ap (λ (f : Event). not (same e f)) (room-at l n ∙ ap (eventAt l) i)
 
 told : (l : List ℕ) (e : Event) {n k : ℕ} {f : Event} → isGone n ≡ false → k ≡ n → f ≡ eventAt l (k - 1)
-    → not (same e f) ≡ unlike (onward l 0 (length l / 6)) e (fate n)
+    → not (same e f) ≡ unlike (onward l 0 (capacity l)) e (fate n)
 told l e {n} h i g = rw (g, i) (sym (unlike-at l e n h))
 
 returns : tie.Need-returns

@@ -1,6 +1,6 @@
 -- From each source event on the answer is that from the next event on, until an event is refused or none is left. The arrays and the greatest numbers
 -- are the tallies of the events passed, and with the event's flag they hold all that its fault asks. Assumes nothing.
-use Prim.Native.Nat.{ℕ, _+_, _-_, _/_, _≤_, _<_}
+use Prim.Native.Nat.{ℕ, _+_, _-_, _≤_, _<_}
 use mathlib.Core.Bool.{Bool, false, cond}
 use mathlib.Core.Option.{some}
 use mathlib.Core.List.{List, [], _∷_}
@@ -11,7 +11,8 @@ use lib.ListN.{length, getD, drop}
 use Rattle.event.specs.Answer.{done}
 use Rattle.event.specs.declared.Answer.{Answer}
 use Rattle.event.specs.declared.Event.{Event}
-use Rattle.event.specs.Room.{eventAt, onward}
+use Rattle.event.specs.Room.{eventAt, onward, capacity}
+use Rattle.event.specs.Kind.{places}
 use Rattle.rules.specs.View.{View, view, isLoad, isWall}
 use Rattle.rules.specs.Fault.{Item, closing, fate, group, item}
 use Rattle.rules.specs.Verdict.{sourceAnswer, sourceFault}
@@ -28,7 +29,7 @@ use Rattle.judge.proofs.source.source_pass.Tie as tie
 
 -- the events of a room, and the answer to those of a source
 abbrev events : List ℕ → List Event
-events room = onward room 0 (length room / 6)
+events room = onward room 0 (capacity room)
 
 abbrev whole : List ℕ → List ℕ → List ℕ → Answer
 whole source target entries = sourceAnswer view (events target) 1 [] (events source) entries
@@ -38,7 +39,7 @@ record Passed (source target entries : List ℕ) (fresh present : List Bool) (va
   bound : i ≤ length entries
   behind : List Item
   tallied : Tallied fresh present value here all walls behind
-  answers : whole source target entries ≡ sourceAnswer view (events target) (i + 1) behind (onward source i (length source / 6 - i)) (drop i entries)
+  answers : whole source target entries ≡ sourceAnswer view (events target) (i + 1) behind (onward source i (capacity source - i)) (drop i entries)
 
 abbrev Inv-loop : tie.InvT-loop
 Inv-loop source target entries flags fresh₀ present₀ value₀ here₀ all₀ walls₀ i₀ fresh present value here all walls i =
@@ -94,7 +95,7 @@ module _ (c : tie.After-index-of Inv-loop μ-loop) where
   here = item (view event) (fate entry)
 
   abbrev rest : List Event
-  rest = onward room (index + 1) (length room / 6 - (index + 1))
+  rest = onward room (index + 1) (capacity room - (index + 1))
 
   abbrev ahead : List Item
   ahead = itemsFrom room entries (index + 1)
@@ -104,11 +105,11 @@ module _ (c : tie.After-index-of Inv-loop μ-loop) where
   from-here =
       turn .loop .inv .answers
       ∙ rw (
-        onward-next room (length room / 6) index event (omega arith) (c .before .before .get .ensures),
+        onward-next room (capacity room) index event (omega arith) (c .before .before .get .ensures),
         drop-next entries index entry (omega arith) refl,
       )
 
-  in-room : c .index-of .result < 256
+  in-room : c .index-of .result < places
   in-room = place-in room (begin .pre .1 .0) index (omega arith) event (c .before .before .get .ensures) (c .index-of .ensures)
 
   few : index < 800
@@ -147,7 +148,7 @@ wall-is c e = sym (c .is-wall .ensures) ∙ e
 loop-holds : tie.Need-loop-holds Inv-loop μ-loop
 loop-holds c =
     let l = c .before .before .before .args .source .now in
-    let e : length l / 6 - 0 ≡ length l / 6 = omega arith in
+    let e : capacity l - 0 ≡ capacity l = omega arith in
     record { bound = omega arith; behind = []; tallied = tallied-start; answers = rw e }
 
 returns : tie.Need-returns Inv-loop μ-loop
@@ -181,7 +182,7 @@ loop-again-2 c =
 returns-2 : tie.Need-returns-2 Inv-loop μ-loop
 returns-2 c =
     let t = c .before .before in
-    let e : length (t .before .before .before .before .args .source .now) / 6 - t .loop .i ≡ 0 = omega arith in
+    let e : capacity (t .before .before .before .before .args .source .now) - t .loop .i ≡ 0 = omega arith in
     c .new5 .ensures ∙ sym (t .loop .inv .answers ∙ none-left _ _ _ _ _ _ _ e)
 
 pub source-pass-spec : {M : Type 1} → statement M

@@ -7,25 +7,26 @@ use native.Mathlib.Omega.{arith}
 use lib.ListN.{length, drop, getD, length-map}
 use lib.Seq.{drop-cons, drop-length}
 use Rattle.event.specs.Answer.{done}
+use Rattle.event.specs.Kind.{places}
 use Rattle.rules.specs.Verdict.{startAnswer}
 use Rattle.judge.proofs.Onward.{start-goes, start-stops}
 use Rattle.judge.proofs.start.start_answer.Statement.{statement}
 use Rattle.judge.proofs.start.start_answer.Tie as tie
 
 abbrev Inv-loop : tie.InvT-loop
-Inv-loop cells target-cells i₀ i = (i ≤ 256) × (startAnswer 0 cells target-cells ≡ startAnswer i (drop i cells) (drop i target-cells))
+Inv-loop cells target-cells i₀ i = (i ≤ places) × (startAnswer 0 cells target-cells ≡ startAnswer i (drop i cells) (drop i target-cells))
 
 abbrev μ-loop : tie.MeasureT-loop
-μ-loop cells target-cells i₀ i = 256 - i
+μ-loop cells target-cells i₀ i = places - i
 
 -- an array of 256 has 256 cells
-sized : (m : List ℕ) → length (map (λ (v : ℕ). v) m) ≡ 256 → length m ≡ 256
+sized : (m : List ℕ) → length (map (λ (v : ℕ). v) m) ≡ places → length m ≡ places
 sized m h = sym (length-map m (λ (v : ℕ). v)) ∙ h
 
-source-size : (c : tie.Start Inv-loop μ-loop) → length (c .args .start .cells) ≡ 256
+source-size : (c : tie.Start Inv-loop μ-loop) → length (c .args .start .cells) ≡ places
 source-size c = sized (c .args .start .cells) (c .good .0 .1 .1 .0 .1 .0 .1)
 
-target-size : (c : tie.Start Inv-loop μ-loop) → length (c .args .target-start .cells) ≡ 256
+target-size : (c : tie.Start Inv-loop μ-loop) → length (c .args .target-start .cells) ≡ places
 target-size c = sized (c .args .target-start .cells) (c .good .1 .0 .1 .1 .0 .1 .0 .1)
 
 -- the cells from the loop's on
@@ -60,7 +61,7 @@ loop-again c = (omega arith, from-here (c .before) ∙ (start-goes _ _ _ _ _ (c 
 returns-2 : tie.Need-returns-2 Inv-loop μ-loop
 returns-2 c =
     let b = c .before .before .before .before .before in
-    let e : c .before .before .loop .i ≡ 256 = omega arith in
+    let e : c .before .before .loop .i ≡ places = omega arith in
     c .new2 .ensures ∙ sym (c .before .before .loop .inv .1 ∙ at-end _ _ _ (source-size b ∙ sym e) (target-size b ∙ sym e))
 
 pub start-answer-spec : {M : Type 1} → statement M

@@ -1,6 +1,6 @@
 -- From each target event on the answer is that from the next event on, until an event is refused or none is left; the array says which locations
 -- had no access since the last synchronising event, which is all that 16 asks. Assumes nothing.
-use Prim.Native.Nat.{ℕ, _+_, _-_, _/_, _≤_, _<_}
+use Prim.Native.Nat.{ℕ, _+_, _-_, _≤_, _<_}
 use mathlib.Core.Bool.{Bool}
 use mathlib.Core.List.{List, [], _∷_}
 use mathlib.Core.Path.{_≡_, refl, sym, _∙_, ap}
@@ -10,8 +10,8 @@ use lib.ListN.{length, length-set}
 use Rattle.event.specs.Answer.{done}
 use Rattle.event.specs.declared.Answer.{Answer}
 use Rattle.event.specs.declared.Event.{Event}
-use Rattle.event.specs.Kind.{has}
-use Rattle.event.specs.Room.{onward}
+use Rattle.event.specs.Kind.{has, places}
+use Rattle.event.specs.Room.{onward, capacity}
 use Rattle.rules.specs.View.{view, isLoad, isWall}
 use Rattle.rules.specs.Fault.{Item, isNone, near}
 use Rattle.rules.specs.Verdict.{targetItem, targetAnswer, targetFault}
@@ -27,24 +27,24 @@ use Rattle.judge.proofs.target.target_answer.Tie as tie
 
 -- the answer from the events of a room
 abbrev whole : List ℕ → List ℕ → Answer
-whole ns room = targetAnswer view ns 1 [] (onward room 0 (length room / 6))
+whole ns room = targetAnswer view ns 1 [] (onward room 0 (capacity room))
 
 -- the events before the index are passed, by the numbers that some entries name
 record Passed (ns room : List ℕ) (fresh : List Bool) (k : ℕ) : Type 0 where
   behind : List Item
   fresh-is : Fresh fresh behind
-  answers : whole ns room ≡ targetAnswer view ns (k + 1) behind (onward room k (length room / 6 - k))
+  answers : whole ns room ≡ targetAnswer view ns (k + 1) behind (onward room k (capacity room - k))
 
 record Along (room : List ℕ) (marks fresh : List Bool) (k : ℕ) : Type 0 where
-  bound : k ≤ length room / 6
-  size : length fresh ≡ 256
+  bound : k ≤ capacity room
+  size : length fresh ≡ places
   passed : (ns : List ℕ) → Marked marks ns → Passed ns room fresh k
 
 abbrev Inv-loop : tie.InvT-loop
 Inv-loop target marks fresh₀ k₀ fresh k = Along target marks fresh k
 
 abbrev μ-loop : tie.MeasureT-loop
-μ-loop target marks fresh₀ k₀ fresh k = length target / 6 - k
+μ-loop target marks fresh₀ k₀ fresh k = capacity target - k
 
 fault-told : (b : List Item) (ns : List ℕ) (k : ℕ) (e : Event) {i r : ℕ} {u s l f : Bool} → s ≡ has k ns → l ≡ isLoad (view e) → i ≡ e .place
     → f ≡ isNone (near i b) → u ≡ unsupportedBy s l f → r ≡ targetFaultBy (e .kind) u → targetFault (e .kind) b (targetItem view ns k e) ≡ r
@@ -73,9 +73,9 @@ module _ (c : tie.After-index-of Inv-loop μ-loop) where
   event = c .before .get .result
 
   abbrev rest : List Event
-  rest = onward room (index + 1) (length room / 6 - (index + 1))
+  rest = onward room (index + 1) (capacity room - (index + 1))
 
-  in-room : c .index-of .result < 256
+  in-room : c .index-of .result < places
   in-room = place-in room (begin .pre .1) index (omega arith) event (c .before .get .ensures) (c .index-of .ensures)
 
 -- its fault, by the numbers that the entries name
@@ -98,7 +98,7 @@ module _ (c : tie.After-target-fault Inv-loop μ-loop) (ns : List ℕ) (m : Mark
   from-here : whole ns (room (at c)) ≡ targetAnswer view ns (index (at c) + 1) (before .behind) (event (at c) ∷ rest (at c))
   from-here =
       before .answers
-      ∙ rw (onward-next (room (at c)) (length (room (at c)) / 6) (index (at c)) (event (at c)) (omega arith) (at c .before .get .ensures))
+      ∙ rw (onward-next (room (at c)) (capacity (room (at c))) (index (at c)) (event (at c)) (omega arith) (at c .before .get .ensures))
 
   goes-on : c .target-fault .result ≡ 0 → {fresh : List Bool} → Fresh fresh (here ∷ before .behind) → Passed ns (room (at c)) fresh (index (at c) + 1)
   goes-on z f = record {
@@ -114,7 +114,7 @@ wall-is c e = sym (c .is-wall .ensures) ∙ e
 loop-holds : tie.Need-loop-holds Inv-loop μ-loop
 loop-holds c =
     let l = c .before .args .target .now in
-    let e : length l / 6 - 0 ≡ length l / 6 = omega arith in
+    let e : capacity l - 0 ≡ capacity l = omega arith in
     record { bound = omega arith; size = refl; passed = λ ns m. record { behind = []; fresh-is = fresh-start; answers = rw e } }
 
 returns : tie.Need-returns Inv-loop μ-loop
@@ -147,7 +147,7 @@ loop-again-2 c =
 returns-2 : tie.Need-returns-2 Inv-loop μ-loop
 returns-2 c ns m =
     let t = c .before .before in
-    let e : length (t .before .before .args .target .now) / 6 - t .loop .k ≡ 0 = omega arith in
+    let e : capacity (t .before .before .args .target .now) - t .loop .k ≡ 0 = omega arith in
     c .new2 .ensures ∙ sym (t .loop .inv .passed ns m .answers ∙ none-left ns _ _ _ _ _ e)
 
 pub target-answer-spec : {M : Type 1} → statement M
