@@ -1,7 +1,7 @@
 -- An array as a function: what it holds when it is made, and after the cell of an event's location is set. And the two arrays that tell of the
 -- numbers that entries name and of the locations that had no access since the last synchronising event. Assumes nothing.
-use mathlib.Core.Path.{_≡_, refl, sym, _∙_}
-use mathlib.Core.Bool.{Bool, true, false, cond, false≢true}
+use mathlib.Core.Path.{_≡_, refl, sym, _∙_, ap}
+use mathlib.Core.Bool.{Bool, true, false, cond, _||_, false≢true}
 use mathlib.Core.List.{List, [], _∷_}
 use Prim.Native.Nat.{ℕ, zero, suc, _<_}
 use native.Mathlib.Omega.{arith}
@@ -13,7 +13,9 @@ use Rattle.laws.proofs.Cases.{cases, either}
 use Rattle.event.specs.Kind.{places}
 use Rattle.rules.specs.View.{View, isWall}
 use Rattle.rules.specs.Fault.{Fate, Item, isGone, isNone, item, near}
+use Rattle.judge.specs.Marks.{marking}
 use Rattle.judge.specs.Pass.{Marked}
+use Rattle.judge.proofs.Marking.{in-marking, in-none}
 use Rattle.judge.proofs.Passes.{PlainAt, none-at, walled}
 
 -- the cells of an array are the values of f
@@ -38,19 +40,15 @@ pub kept-number : (n : ℕ) → isGone n ≡ false → 0 < n
 kept-number zero g = absurd (false≢true (sym g))
 kept-number (suc n) g = omega arith
 
-pub marked-start : Marked (replicate 801 false) []
-marked-start k p h = getD-replicate 801 k false false h
+pub marked-start : Marked (replicate 13 0) []
+marked-start k p h = in-none 13 k
 
-pub marked-gone : (marks : List Bool) (b : List ℕ) (k : ℕ) → isGone k ≡ true → Marked marks b → Marked marks (k ∷ b)
+pub marked-gone : (marks b : List ℕ) (k : ℕ) → isGone k ≡ true → Marked marks b → Marked marks (k ∷ b)
 marked-gone marks b zero g m l p h = let z : l ≡ 0 → ⊥ = λ e. omega arith in m l p h ∙ rw (ne-eqb l 0 z)
 marked-gone marks b (suc k) g m l p h = absurd (false≢true g)
 
-pub marked-next : (marks : List Bool) (b : List ℕ) (k : ℕ) → k < 801 → length marks ≡ 801 → Marked marks b → Marked (set marks k true) (k ∷ b)
-marked-next marks b k h size m l p i =
-    let w : k < length marks = omega arith in
-    cases (either (eqb l k))
-    (λ e. rw (eqb-true l k e, eq-eqb k k refl) (getD-set-same marks k true false w))
-    (λ e. getD-set-other marks k l true false (eqb-false l k e) ∙ (m l p i ∙ rw e))
+pub marked-next : (marks b : List ℕ) (k : ℕ) → k < 801 → length marks ≡ 13 → Marked marks b → Marked (marking marks k) (k ∷ b)
+marked-next marks b k h size m l p i = in-marking marks k l (omega arith) ∙ ap (λ (c : Bool). eqb l k || c) (m l p i)
 
 -- the locations without an access since the last synchronising event
 abbrev pub Fresh : List Bool → List Item → Type 0

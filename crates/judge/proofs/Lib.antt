@@ -7,6 +7,9 @@ pub mod Onward
 -- the events of a room, and what the judge sees of them
 pub mod Sight
 pub mod Events
+-- the marks of numbers
+pub mod Bit
+pub mod Marking
 -- the arrays of the passes
 pub mod Arrays
 pub mod Closed

@@ -11,6 +11,7 @@ use Rattle.event.specs.Kind.{isLoadKind, has}
 use Rattle.event.specs.Room.{eventAt, onward, capacity}
 use Rattle.rules.specs.View.{View, wall, load, store, view, isWall}
 use Rattle.rules.specs.Fault.{Item, closing, fate, group, is, isGone, unlike}
+use Rattle.judge.specs.Marks.{inWords}
 use Rattle.judge.specs.declared.source.Cell.{Cell}
 use Rattle.judge.specs.declared.source.Tops.{Tops}
 use Rattle.judge.specs.declared.source.Witness.{Witness}
@@ -18,8 +19,8 @@ use Rattle.event.specs.declared.Event.{Event}
 use Rattle.rules.specs.Verdict.{firstFault, items}
 
 -- the marks say which numbers from 1 to 800 the entries name
-abbrev pub Marked : List Bool → List ℕ → Type 0
-Marked marks ns = (k : ℕ) → 0 < k → k < 801 → getD marks k false ≡ has k ns
+abbrev pub Marked : List ℕ → List ℕ → Type 0
+Marked marks ns = (k : ℕ) → 0 < k → k < 801 → inWords marks k ≡ has k ns
 
 -- whether a target event has no source and may not be inserted
 abbrev pub unsupportedBy : Bool → Bool → Bool → Bool

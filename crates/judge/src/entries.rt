@@ -2,9 +2,12 @@
 ghost use mathlib.Core.Path.{_≡_};
 ghost use mathlib.Core.List.{[]};
 ghost use Prim.Native.Nat.{_≤_};
+ghost use lib.ListN.{replicate};
 ghost use Rattle.rules.specs.Fault.{isGone};
 ghost use Rattle.rules.specs.Verdict.{entryAnswer};
 ghost use Rattle.judge.specs.Pass.{Marked};
+use crate::marks::is_marked;
+use crate::marks::mark;
 use event::Answer;
 use event::Entry;
 use event::number_index;
@@ -16,18 +19,12 @@ pub(crate) fn is_gone(entry: Entry) -> bool
     entry == 0
 }
 
-// The answer, and which numbers the entries name where it is no refusal.
-pub struct EntriesRead {
-    pub answer: Answer,
-    pub marks: [bool; 801],
-}
-
-pub(crate) fn entry_answer(entries: &[Entry], targets: usize) -> EntriesRead
+// The answer; where it is no refusal, the numbers that the entries name are marked.
+pub(crate) fn entry_answer(entries: &[Entry], targets: usize, marks: &mut [u64; 13]) -> Answer
     requires { ⌜ targets ≤ 800 ⌝ }
-    ensures { λ r. ⌜ r .answer ≡ entryAnswer targets 1 [] (now (entries .entry)) ⌝ }
-    ensures { λ r. ⌜ (r .answer .number ≡ 0 → Marked (r .marks) (now (entries .entry))) ⌝ }
+    requires { ⌜ now marks ≡ replicate 13 0 ⌝ }
+    ensures { λ r. ⌜ (r ≡ entryAnswer targets 1 [] (now (entries .entry))) × (r .number ≡ 0 → Marked (now (marks .exit)) (now (entries .entry))) ⌝ }
 {
-    let mut marks: [bool; 801] = [false; 801];
     let mut i: usize = 0;
     while i < entries.len() {
         let entry = entries[i];
@@ -37,21 +34,12 @@ pub(crate) fn entry_answer(entries: &[Entry], targets: usize) -> EntriesRead
         }
         let at = number_index(entry);
         if targets < at {
-            return EntriesRead {
-                answer: Answer::new(9, 3, i),
-                marks,
-            };
+            return Answer::new(9, 3, i);
         }
-        if marks[at] {
-            return EntriesRead {
-                answer: Answer::new(9, 3, i),
-                marks,
-            };
+        if is_marked(marks, at) {
+            return Answer::new(9, 3, i);
         }
-        marks[at] = true;
+        mark(marks, at);
     }
-    EntriesRead {
-        answer: Answer::new(0, 0, 0),
-        marks,
-    }
+    Answer::new(0, 0, 0)
 }

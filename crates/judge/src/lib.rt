@@ -1,5 +1,6 @@
 // The judge: the answer to two traces and a matching that were read, 7 to 16, in a pass or two for each question.
 pub mod entries;
+pub mod marks;
 pub mod source;
 pub mod start;
 pub mod target;
@@ -43,8 +44,8 @@ pub fn judge(
     if count != source.len() / WORDS {
         return Answer::new(8, 3, count);
     }
-    let read = entry_answer(entries, target.len() / WORDS);
-    let named = read.answer;
+    let mut marks: [u64; 13] = [0; 13];
+    let named = entry_answer(entries, target.len() / WORDS, &mut marks);
     if named.number != 0 {
         return named;
     }
@@ -52,6 +53,5 @@ pub fn judge(
     if found.number != 0 {
         return found;
     }
-    let marks = read.marks;
     target_answer(target, &marks)
 }

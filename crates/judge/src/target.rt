@@ -6,6 +6,7 @@ ghost use Rattle.event.specs.Room.{Placed, wholeEvents, capacity};
 ghost use Rattle.rules.specs.View.{view};
 ghost use Rattle.rules.specs.Verdict.{targetAnswer};
 ghost use Rattle.judge.specs.Pass.{Marked, targetFaultBy, unsupportedBy};
+use crate::marks::is_marked;
 use crate::view::is_load;
 use crate::view::is_wall;
 use event::Answer;
@@ -43,7 +44,7 @@ fn target_fault(kind: Word, unsupported: bool) -> Number
     0
 }
 
-pub(crate) fn target_answer(target: &[Word], marks: &[bool; 801]) -> Answer
+pub(crate) fn target_answer(target: &[Word], marks: &[u64; 13]) -> Answer
     requires { ⌜ capacity (now target) ≤ 800 ⌝ }
     requires { ⌜ Placed (now target) ⌝ }
     ensures { λ r. ⌜ ((ns : List ℕ) → Marked (now (marks .entry)) ns → r ≡ targetAnswer view ns 1 [] (wholeEvents (now (target .entry)))) ⌝ }
@@ -53,7 +54,7 @@ pub(crate) fn target_answer(target: &[Word], marks: &[bool; 801]) -> Answer
     while k < target.len() / WORDS {
         let e = get(target, k);
         let at = index_of(e.place);
-        let unsupported = is_unsupported(marks[k + 1], is_load(e), fresh[at]);
+        let unsupported = is_unsupported(is_marked(marks, k + 1), is_load(e), fresh[at]);
         let fault = target_fault(e.kind, unsupported);
         if fault != 0 {
             return Answer::new(fault, 2, k + 1);

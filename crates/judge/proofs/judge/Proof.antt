@@ -84,8 +84,8 @@ module _ (c : tie.Else2) where
 
 returns-3 : tie.Need-returns-3
 returns-3 c =
-    let a = c .before .before .before in
-    on (a .before) (stops _ _ (a .entry-answer .ensures .0) (c .if3 .taken))
+    let a = c .before .before in
+    on (a .before .before) (stops _ _ (a .entry-answer .ensures .0) (c .if3 .taken))
 
 source-answer-requires : tie.Need-source-answer-requires
 source-answer-requires c κs =
@@ -95,23 +95,23 @@ source-answer-requires c κs =
 returns-4 : tie.Need-returns-4
 returns-4 c =
     let f = c .before .before in
-    let a = f .before .before .before .before in
-    on (a .before) (goes _ _ (a .entry-answer .ensures .0) (f .before .if3 .left) (stops _ _ (f .source-answer .ensures) (c .if4 .taken)))
+    let a = f .before .before .before in
+    on (a .before .before) (goes _ _ (a .entry-answer .ensures .0) (f .before .if3 .left) (stops _ _ (f .source-answer .ensures) (c .if4 .taken)))
 
 target-answer-requires : tie.Need-target-answer-requires
 target-answer-requires c κs =
-    let b = c .before .before .before .before .before .before .before .before .before in
+    let b = c .before .before .before .before .before .before .before .before in
     start (begun b) .pre .1 .1
 
 returns-5 : tie.Need-returns-5
 returns-5 c =
-    let f = c .before .before .before .before .before in
-    let a = f .before .before .before .before in
-    on (a .before) (goes _ _ (a .entry-answer .ensures .0) (f .before .if3 .left) (goes _ _ (f .source-answer .ensures) (c .before .before .before .if4 .left)
+    let f = c .before .before .before .before in
+    let a = f .before .before .before in
+    on (a .before .before) (goes _ _ (a .entry-answer .ensures .0) (f .before .if3 .left) (goes _ _ (f .source-answer .ensures) (c .before .before .if4 .left)
     (c .target-answer .ensures _ (a .entry-answer .ensures .1 (f .before .if3 .left)))))
 
 pub judge-spec : {M : Type 1} → statement M
 judge-spec =
     tie.close
-    (tie.spec (λ c κs. tt) returns (λ c κs. tt) returns-2 (λ c κs. omega arith) returns-3 source-answer-requires returns-4
+    (tie.spec (λ c κs. tt) returns (λ c κs. tt) returns-2 (λ c κs. (omega arith, refl)) returns-3 source-answer-requires returns-4
     target-answer-requires returns-5)

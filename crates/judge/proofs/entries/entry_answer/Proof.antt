@@ -23,9 +23,9 @@ use Rattle.judge.proofs.entries.entry_answer.Statement.{statement}
 use Rattle.judge.proofs.entries.entry_answer.Tie as tie
 
 -- the entries before the index are passed
-record Passed (entries : List ℕ) (targets : ℕ) (marks : List Bool) (i : ℕ) : Type 0 where
+record Passed (entries : List ℕ) (targets : ℕ) (marks : List ℕ) (i : ℕ) : Type 0 where
   bound : i ≤ length entries
-  size : length marks ≡ 801
+  size : length marks ≡ 13
   behind : List ℕ
   marked : Marked marks behind
   named : (k : ℕ) → has k entries ≡ (has k behind || has k (drop i entries))
@@ -82,7 +82,7 @@ module _ (c : tie.After-is-gone Inv-loop μ-loop) where
   gone-is : {b : Bool} → c .is-gone .result ≡ b → isGone entry ≡ b
   gone-is h = sym (c .is-gone .ensures) ∙ h
 
-  passed : refuses ≡ false → (marks : List Bool) → length marks ≡ 801 → Marked marks (entry ∷ behind) → Passed entries targets marks (index + 1)
+  passed : refuses ≡ false → (marks : List ℕ) → length marks ≡ 13 → Marked marks (entry ∷ behind) → Passed entries targets marks (index + 1)
   passed t marks size m = record {
     bound = omega arith;
     size = size;
@@ -109,15 +109,18 @@ beyond c =
 within : (c : tie.Else2 Inv-loop μ-loop) → entry (c .before .before .before) ≤ targets (c .before .before .before)
 within c = omega (arith, c .before .number-index .ensures, c .if2 .left)
 
-again : (c : tie.Else2 Inv-loop μ-loop)
-    → refuses (c .before .before .before) ≡ getD (turn (c .before .before .before) .loop .marks) (entry (c .before .before .before)) false
+again : (c : tie.After-is-marked Inv-loop μ-loop) → refuses (c .before .before .before .before .before) ≡ c .is-marked .result
 again c =
-    let k = c .before .before .before in
-    let g = gone-is k (c .before .before .if1 .left) in
-    rw (g, le-ltb _ _ (within c)) (sym (turn k .loop .inv .marked (entry k) (kept-number (entry k) g) (omega (arith, within c))))
+    let d = c .before .before in
+    let k = d .before .before .before in
+    let g = gone-is k (d .before .before .if1 .left) in
+    let m = turn k .loop .inv .marked (entry k) (kept-number (entry k) g) (omega (arith, within d)) in
+    rw (g, le-ltb _ _ (within d)) (sym (c .is-marked .ensures ∙ (rw (d .before .number-index .ensures) m)))
 
 loop-holds : tie.Need-loop-holds Inv-loop μ-loop
-loop-holds c = record { bound = omega arith; size = refl; behind = []; marked = marked-start; named = λ k. refl; answers = refl }
+loop-holds c =
+    let e = c .before .pre .1 in
+    record { bound = omega arith; size = ap length e; behind = []; marked = rw e marked-start; named = λ k. refl; answers = refl }
 
 loop-again : tie.Need-loop-again Inv-loop μ-loop
 loop-again c =
@@ -132,15 +135,17 @@ returns c = refused (c .before .before .before .before) (beyond (c .before)) (c 
 returns-2 : tie.Need-returns-2 Inv-loop μ-loop
 returns-2 c =
     let d = c .before .before in
-    refused (d .before .before .before) (again d ∙ (rw (← d .before .number-index .ensures) (c .before .if3 .taken))) (c .new2 .ensures)
+    refused (d .before .before .before .before .before) (again d ∙ c .before .if3 .taken) (c .new2 .ensures)
 
 loop-again-2 : tie.Need-loop-again-2 Inv-loop μ-loop
 loop-again-2 c =
-    let d = c .before in
-    let k = d .before .before .before in
-    let e : d .before .number-index .result ≡ entry k = d .before .number-index .ensures in
-    let m = marked-next (turn k .loop .marks) (behind k) (entry k) (omega (arith, within d)) (turn k .loop .inv .size) (turn k .loop .inv .marked) in
-    passed k (again d ∙ (rw (← e) (c .if3 .left))) _ (simp length-set (turn k .loop .inv .size)) (rw e m)
+    let d = c .before .before .before in
+    let k = d .before .before .before .before .before in
+    let n = d .before .before .before in
+    let t = turn k .loop in
+    let m = marked-next (t .marks) (behind k) (entry k) (omega (arith, within (d .before .before))) (t .inv .size) (t .inv .marked) in
+    passed k (again d ∙ c .before .before .if3 .left) _ (rw (c .mark .ensures) (simp length-set (t .inv .size)))
+    (rw (c .mark .ensures, n .number-index .ensures) m)
 
 returns-3 : tie.Need-returns-3 Inv-loop μ-loop
 returns-3 c =

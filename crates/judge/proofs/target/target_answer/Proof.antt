@@ -35,7 +35,7 @@ record Passed (ns room : List ℕ) (fresh : List Bool) (k : ℕ) : Type 0 where
   fresh-is : Fresh fresh behind
   answers : whole ns room ≡ targetAnswer view ns (k + 1) behind (onward room k (capacity room - k))
 
-record Along (room : List ℕ) (marks fresh : List Bool) (k : ℕ) : Type 0 where
+record Along (room marks : List ℕ) (fresh : List Bool) (k : ℕ) : Type 0 where
   bound : k ≤ capacity room
   size : length fresh ≡ places
   passed : (ns : List ℕ) → Marked marks ns → Passed ns room fresh k
@@ -91,7 +91,7 @@ module _ (c : tie.After-target-fault Inv-loop μ-loop) (ns : List ℕ) (m : Mark
 
   told : targetFault (event (at c) .kind) (before .behind) here ≡ c .target-fault .result
   told =
-      fault-told (before .behind) ns (index (at c) + 1) (event (at c)) (m (index (at c) + 1) (omega arith) (omega arith))
+      fault-told (before .behind) ns (index (at c) + 1) (event (at c)) (c .before .before .before .is-marked .ensures ∙ m (index (at c) + 1) (omega arith) (omega arith))
       (c .before .before .is-load .ensures) (at c .index-of .ensures) (before .fresh-is (at c .index-of .result) (in-room (at c)))
       (c .before .is-unsupported .ensures) (c .target-fault .ensures)
 
