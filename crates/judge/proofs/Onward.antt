@@ -10,9 +10,9 @@ use borrow.Author.Tests.{ne-eqb}
 use Rattle.event.specs.Kind.{has}
 use Rattle.event.specs.Answer.{answer}
 use Rattle.event.specs.declared.Event.{Event}
-use Rattle.rules.specs.Fault.{Item, fate, isGone, item}
+use Rattle.rules.specs.Fault.{Item, isGone}
 use Rattle.rules.specs.View.{View}
-use Rattle.rules.specs.Verdict.{entryAnswer, items, targetItem, sourceAnswer, sourceFault, startAnswer, targetAnswer, targetFault}
+use Rattle.rules.specs.Verdict.{entryAnswer, startAnswer, targetAnswer, targetFault, targetItem}
 use Rattle.rules.proofs.Truth.{taken}
 
 not-taken : {A : Type 0} (x y : A) (c : Bool) → c ≡ false → cond c x y ≡ y
@@ -36,26 +36,13 @@ pub entry-stops : (n i k : ℕ) (b ks : List ℕ) → (not (isGone k) && (ltb n 
 unfolding entryAnswer
 entry-stops n i k b ks e = rw e
 
-module _ (view : Event → View) where
-  -- 10 to 14
-  module _ (t : List Event) (i : ℕ) (b : List Item) (e : Event) (s : List Event) (n : ℕ) (ns : List ℕ) where
-    pub source-goes : sourceFault t b e (item (view e) (fate n)) (items view s ns) ≡ 0
-        → sourceAnswer view t i b (e ∷ s) (n ∷ ns) ≡ sourceAnswer view t (suc i) (item (view e) (fate n) ∷ b) s ns
-    unfolding sourceAnswer
-    source-goes h = rw h
+-- 15, 16
+module _ (view : Event → View) (ns : List ℕ) (k : ℕ) (b : List Item) (e : Event) (t : List Event) where
+  pub target-goes : targetFault (e .kind) b (targetItem view ns k e) ≡ 0
+      → targetAnswer view ns k b (e ∷ t) ≡ targetAnswer view ns (suc k) (targetItem view ns k e ∷ b) t
+  unfolding targetAnswer
+  target-goes h = rw h
 
-    pub source-stops : {k : ℕ} → (k ≡ 0 → ⊥) → sourceFault t b e (item (view e) (fate n)) (items view s ns) ≡ k
-        → sourceAnswer view t i b (e ∷ s) (n ∷ ns) ≡ answer k 1 i
-    unfolding sourceAnswer
-    source-stops {k} z h = rw (h, ne-eqb k 0 z)
-
-  -- 15, 16
-  module _ (ns : List ℕ) (k : ℕ) (b : List Item) (e : Event) (t : List Event) where
-    pub target-goes : targetFault (e .kind) b (targetItem view ns k e) ≡ 0
-        → targetAnswer view ns k b (e ∷ t) ≡ targetAnswer view ns (suc k) (targetItem view ns k e ∷ b) t
-    unfolding targetAnswer
-    target-goes h = rw h
-
-    pub target-stops : {f : ℕ} → (f ≡ 0 → ⊥) → targetFault (e .kind) b (targetItem view ns k e) ≡ f → targetAnswer view ns k b (e ∷ t) ≡ answer f 2 k
-    unfolding targetAnswer
-    target-stops {f} z h = rw (h, ne-eqb f 0 z)
+  pub target-stops : {f : ℕ} → (f ≡ 0 → ⊥) → targetFault (e .kind) b (targetItem view ns k e) ≡ f → targetAnswer view ns k b (e ∷ t) ≡ answer f 2 k
+  unfolding targetAnswer
+  target-stops {f} z h = rw (h, ne-eqb f 0 z)

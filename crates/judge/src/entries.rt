@@ -3,7 +3,6 @@ ghost use mathlib.Core.Path.{_≡_};
 ghost use mathlib.Core.List.{[]};
 ghost use Prim.Native.Nat.{_≤_};
 ghost use lib.ListN.{replicate};
-ghost use Rattle.rules.specs.Fault.{isGone};
 ghost use Rattle.rules.specs.Verdict.{entryAnswer};
 ghost use Rattle.judge.specs.Pass.{Marked};
 use crate::marks::is_marked;
@@ -11,13 +10,7 @@ use crate::marks::mark;
 use event::Answer;
 use event::Entry;
 use event::number_index;
-
-// Whether an entry says that its event is gone.
-pub(crate) fn is_gone(entry: Entry) -> bool
-    ensures { λ r. ⌜ r ≡ isGone entry ⌝ }
-{
-    entry == 0
-}
+use fates::is_gone;
 
 // The answer; where it is no refusal, the numbers that the entries name are marked.
 pub(crate) fn entry_answer(entries: &[Entry], targets: usize, marks: &mut [u64; 13]) -> Answer

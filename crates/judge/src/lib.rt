@@ -1,10 +1,8 @@
 // The judge: the answer to two traces and a matching that were read, 7 to 16, in a pass or two for each question.
 pub mod entries;
 pub mod marks;
-pub mod source;
 pub mod start;
 pub mod target;
-pub mod view;
 
 ghost use mathlib.Core.Path.{_≡_};
 ghost use Prim.Native.Nat.{_≤_};
@@ -17,7 +15,7 @@ use event::Entry;
 use event::WORDS;
 use event::Word;
 use event::memory::Memory;
-use source::source_answer;
+use fates::source::source_answer;
 use start::start_answer;
 use target::target_answer;
 

@@ -7,8 +7,6 @@ ghost use Rattle.rules.specs.View.{view};
 ghost use Rattle.rules.specs.Verdict.{targetAnswer};
 ghost use Rattle.judge.specs.Pass.{Marked, targetFaultBy, unsupportedBy};
 use crate::marks::is_marked;
-use crate::view::is_load;
-use crate::view::is_wall;
 use event::Answer;
 use event::Number;
 use event::WORDS;
@@ -16,6 +14,8 @@ use event::Word;
 use event::index_of;
 use event::kind::is_load_kind;
 use event::room::get;
+use fates::view::is_load;
+use fates::view::is_wall;
 
 // Whether a target event has no source and may not be inserted: it is no load, or the first access to its location since the last
 // synchronising event.

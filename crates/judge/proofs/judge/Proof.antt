@@ -11,7 +11,7 @@ use Rattle.event.specs.declared.Answer.{Answer}
 use Rattle.event.specs.declared.Event.{Event}
 use Rattle.rules.specs.View.{view}
 use Rattle.rules.specs.Verdict.{countAnswer, entryAnswer, sourceAnswer, startAnswer, targetAnswer, verdict}
-use Rattle.judge.proofs.Events.{onward-length}
+use Rattle.fates.proofs.Events.{onward-length}
 use Rattle.judge.proofs.judge.Statement.{statement}
 use Rattle.judge.proofs.judge.Tie as tie
 

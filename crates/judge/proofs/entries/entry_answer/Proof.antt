@@ -16,9 +16,10 @@ use Rattle.event.specs.Kind.{has}
 use Rattle.rules.specs.Fault.{isGone}
 use Rattle.rules.specs.Verdict.{entryAnswer}
 use Rattle.judge.specs.Pass.{Marked}
-use Rattle.judge.proofs.Events.{drop-next}
+use Rattle.fates.proofs.Events.{drop-next}
 use Rattle.judge.proofs.Onward.{entry-goes, entry-stops}
-use Rattle.judge.proofs.Arrays.{kept-number, marked-gone, marked-next, marked-start}
+use Rattle.fates.proofs.Arrays.{kept-number}
+use Rattle.judge.proofs.Marked.{marked-gone, marked-next, marked-start}
 use Rattle.judge.proofs.entries.entry_answer.Statement.{statement}
 use Rattle.judge.proofs.entries.entry_answer.Tie as tie
 

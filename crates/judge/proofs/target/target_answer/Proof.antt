@@ -1,7 +1,7 @@
 -- From each target event on the answer is that from the next event on, until an event is refused or none is left; the array says which locations
 -- had no access since the last synchronising event, which is all that 16 asks. Assumes nothing.
 use Prim.Native.Nat.{ℕ, _+_, _-_, _≤_, _<_}
-use mathlib.Core.Bool.{Bool}
+use mathlib.Core.Bool.{Bool, true, false, not}
 use mathlib.Core.List.{List, [], _∷_}
 use mathlib.Core.Path.{_≡_, refl, sym, _∙_, ap}
 use native.Mathlib.Numerals.{add-one}
@@ -12,16 +12,15 @@ use Rattle.event.specs.declared.Answer.{Answer}
 use Rattle.event.specs.declared.Event.{Event}
 use Rattle.event.specs.Kind.{has, places}
 use Rattle.event.specs.Room.{onward, capacity}
-use Rattle.rules.specs.View.{view, isLoad, isWall}
-use Rattle.rules.specs.Fault.{Item, isNone, near}
+use Rattle.rules.specs.View.{View, view, isLoad, isWall}
+use Rattle.rules.specs.Fault.{Item, isNone, item, near, stays, unsupported}
 use Rattle.rules.specs.Verdict.{targetItem, targetAnswer, targetFault}
 use Rattle.judge.specs.Pass.{Marked, targetFaultBy, unsupportedBy}
-use Rattle.judge.proofs.Arrays.{Fresh, fresh-plain, fresh-start, fresh-wall}
-use Rattle.judge.proofs.Cells.{unsupported-at}
-use Rattle.judge.proofs.Events.{onward-next, place-in}
+use Rattle.fates.proofs.Arrays.{Fresh, fresh-plain, fresh-start, fresh-wall}
+use Rattle.fates.proofs.Events.{onward-next, place-in}
 use Rattle.judge.proofs.Onward.{target-goes, target-stops}
-use Rattle.judge.proofs.Passes.{plain}
-use Rattle.judge.proofs.Sight.{sees}
+use Rattle.fates.proofs.Passes.{plain}
+use Rattle.fates.proofs.Sight.{Sees, a-load, a-store, a-wall, sees}
 use Rattle.judge.proofs.target.target_answer.Statement.{statement}
 use Rattle.judge.proofs.target.target_answer.Tie as tie
 
@@ -45,6 +44,14 @@ Inv-loop target marks fresh₀ k₀ fresh k = Along target marks fresh k
 
 abbrev μ-loop : tie.MeasureT-loop
 μ-loop target marks fresh₀ k₀ fresh k = capacity target - k
+
+-- by what is seen of the event
+unsupported-at : {v : View} {p x : ℕ} {u : Bool} (b : List Item) (sourced : Bool) (k : ℕ) → Sees v p x u
+    → unsupported b (item v (stays (not sourced) k)) ≡ unsupportedBy sourced (isLoad v) (isNone (near p b))
+unsupported-at b true k s = refl
+unsupported-at b false k a-wall = refl
+unsupported-at b false k a-load = refl
+unsupported-at b false k a-store = refl
 
 fault-told : (b : List Item) (ns : List ℕ) (k : ℕ) (e : Event) {i r : ℕ} {u s l f : Bool} → s ≡ has k ns → l ≡ isLoad (view e) → i ≡ e .place
     → f ≡ isNone (near i b) → u ≡ unsupportedBy s l f → r ≡ targetFaultBy (e .kind) u → targetFault (e .kind) b (targetItem view ns k e) ≡ r

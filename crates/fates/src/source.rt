@@ -1,0 +1,294 @@
+// Answers 10 to 14: the source events with the fates that their entries name.
+ghost use mathlib.Core.Path.{_≡_};
+ghost use mathlib.Core.Bool.{false, cond};
+ghost use mathlib.Core.Option.{some};
+ghost use mathlib.Core.List.{[]};
+ghost use Prim.Native.Nat.{_≤_, _<_};
+ghost use lib.ListN.{length};
+ghost use Rattle.event.specs.Room.{Placed, wholeEvents, capacity};
+ghost use Rattle.rules.specs.View.{view};
+ghost use Rattle.rules.specs.Fault.{fate, is, isGone, unlike};
+ghost use Rattle.rules.specs.Verdict.{sourceAnswer};
+ghost use Rattle.fates.specs.Pass.{Flagged, cellOf, closingAfter, crossedBy, sourceFaultBy, goneFault, keepFaultBy, removalFaultBy, takesOver, topAfter, topsOf, witnessOf, witnessed};
+use crate::is_gone;
+use crate::view::both;
+use crate::view::is_load;
+use crate::view::is_same;
+use crate::view::is_wall;
+use event::Answer;
+use event::Entry;
+use event::Event;
+use event::Number;
+use event::Word;
+use event::index_of;
+use event::kind::USED;
+use event::number_index;
+use event::room::get;
+
+// Whether a store before a plain event is closing, by whether one after the event is.
+fn closing_after(load: bool, entry: Entry, closing: bool) -> bool
+    ensures { λ r. ⌜ r ≡ closingAfter load entry closing ⌝ }
+{
+    if load {
+        if is_gone(entry) {
+            return closing;
+        }
+        return true;
+    }
+    false
+}
+
+// For each source event, whether a store to its location there is closing.
+fn closing_flags(source: &[Word], entries: &[Entry]) -> [bool; 800]
+    requires { ⌜ capacity (now source) ≤ 800 ⌝ }
+    requires { ⌜ Placed (now source) ⌝ }
+    requires { ⌜ length (now entries) ≡ capacity (now source) ⌝ }
+    ensures { λ r. ⌜ Flagged r (now (source .entry)) (now (entries .entry)) ⌝ }
+{
+    let mut closing: [bool; 256] = [true; 256];
+    let mut flags: [bool; 800] = [false; 800];
+    let mut i = entries.len();
+    while 0 < i {
+        i -= 1;
+        let e = get(source, i);
+        let place = index_of(e.place);
+        let was = closing[place];
+        flags[i] = was;
+        if is_wall(e) {
+            closing = [true; 256];
+            continue;
+        }
+        closing[place] = closing_after(is_load(e), entries[i], was);
+    }
+    flags
+}
+
+// Whether a plain event becomes the witness of its location.
+fn takes_over(load: bool, entry: Entry, fresh: bool) -> bool
+    ensures { λ r. ⌜ r ≡ takesOver load entry fresh ⌝ }
+{
+    if is_gone(entry) {
+        return load && fresh;
+    }
+    true
+}
+
+// The greatest target number so far after an entry.
+fn top_after(n: Entry, top: Entry) -> Entry
+    ensures { λ r. ⌜ r ≡ topAfter n top ⌝ }
+{
+    if is_gone(n) {
+        return top;
+    }
+    if top < n {
+        return n;
+    }
+    top
+}
+
+// What the arrays hold of an event's location: no access since the last synchronising event; a store there is closing.
+pub struct Cell {
+    pub fresh: bool,
+    pub closing: bool,
+}
+
+impl Cell {
+    fn new(fresh: bool, closing: bool) -> Self
+        ensures { λ r. ⌜ r ≡ cellOf fresh closing ⌝ }
+    {
+        Cell { fresh, closing }
+    }
+}
+
+// A location's witness: whether there is one, and its value.
+pub struct Witness {
+    pub present: bool,
+    pub value: Word,
+}
+
+impl Witness {
+    fn new(present: bool, value: Word) -> Self
+        ensures { λ r. ⌜ r ≡ witnessOf present value ⌝ }
+    {
+        Witness { present, value }
+    }
+}
+
+// The greatest target numbers so far: of all kept events, of the synchronising ones, and of those at the event's location.
+pub struct Tops {
+    pub all: Entry,
+    pub walls: Entry,
+    pub here: Entry,
+}
+
+impl Tops {
+    fn new(all: Entry, walls: Entry, here: Entry) -> Self
+        ensures { λ r. ⌜ r ≡ topsOf all walls here ⌝ }
+    {
+        Tops { all, walls, here }
+    }
+}
+
+// Whether there is a witness of a value.
+fn is_witness(value: Word, witness: Witness) -> bool
+    ensures { λ r. ⌜ r ≡ is value (witnessed witness) ⌝ }
+{
+    if witness.present {
+        return witness.value == value;
+    }
+    false
+}
+
+// 13 or 14 of a gone event, or 0.
+fn gone_fault(e: Event, cell: Cell, witness: Witness) -> Number
+    ensures { λ r. ⌜ r ≡ goneFault (view e) cell (witnessed witness) ⌝ }
+{
+    if is_wall(e) {
+        return 0;
+    }
+    if is_load(e) {
+        if both(e.order == USED, cell.fresh) {
+            return 13;
+        }
+        return 0;
+    }
+    if cell.closing {
+        if is_witness(e.first, witness) {
+            return 0;
+        }
+        return 14;
+    }
+    0
+}
+
+// 13 or 14 of a source event, or 0.
+fn removal_fault(e: Event, n: Entry, cell: Cell, witness: Witness) -> Number
+    ensures { λ r. ⌜ r ≡ removalFaultBy (view e) n cell (witnessed witness) ⌝ }
+{
+    if is_gone(n) {
+        return gone_fault(e, cell, witness);
+    }
+    0
+}
+
+// 10: whether a kept event differs from its target event.
+fn differs(target: &[Word], e: Event, n: Entry) -> bool
+    requires { ⌜ isGone n ≡ false ⌝ }
+    ensures { λ r. ⌜ r ≡ unlike (wholeEvents (now (target .entry))) e (fate n) ⌝ }
+{
+    !is_same(e, get(target, number_index(n) - 1))
+}
+
+// 12: whether an earlier kept event that may not change places with this one has the greater number.
+fn is_crossed(e: Event, n: Entry, tops: Tops) -> bool
+    ensures { λ r. ⌜ r ≡ crossedBy (view e) n tops ⌝ }
+{
+    if is_wall(e) {
+        return n < tops.all;
+    }
+    n < tops.walls || n < tops.here
+}
+
+// 10 to 12 of a source event, or 0.
+fn keep_fault(target: &[Word], e: Event, n: Entry, tops: Tops) -> Number
+    ensures { λ r. ⌜ r ≡ keepFaultBy (wholeEvents (now (target .entry))) e (view e) n tops ⌝ }
+{
+    if is_gone(n) {
+        if is_wall(e) {
+            return 11;
+        }
+        return 0;
+    }
+    if differs(target, e, n) {
+        return 10;
+    }
+    if is_crossed(e, n, tops) {
+        return 12;
+    }
+    0
+}
+
+// 10 to 14 of a source event, or 0.
+fn event_fault(
+    target: &[Word],
+    e: Event,
+    n: Entry,
+    cell: Cell,
+    witness: Witness,
+    tops: Tops,
+) -> Number
+    ensures { λ r. ⌜ r ≡ sourceFaultBy (wholeEvents (now (target .entry))) e (view e) n cell (witnessed witness) tops ⌝ }
+{
+    let fault = keep_fault(target, e, n, tops);
+    if fault != 0 {
+        return fault;
+    }
+    removal_fault(e, n, cell, witness)
+}
+
+// The witness of a location after a plain event there, which takes over or does not.
+fn witness_after(over: bool, value: Word, witness: Witness) -> Witness
+    ensures { λ r. ⌜ witnessed r ≡ cond over (some value) (witnessed witness) ⌝ }
+{
+    if over {
+        return Witness {
+            present: true,
+            value,
+        };
+    }
+    witness
+}
+
+// The source events upward.
+fn source_pass(source: &[Word], target: &[Word], entries: &[Entry], flags: &[bool; 800]) -> Answer
+    requires { ⌜ capacity (now source) ≤ 800 ⌝ }
+    requires { ⌜ Placed (now source) ⌝ }
+    requires { ⌜ length (now entries) ≡ capacity (now source) ⌝ }
+    requires { ⌜ Flagged (now flags) (now source) (now entries) ⌝ }
+    ensures { λ r. ⌜ r ≡ sourceAnswer view (wholeEvents (now (target .entry))) 1 [] (wholeEvents (now (source .entry))) (now (entries .entry)) ⌝ }
+{
+    let mut fresh: [bool; 256] = [true; 256];
+    let mut present: [bool; 256] = [false; 256];
+    let mut value: [Word; 256] = [0; 256];
+    let mut here: [Entry; 256] = [0; 256];
+    let mut all: Entry = 0;
+    let mut walls: Entry = 0;
+    let mut i: usize = 0;
+    while i < entries.len() {
+        let e = get(source, i);
+        let n = entries[i];
+        let at = index_of(e.place);
+        let first = fresh[at];
+        let witness = Witness::new(present[at], value[at]);
+        let cell = Cell::new(first, flags[i]);
+        let tops = Tops::new(all, walls, here[at]);
+        let fault = event_fault(target, e, n, cell, witness, tops);
+        i += 1;
+        if fault != 0 {
+            return Answer::new(fault, 1, i);
+        }
+        all = top_after(n, all);
+        if is_wall(e) {
+            walls = top_after(n, walls);
+            fresh = [true; 256];
+            present = [false; 256];
+            continue;
+        }
+        let after = witness_after(takes_over(is_load(e), n, first), e.first, witness);
+        fresh[at] = false;
+        present[at] = after.present;
+        value[at] = after.value;
+        here[at] = top_after(n, here[at]);
+    }
+    Answer::new(0, 0, 0)
+}
+
+pub fn source_answer(source: &[Word], target: &[Word], entries: &[Entry]) -> Answer
+    requires { ⌜ capacity (now source) ≤ 800 ⌝ }
+    requires { ⌜ Placed (now source) ⌝ }
+    requires { ⌜ length (now entries) ≡ capacity (now source) ⌝ }
+    ensures { λ r. ⌜ r ≡ sourceAnswer view (wholeEvents (now (target .entry))) 1 [] (wholeEvents (now (source .entry))) (now (entries .entry)) ⌝ }
+{
+    let flags = closing_flags(source, entries);
+    source_pass(source, target, entries, &flags)
+}
