@@ -1,12 +1,13 @@
 /* Checks three files, source, target and matching, and prints what the program laprunto prints. Then both traces that were read are
- * written again, and what was written is read back: status 1 if anything came back otherwise. */
+ * written again, what was written is read back, and both texts are moved to the other form and back: status 1 if anything came back
+ * otherwise. */
 #include "laprunto.h"
 
 #include <stdio.h>
 #include <string.h>
 
 /* One byte more than the longest text: a longer file is answer 1 whatever its size. */
-enum { FILE_BYTES = LAPRUNTO_TEXT_BYTES + 1 };
+enum { FILE_BYTES = LAPRUNTO_FORM_2_BYTES + 1 };
 
 struct text {
     uint8_t bytes[FILE_BYTES];
@@ -36,21 +37,44 @@ static void print_line(const struct text *text, size_t from, size_t to) {
     }
 }
 
+static int same_text(const struct text *one, const struct text *other) {
+    return one->size == other->size && memcmp(one->bytes, other->bytes, one->size) == 0;
+}
+
 /* Whether a trace, written, is the text that it was read from, and is read back as it was. */
 static int comes_back(const struct text *text, const struct trace *trace) {
     static struct text written;
     static struct trace again;
     size_t result[LAPRUNTO_READ];
     size_t words = trace->events * 6;
-    laprunto_write_trace(trace->memory, trace->words, words, written.bytes, FILE_BYTES, result);
+    laprunto_number form = laprunto_trace_form(text->bytes, text->size);
+    laprunto_write_trace(form, trace->memory, trace->words, words, written.bytes, FILE_BYTES, result);
     written.size = result[LAPRUNTO_PLACE];
-    if (result[LAPRUNTO_NUMBER] != 0 || written.size != text->size || memcmp(written.bytes, text->bytes, text->size) != 0) {
+    if (result[LAPRUNTO_NUMBER] != 0 || !same_text(&written, text)) {
         return 0;
     }
     laprunto_read_trace(written.bytes, written.size, again.words, LAPRUNTO_TRACE_WORDS, again.memory, result);
     return result[LAPRUNTO_NUMBER] == 0 && result[LAPRUNTO_COUNT] == trace->events &&
            memcmp(again.words, trace->words, words * sizeof(laprunto_word)) == 0 &&
            memcmp(again.memory, trace->memory, sizeof trace->memory) == 0;
+}
+
+/* Whether a lawful text, moved to the other form, moves back to the same bytes. Form 1 refuses what has code lines, with 19. */
+static int moves_back(const struct text *text) {
+    static struct text moved, back;
+    size_t result[LAPRUNTO_ANSWER];
+    laprunto_number form = laprunto_trace_form(text->bytes, text->size);
+    laprunto_move_trace(form == 2 ? 1 : 2, text->bytes, text->size, moved.bytes, FILE_BYTES, result);
+    if (result[LAPRUNTO_NUMBER] == 19) {
+        return form == 2;
+    }
+    moved.size = result[LAPRUNTO_PLACE];
+    if (result[LAPRUNTO_NUMBER] != 0) {
+        return 0;
+    }
+    laprunto_move_trace(form, moved.bytes, moved.size, back.bytes, FILE_BYTES, result);
+    back.size = result[LAPRUNTO_PLACE];
+    return result[LAPRUNTO_NUMBER] == 0 && same_text(&back, text);
 }
 
 /* Whether a matching, read alone, gives the entries of the check. */
@@ -88,6 +112,10 @@ int main(int count, char **names) {
         if (!comes_back(&texts[0], &source) || !comes_back(&texts[1], &target) ||
             !same_entries(&texts[2], entries, result[LAPRUNTO_ENTRIES])) {
             fprintf(stderr, "what was written is not read back\n");
+            return 1;
+        }
+        if (!moves_back(&texts[0]) || !moves_back(&texts[1])) {
+            fprintf(stderr, "what was moved does not move back\n");
             return 1;
         }
     }

@@ -1,14 +1,17 @@
 //! Checks three files, source, target and matching, and prints what the program
-//! `laprunto` prints. Then both traces that were read are written again, and what
-//! was written is read back: status 1 if anything came back otherwise.
+//! `laprunto` prints. Then both traces that were read are written again, what was
+//! written is read back, and both texts are moved to the other form and back:
+//! status 1 if anything came back otherwise.
 
 mod laprunto;
 
-use laprunto::{laprunto_check, laprunto_offending_line, laprunto_read_matching, laprunto_read_trace, laprunto_write_trace};
+use laprunto::{laprunto_check, laprunto_move_trace, laprunto_offending_line, laprunto_read_matching};
+use laprunto::{laprunto_read_trace, laprunto_trace_form, laprunto_write_trace};
 use laprunto::{Entry, Memory, Number, Word};
 use std::io::{Read, Write};
 
-const TEXT_BYTES: usize = 32_400;
+/// The longest text, a trace of form 2.
+const TEXT_BYTES: usize = 37_200;
 const EVENTS: usize = 800;
 const WORDS: usize = 6;
 
@@ -81,16 +84,36 @@ fn offending_line<'a>(source: &'a [u8], target: &'a [u8], checked: &Checked) -> 
     &text[from..to]
 }
 
-fn write_trace(trace: &Trace) -> Option<Vec<u8>> {
+/// The form of a trace text, 1 or 2.
+fn form_of(text: &[u8]) -> Number {
+    unsafe { laprunto_trace_form(text.as_ptr(), text.len()) }
+}
+
+/// What a call that writes leaves in the bytes that it is lent, or its refusal.
+fn written(write: impl Fn(&mut [u8], &mut [usize; 3])) -> Result<Vec<u8>, usize> {
     let mut out = vec![0; TEXT_BYTES];
     let mut result = [0; 3];
-    unsafe {
-        let (words, room) = (trace.words.len(), trace.words.as_ptr());
-        laprunto_write_trace(&trace.memory, room, words, out.as_mut_ptr(), out.len(), &mut result);
-    }
+    write(&mut out, &mut result);
     let [number, _, bytes] = result;
     out.truncate(bytes);
-    (number == 0).then_some(out)
+    if number == 0 {
+        Ok(out)
+    } else {
+        Err(number)
+    }
+}
+
+fn write_trace(form: Number, trace: &Trace) -> Result<Vec<u8>, usize> {
+    written(|out, result| unsafe {
+        let (words, room) = (trace.words.len(), trace.words.as_ptr());
+        laprunto_write_trace(form, &trace.memory, room, words, out.as_mut_ptr(), out.len(), result);
+    })
+}
+
+fn move_trace(to_form: Number, text: &[u8]) -> Result<Vec<u8>, usize> {
+    written(|out, result| unsafe {
+        laprunto_move_trace(to_form, text.as_ptr(), text.len(), out.as_mut_ptr(), out.len(), result);
+    })
 }
 
 fn read_trace(text: &[u8]) -> Option<Trace> {
@@ -118,7 +141,16 @@ fn read_matching(text: &[u8]) -> Option<Vec<Entry>> {
 
 /// Whether a trace, written, is the text that it was read from, and is read back as it was.
 fn comes_back(text: &[u8], trace: &Trace) -> bool {
-    write_trace(trace).is_some_and(|written| written == text && read_trace(&written).as_ref() == Some(trace))
+    write_trace(form_of(text), trace).is_ok_and(|written| written == text && read_trace(&written).as_ref() == Some(trace))
+}
+
+/// Whether a lawful text, moved to the other form, moves back to the same bytes. Form 1 refuses what has code lines, with 19.
+fn moves_back(text: &[u8]) -> bool {
+    let form = form_of(text);
+    match move_trace(3 - form, text) {
+        Ok(moved) => move_trace(form, &moved).is_ok_and(|back| back == text),
+        Err(number) => form == 2 && number == 19,
+    }
 }
 
 /// A file that cannot be opened counts as an empty text; one byte too many is enough for answer 1.
@@ -147,6 +179,10 @@ fn main() {
         && read_matching(&matching) == Some(checked.entries);
     if read && !back {
         eprintln!("what was written is not read back");
+        std::process::exit(1);
+    }
+    if read && !(moves_back(&source) && moves_back(&target)) {
+        eprintln!("what was moved does not move back");
         std::process::exit(1);
     }
 }

@@ -1,4 +1,4 @@
-/* Laprunto for C: reading, writing and checking of traces, and the line at fault.
+/* Laprunto for C: reading, writing, moving and checking of traces, and the line at fault.
  *
  * Link target/staticlib/libexport.a (`rt staticlib export`). Each function is proved against its contract in
  * crates/export/src/lib.rt and wants no other library than C's own memcpy, memmove and memset.
@@ -14,6 +14,9 @@
  *
  * Memories. The starting memory of a trace is 256 words, one for each location.
  *
+ * Forms. A trace text is of form 2 where it begins with the line `trace`, tab, `2`, else of form 1. Where a form is handed in, 2 is
+ * form 2 and any other number is form 1.
+ *
  * Results. Each begins with the answer, the number, side and place of the table in README.md; number 0 is done. Counts come
  * after it. Counts and memories are 0 where nothing is stored. */
 #ifndef LAPRUNTO_H
@@ -27,14 +30,15 @@ extern "C" {
 #endif
 
 typedef uint32_t laprunto_word;   /* a value and a word of an event */
-typedef uint32_t laprunto_number; /* a number that is no value: an answer's, a side's */
+typedef uint32_t laprunto_number; /* a number that is no value: an answer's, a side's, a form's */
 typedef uint32_t laprunto_entry;  /* an entry of a matching */
 
 enum {
-    LAPRUNTO_TEXT_BYTES = 32400, /* the longest text */
-    LAPRUNTO_TRACE_WORDS = 4800, /* 800 events */
-    LAPRUNTO_ENTRY_WORDS = 800,  /* 800 entries */
-    LAPRUNTO_CELLS = 256         /* a starting memory */
+    LAPRUNTO_TEXT_BYTES = 32400,   /* the longest matching, and the longest trace of form 1 */
+    LAPRUNTO_FORM_2_BYTES = 37200, /* the longest trace of form 2 */
+    LAPRUNTO_TRACE_WORDS = 4800,   /* 800 events */
+    LAPRUNTO_ENTRY_WORDS = 800,    /* 800 entries */
+    LAPRUNTO_CELLS = 256           /* a starting memory */
 };
 
 /* Where what stands in a result. */
@@ -47,7 +51,7 @@ enum {
     LAPRUNTO_TARGET_EVENTS = 4,
     LAPRUNTO_ENTRIES = 5,
 
-    LAPRUNTO_ANSWER = 3, /* the size_t of a writer's result, */
+    LAPRUNTO_ANSWER = 3, /* the size_t of a writer's or a move's result, */
     LAPRUNTO_READ = 4,   /* of a reading's, */
     LAPRUNTO_CHECKED = 6 /* and of a check's */
 };
@@ -60,11 +64,20 @@ void laprunto_read_trace(const uint8_t *text, size_t text_bytes, laprunto_word *
 void laprunto_read_matching(const uint8_t *text, size_t text_bytes, laprunto_entry *room, size_t room_entries,
                             size_t result[LAPRUNTO_READ]);
 
-/* Writes the trace with this starting memory and the events of these words, all of them: one cut short at the end counts and is
- * refused. The place of number 0 is how many bytes stand at the front of out, the place of 17 how many it needs; the rest of out,
- * and all of it under a refusal, is unchanged. Writes all of result. */
-void laprunto_write_trace(const laprunto_word memory[LAPRUNTO_CELLS], const laprunto_word *room, size_t room_words,
-                          uint8_t *out, size_t out_bytes, size_t result[LAPRUNTO_ANSWER]);
+/* The form of a trace text, 1 or 2, whatever else the text holds. */
+laprunto_number laprunto_trace_form(const uint8_t *text, size_t text_bytes);
+
+/* Writes in this form the trace with this starting memory and the events of these words, all of them: one cut short at the end counts
+ * and is refused. The place of number 0 is how many bytes stand at the front of out, the place of 17 how many it needs; the rest of
+ * out, and all of it under a refusal, is unchanged. Form 1 refuses an event whose code line is not 0, with 19. Writes all of result. */
+void laprunto_write_trace(laprunto_number form, const laprunto_word memory[LAPRUNTO_CELLS], const laprunto_word *room,
+                          size_t room_words, uint8_t *out, size_t out_bytes, size_t result[LAPRUNTO_ANSWER]);
+
+/* Moves a trace text to this form: to form 2 with code line 0 at every event, to form 1 only where every code line is 0, else 19. A text
+ * that has the form already is refused with 2 at line 1. What a reading refuses has side 1, and so has 19; 17 has side 0. The bytes
+ * and the result are as the writer's. */
+void laprunto_move_trace(laprunto_number to_form, const uint8_t *text, size_t text_bytes, uint8_t *out, size_t out_bytes,
+                         size_t result[LAPRUNTO_ANSWER]);
 
 /* Checks a matching between a source and a target text. Writes all of both memories and of result. */
 void laprunto_check(const uint8_t *source, size_t source_bytes, const uint8_t *target, size_t target_bytes,

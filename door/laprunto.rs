@@ -3,7 +3,7 @@
 
 /// A value and a word of an event.
 pub type Word = u32;
-/// A number that is no value: an answer's, a side's.
+/// A number that is no value: an answer's, a side's, a form's.
 pub type Number = u32;
 /// An entry of a matching.
 pub type Entry = Number;
@@ -13,7 +13,11 @@ pub type Memory = [Word; 256];
 extern "C" {
     pub fn laprunto_read_trace(text: *const u8, bytes: usize, room: *mut Word, words: usize, memory: *mut Memory, result: *mut [usize; 4]);
     pub fn laprunto_read_matching(text: *const u8, bytes: usize, room: *mut Entry, entries: usize, result: *mut [usize; 4]);
-    pub fn laprunto_write_trace(memory: *const Memory, room: *const Word, words: usize, out: *mut u8, bytes: usize, result: *mut [usize; 3]);
+    pub fn laprunto_trace_form(text: *const u8, bytes: usize) -> Number;
+    pub fn laprunto_write_trace(
+        form: Number, memory: *const Memory, room: *const Word, words: usize, out: *mut u8, bytes: usize, result: *mut [usize; 3],
+    );
+    pub fn laprunto_move_trace(to_form: Number, text: *const u8, bytes: usize, out: *mut u8, out_bytes: usize, result: *mut [usize; 3]);
     pub fn laprunto_check(
         source: *const u8, source_bytes: usize, target: *const u8, target_bytes: usize, matching: *const u8, matching_bytes: usize,
         source_room: *mut Word, source_words: usize, target_room: *mut Word, target_words: usize, entry_room: *mut Entry, entries: usize,

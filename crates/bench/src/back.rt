@@ -1,34 +1,59 @@
-// A trace text read alone and, if it is lawful, written again.
-use super::run::lent_words;
-use super::run::words_of;
+// Texts that come back: a lawful trace that is read and written again, a moved one that is moved again.
+use super::check::words_of;
+use super::lent::lent_words;
 use super::vector::between;
 use event::Word;
 use text::word::same_bytes;
+use trace::form::form_of;
+use trace::moving::move_to;
 use trace::read;
 use trace::write;
 
-// Whether a text is lawful, and whether it comes back as it was; a refused one has nothing to write.
+// Whether there is a text to come back, and whether it comes back as it was.
 pub(crate) struct Back {
-    pub lawful: bool,
+    pub there: bool,
     pub right: bool,
 }
 
-pub(crate) fn back_of(text: &[u8]) -> Back {
+// What was refused has no text, and so none that is wrong.
+pub(crate) fn nothing() -> Back {
+    Back {
+        there: false,
+        right: true,
+    }
+}
+
+// How many that is.
+pub(crate) fn count_of(back: Back) -> usize {
+    if back.there {
+        return 1;
+    }
+    0
+}
+
+// A trace text, written as it was read.
+pub(crate) fn written_back(text: &[u8]) -> Back {
     let mut room: [Word; 4800] = [0; 4800];
-    let mut out: [u8; 32400] = [0; 32400];
+    let mut out: [u8; 37200] = [0; 37200];
     let got = read(text, &mut room);
     let answer = got.answer;
     if answer.number != 0 {
-        return Back {
-            lawful: false,
-            right: true,
-        };
+        return nothing();
     }
     let words = lent_words(&room, words_of(got.events));
-    let written = write(got.memory, &room[..words], &mut out);
-    let right = same_bytes(between(&out, 0, written.place), text);
+    let written = write(form_of(text), got.memory, &room[..words], &mut out);
     Back {
-        lawful: true,
-        right,
+        there: true,
+        right: same_bytes(between(&out, 0, written.place), text),
+    }
+}
+
+// A text moved from another, moved to the form of that.
+pub(crate) fn moved_back(moved: &[u8], text: &[u8]) -> Back {
+    let mut out: [u8; 37200] = [0; 37200];
+    let answer = move_to(form_of(text), moved, &mut out);
+    Back {
+        there: true,
+        right: same_bytes(between(&out, 0, answer.place), text),
     }
 }

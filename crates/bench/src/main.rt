@@ -1,38 +1,43 @@
-// Checks the files of both examples as the program does, then runs every vector of the file `vectors` and prints which differ.
+// Checks the files of the examples as the program does, then runs every vector of four files and prints which differ.
 mod back;
-mod run;
+mod check;
+mod lent;
+mod moves;
+mod tell;
 mod vector;
+mod writes;
+mod written;
 
 ghost use mathlib.Core.Path.{_≡_};
 ghost use lib.ListN.{length};
 ghost use Rattle.io.specs.Counts.{Counts};
-use back::Back;
+use check::run_check;
 use event::number_index;
 use files::check::check_files;
 use files::print::print;
-use files::print::print_answer;
 use files::print::print_number;
 use files::read::read_file;
-use run::Outcome;
-use run::outcome_of;
-use vector::NUMBER;
-use vector::PLACE;
-use vector::SIDE;
-use vector::Vector;
-use vector::between;
+use moves::run_move;
+use tell::Ran;
+use tell::and_more;
 use vector::forth;
-use vector::name_of;
-use vector::number_at;
-use vector::vector_at;
+use writes::run_write;
 
-// The answers that a check gives are 0 to 17.
-const ANSWERS: usize = 18;
+// The answers that the vectors have are 0 to 19.
+const ANSWERS: usize = 20;
 
-// How many vectors were run, how many differ, and how many of their traces were written again.
+// What the vectors of a file are.
+enum Task {
+    Check,
+    Move,
+    Write,
+}
+
+// How many vectors were run, how many differ, and how many texts came back as they were.
 struct Totals {
     vectors: usize,
     differing: usize,
-    written: usize,
+    back: usize,
 }
 
 // The most bytes of a file of vectors.
@@ -42,7 +47,7 @@ fn vectors_buffer() -> [u8; 1800000]
     [0; 1800000]
 }
 
-// Both examples, as the program checks them.
+// The examples, as the program checks them.
 fn print_examples() {
     check_files(
         b"examples/lock/source",
@@ -54,126 +59,60 @@ fn print_examples() {
         b"examples/task/target",
         b"examples/task/matching",
     );
-}
-
-// Whether all that a vector gives is what it says.
-fn is_right(outcome: Outcome) -> bool {
-    if !outcome.answer_right {
-        return false;
-    }
-    if !outcome.line_right {
-        return false;
-    }
-    if !outcome.source_back.right {
-        return false;
-    }
-    if !outcome.target_back.right {
-        return false;
-    }
-    outcome.rooms_right
-}
-
-// A vector that differs: its ordinal and name, the answer that it says and the one given, and what else differs.
-fn print_differing(ordinal: usize, header: &[u8], outcome: Outcome) {
-    let answer = outcome.answer;
-    print(b"vector");
-    print_number(ordinal as u64);
-    print(b"\t");
-    print(name_of(header));
-    print(b"\nexpected");
-    print_number(number_at(header, NUMBER) as u64);
-    print_number(number_at(header, SIDE) as u64);
-    print_number(number_at(header, PLACE) as u64);
-    print(b"\ngiven");
-    print_answer(answer);
-    if !outcome.line_right {
-        print(b"another line\n");
-    }
-    if !outcome.rooms_right {
-        print(b"a room changed\n");
-    }
-    if !outcome.source_back.right {
-        print(b"another source written\n");
-    }
-    if !outcome.target_back.right {
-        print(b"another target written\n");
-    }
-}
-
-// One more, as far as numbers go.
-fn one_more(n: usize) -> usize {
-    if n == 18446744073709551615 {
-        return n;
-    }
-    n + 1
-}
-
-// One more, if a trace was written again.
-fn and_one(n: usize, back: Back) -> usize {
-    if back.lawful {
-        return one_more(n);
-    }
-    n
+    check_files(
+        b"examples/code/source",
+        b"examples/code/target",
+        b"examples/code/matching",
+    );
 }
 
 // One more vector that has an answer.
 fn count(counts: &mut [usize; ANSWERS], number: usize) {
     if number < ANSWERS {
-        counts[number] = one_more(counts[number]);
+        counts[number] = and_more(counts[number], 1);
     }
 }
 
 // The vector of the data that begins at a place, run.
-fn run_at(data: &[u8], at: usize, vector: Vector) -> Outcome {
-    let source = vector.source;
-    let target = vector.target;
-    let matching = vector.matching;
-    let line = vector.line;
-    outcome_of(
-        between(data, source, target),
-        between(data, target, matching),
-        between(data, matching, line),
-        between(data, at, vector.header_end),
-        between(data, line, vector.end),
-    )
+fn run_at(task: Task, data: &[u8], at: usize, ordinal: usize) -> Ran {
+    match task {
+        Task::Check => run_check(data, at, ordinal),
+        Task::Move => run_move(data, at, ordinal),
+        Task::Write => run_write(data, at, ordinal),
+    }
 }
 
-// The totals after one vector more, which is printed if it differs.
-fn after(totals: Totals, header: &[u8], outcome: Outcome) -> Totals {
-    let vectors = one_more(totals.vectors);
-    let written = and_one(
-        and_one(totals.written, outcome.source_back),
-        outcome.target_back,
-    );
-    if is_right(outcome) {
+// The totals after one vector more.
+fn after(totals: Totals, ran: Ran) -> Totals {
+    let vectors = and_more(totals.vectors, 1);
+    let back = and_more(totals.back, ran.back);
+    if ran.right {
         return Totals {
             vectors,
             differing: totals.differing,
-            written,
+            back,
         };
     }
-    print_differing(vectors, header, outcome);
     Totals {
         vectors,
-        differing: one_more(totals.differing),
-        written,
+        differing: and_more(totals.differing, 1),
+        back,
     }
 }
 
 // All vectors of the data, one after the other.
-fn run_all(data: &[u8], counts: &mut [usize; ANSWERS]) -> Totals {
+fn run_all(task: Task, data: &[u8], counts: &mut [usize; ANSWERS]) -> Totals {
     let mut totals = Totals {
         vectors: 0,
         differing: 0,
-        written: 0,
+        back: 0,
     };
     let mut at: usize = 0;
     while at < data.len() {
-        let vector = vector_at(data, at);
-        let outcome = run_at(data, at, vector);
-        totals = after(totals, between(data, at, vector.header_end), outcome);
-        count(counts, number_index(outcome.answer.number));
-        let next = forth(data, vector.end, 1);
+        let ran = run_at(task, data, at, and_more(totals.vectors, 1));
+        totals = after(totals, ran);
+        count(counts, number_index(ran.answer.number));
+        let next = forth(data, ran.end, 1);
         if next <= at {
             return totals;
         }
@@ -182,11 +121,14 @@ fn run_all(data: &[u8], counts: &mut [usize; ANSWERS]) -> Totals {
     totals
 }
 
+// How many vectors have an answer, if any has it.
 fn print_count(number: usize, vectors: usize) {
-    print(b"answer");
-    print_number(number as u64);
-    print_number(vectors as u64);
-    print(b"\n");
+    if vectors != 0 {
+        print(b"answer");
+        print_number(number as u64);
+        print_number(vectors as u64);
+        print(b"\n");
+    }
 }
 
 // How many vectors have each answer.
@@ -198,23 +140,27 @@ fn print_counts(counts: &[usize; ANSWERS]) {
     }
 }
 
-// Every vector run, and the totals printed.
-fn print_vectors(data: &[u8]) {
+// Every vector of a file run, and the totals printed; `back` says what it is for a text to come back.
+fn run_file(task: Task, name: &[u8], back: &[u8]) {
     let mut counts: [usize; ANSWERS] = [0; ANSWERS];
-    let totals = run_all(data, &mut counts);
-    print(b"vectors");
+    let mut data = vectors_buffer();
+    let bytes = read_file(name, &mut data);
+    let totals = run_all(task, &data[..bytes], &mut counts);
+    print(name);
     print_number(totals.vectors as u64);
     print(b"\ndiffering");
     print_number(totals.differing as u64);
-    print(b"\nwritten back");
-    print_number(totals.written as u64);
+    print(b"\n");
+    print(back);
+    print_number(totals.back as u64);
     print(b"\n");
     print_counts(&counts);
 }
 
 fn main() {
     print_examples();
-    let mut data = vectors_buffer();
-    let bytes = read_file(b"vectors", &mut data);
-    print_vectors(&data[..bytes]);
+    run_file(Task::Check, b"vectors", b"written back");
+    run_file(Task::Check, b"forms", b"written back");
+    run_file(Task::Move, b"moves", b"moved back");
+    run_file(Task::Write, b"writes", b"written back");
 }

@@ -1,4 +1,4 @@
-// A vector in the file: a header, the texts, the offending line. The head comment of peer/vectors.rs gives the format.
+// A vector in a file: a header, what is handed over, what comes back. The head comment of peer/vectors.rs gives the formats.
 use text::line::line_end;
 use text::number::NumberRead;
 use text::number::number_of;
@@ -10,7 +10,7 @@ const BLANK: u8 = 32;
 // No number of a header is greater.
 const MOST: u64 = 4294967295;
 
-// Which number of a header is which.
+// Which number of a check's header is which.
 pub(crate) const SOURCE_BYTES: usize = 0;
 
 pub(crate) const TARGET_BYTES: usize = 1;
@@ -23,23 +23,45 @@ pub(crate) const TARGET_WORDS: usize = 4;
 
 pub(crate) const ENTRY_WORDS: usize = 5;
 
+// Which number of a move's and a writing's header is which.
+pub(crate) const FORM: usize = 0;
+
+pub(crate) const TEXT_BYTES: usize = 1;
+
+pub(crate) const ROOM_WORDS: usize = 2;
+
+pub(crate) const CHANGED_AT: usize = 3;
+
+pub(crate) const CHANGED_TO: usize = 4;
+
+pub(crate) const OUT_BYTES: usize = 5;
+
+// Which number of every header is which.
 pub(crate) const NUMBER: usize = 6;
 
 pub(crate) const SIDE: usize = 7;
 
 pub(crate) const PLACE: usize = 8;
 
-pub(crate) const LINE_BYTES: usize = 9;
+pub(crate) const GIVEN_BYTES: usize = 9;
 
 const NAME: usize = 10;
 
-// Where the parts of a vector begin; each ends where the next begins.
-pub(crate) struct Vector {
+// Where the parts of a check begin; each ends where the next begins. The offending line is what comes back.
+pub(crate) struct CheckVector {
     pub header_end: usize,
     pub source: usize,
     pub target: usize,
     pub matching: usize,
     pub line: usize,
+    pub end: usize,
+}
+
+// Where the parts of a move or a writing begin. The text that is written is what comes back.
+pub(crate) struct TextVector {
+    pub header_end: usize,
+    pub text: usize,
+    pub written: usize,
     pub end: usize,
 }
 
@@ -93,21 +115,36 @@ pub(crate) fn name_of(header: &[u8]) -> &[u8] {
     between(header, from, header.len())
 }
 
-// The vector that begins at a place.
-pub(crate) fn vector_at(data: &[u8], at: usize) -> Vector {
+// The check that begins at a place.
+pub(crate) fn check_vector(data: &[u8], at: usize) -> CheckVector {
     let header_end = line_end(data, at);
     let header = between(data, at, header_end);
     let source = forth(data, header_end, 1);
     let target = forth(data, source, number_at(header, SOURCE_BYTES));
     let matching = forth(data, target, number_at(header, TARGET_BYTES));
     let line = forth(data, matching, number_at(header, MATCHING_BYTES));
-    let end = forth(data, line, number_at(header, LINE_BYTES));
-    Vector {
+    let end = forth(data, line, number_at(header, GIVEN_BYTES));
+    CheckVector {
         header_end,
         source,
         target,
         matching,
         line,
+        end,
+    }
+}
+
+// The move or the writing that begins at a place.
+pub(crate) fn text_vector(data: &[u8], at: usize) -> TextVector {
+    let header_end = line_end(data, at);
+    let header = between(data, at, header_end);
+    let text = forth(data, header_end, 1);
+    let written = forth(data, text, number_at(header, TEXT_BYTES));
+    let end = forth(data, written, number_at(header, GIVEN_BYTES));
+    TextVector {
+        header_end,
+        text,
+        written,
         end,
     }
 }

@@ -10,7 +10,7 @@ use Rattle.text.specs.Word.{bytes, sameBytes}
 use Rattle.record.specs.Layout.{numberIn}
 use Rattle.record.specs.Record.{numberIf, orderIf, eventRest, initRest, recordOf}
 use Rattle.trace.specs.Fault.{uses, eventFault}
-use Rattle.trace.specs.Reading.{startIn, faultOf, surveyOf, eventsOf, readOf}
+use Rattle.trace.specs.Reading.{formOf, startIn, faultOf, surveyOf, eventsOf, readOf}
 use Rattle.matching.specs.Entry.{keepRest, goneRest, entryOf}
 use Rattle.frame.specs.Reading.{headFault, linesFault, textFault}
 use Rattle.matching.specs.Reading.{entriesOf, surveyOf as matchingSurvey, readOf as matchingRead}
@@ -22,15 +22,17 @@ use Rattle.checker.specs.Cases.{table, all-hold}
 
 pub P1-to-P12 : all-hold table ≡ true
 unfolding checkOf readingAnswer verdictOf verdict startAnswer countAnswer entryAnswer sourceAnswer targetAnswer readOf surveyOf
-    faultOf textFault headFault linesFault saidIn startIn eventsOf eventFault uses recordOf eventRest initRest
+    formOf faultOf textFault headFault linesFault saidIn startIn eventsOf eventFault uses recordOf eventRest initRest
     numberIf orderIf numberIn matchingRead matchingSurvey entriesOf
     entryOf keepRest goneRest numberOf digitsOn valueOn allDigits cut sameBytes stepped after latest lawful takes row
 P1-to-P12 = refl
 
--- The line that the program prints for P10.
-pub P10-line :
-    offendingLine (bytes "trace\t1\nstore\t1\t5\nunlock\t0\n") (bytes "trace\t1\nunlock\t0\nstore\t1\t5\n") (answer 12 1 2)
-    ≡ bytes "unlock\t0"
-unfolding offending faultSide lineOf nthLine standing counted recordOf eventRest initRest numberIf orderIf numberIn numberOf
+-- The lines that the program prints for P10: of form 1, and of form 2 with its code line, against a target of form 1.
+pub P10-lines :
+    (offendingLine (bytes "trace\t1\nstore\t1\t5\nunlock\t0\n") (bytes "trace\t1\nunlock\t0\nstore\t1\t5\n") (answer 12 1 2)
+    ≡ bytes "unlock\t0")
+    × (offendingLine (bytes "trace\t2\nstore\t1\t5\t80\nunlock\t0\t81\n") (bytes "trace\t1\nunlock\t0\nstore\t1\t5\n") (answer 12 1 2)
+    ≡ bytes "unlock\t0\t81")
+unfolding offending faultSide formOf lineOf nthLine standing counted recordOf eventRest initRest numberIf orderIf numberIn numberOf
     digitsOn valueOn allDigits cut sameBytes lawful takes row
-P10-line = refl
+P10-lines = (refl, refl)

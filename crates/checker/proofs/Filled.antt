@@ -12,7 +12,7 @@ use Rattle.event.proofs.Rooms.{flat-length, onward-flat, each-event}
 use Rattle.event.proofs.Lawful.{place-below}
 use Rattle.event.specs.Kind.{places}
 use Rattle.record.specs.Record.{Fit}
-use Rattle.trace.specs.Reading.{eventsOf, surveyOf, front, readOf}
+use Rattle.trace.specs.Reading.{formOf, eventsOf, surveyOf, front, readOf}
 use Rattle.trace.specs.Text.{Fits}
 use Rattle.trace.proofs.OneText.{text-whole}
 use Rattle.trace.proofs.Readings.{counts, read-passed}
@@ -33,7 +33,7 @@ module _ (side : ℕ) (t room : List ℕ) (z : readOf side t room .answer .numbe
   passed : surveyOf side t .answer .number ≡ 0
   passed = rw (read-passed side t room z) at z
 
-  fits : Fits (surveyOf side t .memory) (eventsOf t)
+  fits : Fits (formOf t) (surveyOf side t .memory) (eventsOf t)
   fits = text-whole side t passed .fits
 
   counted : readOf side t room .events ≡ length (eventsOf t)
@@ -44,7 +44,7 @@ module _ (side : ℕ) (t room : List ℕ) (z : readOf side t room .answer .numbe
 
   in-place : Placed (flat (eventsOf t))
   in-place i h =
-      each-event (λ e. e .place < places) (eventsOf t) (each-imp Fit (λ e. e .place < places) (λ e f. place-below e (f .0)) (eventsOf t) (fits .events)) i
+      each-event (λ e. e .place < places) (eventsOf t) (each-imp (Fit (formOf t)) (λ e. e .place < places) (λ e f. place-below e (f .law)) (eventsOf t) (fits .events)) i
       (omega (arith, flat-length (eventsOf t)))
 
   filled-front : Filled t (readOf side t room) (front (eventsOf t) room)

@@ -7,21 +7,22 @@ use native.Mathlib.Omega.{arith}
 use lib.Dec.{eqb}
 use lib.ListN.{length}
 use borrow.Author.Tests.{eqb-false}
+use Rattle.record.specs.declared.form.Form.{Form}
 use Rattle.checker.specs.Line.{Standing, counted, nothing, nthLine, span, standing}
 
 -- there is no line 0
-pub none-zero : (only : Bool) (ss : List Standing) → nthLine only 0 ss ≡ nothing
+pub none-zero : (f : Form) (only : Bool) (ss : List Standing) → nthLine f only 0 ss ≡ nothing
 unfolding nthLine
-none-zero only [] = refl
-none-zero only (s ∷ ss) = rw (none-zero only ss) (same-both (counted only (s .line)))
+none-zero f only [] = refl
+none-zero f only (s ∷ ss) = rw (none-zero f only ss) (same-both (counted f only (s .line)))
   where
     same-both : (b : Bool) → cond b (cond false s nothing) nothing ≡ nothing
     same-both true = refl
     same-both false = refl
 
-pub none-left : (only : Bool) (k at : ℕ) → nthLine only k (standing at []) ≡ nothing
+pub none-left : (f : Form) (only : Bool) (k at : ℕ) → nthLine f only k (standing at []) ≡ nothing
 unfolding nthLine standing
-none-left only k at = refl
+none-left f only k at = refl
 
 -- more than one is left to count
 pub left-some : (b : Bool) (k : ℕ) → 1 ≤ k → (b && eqb k 1) ≡ false → 1 ≤ cond b (k - 1) k
@@ -29,15 +30,15 @@ left-some true k p h = omega (arith, eqb-false k 1 h)
 left-some false k p h = p
 
 -- the line is the one that is sought
-pub line-found : (only : Bool) (k at e : ℕ) (l : List ℕ) (ls : List (List ℕ)) (b : Bool) → e ≡ at + length l → b ≡ counted only l
-    → (b && eqb k 1) ≡ true → nthLine only k (standing at (l ∷ ls)) ≡ record { line = l; place = span at e }
+pub line-found : (f : Form) (only : Bool) (k at e : ℕ) (l : List ℕ) (ls : List (List ℕ)) (b : Bool) → e ≡ at + length l → b ≡ counted f only l
+    → (b && eqb k 1) ≡ true → nthLine f only k (standing at (l ∷ ls)) ≡ record { line = l; place = span at e }
 unfolding nthLine standing
-line-found only k at e l ls true s c h = rw (← c, h, s)
-line-found only k at e l ls false s c h = absurd (false≢true h)
+line-found f only k at e l ls true s c h = rw (← c, h, s)
+line-found f only k at e l ls false s c h = absurd (false≢true h)
 
 -- it is not
-pub line-passed : (only : Bool) (k at e : ℕ) (l : List ℕ) (ls : List (List ℕ)) (b : Bool) → e ≡ at + length l → b ≡ counted only l
-    → (b && eqb k 1) ≡ false → nthLine only k (standing at (l ∷ ls)) ≡ nthLine only (cond b (k - 1) k) (standing (e + 1) ls)
+pub line-passed : (f : Form) (only : Bool) (k at e : ℕ) (l : List ℕ) (ls : List (List ℕ)) (b : Bool) → e ≡ at + length l → b ≡ counted f only l
+    → (b && eqb k 1) ≡ false → nthLine f only k (standing at (l ∷ ls)) ≡ nthLine f only (cond b (k - 1) k) (standing (e + 1) ls)
 unfolding nthLine standing
-line-passed only k at e l ls true s c h = rw (← c, h, s)
-line-passed only k at e l ls false s c h = rw (← c, s)
+line-passed f only k at e l ls true s c h = rw (← c, h, s)
+line-passed f only k at e l ls false s c h = rw (← c, s)

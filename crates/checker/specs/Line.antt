@@ -9,7 +9,9 @@ use Rattle.event.specs.Kind.{has}
 use Rattle.event.specs.declared.Answer.{Answer}
 use Rattle.text.specs.Line.{split}
 use Rattle.record.specs.Record.{recordOf}
+use Rattle.record.specs.declared.form.Form.{Form}
 use Rattle.record.specs.declared.Record.{Record}
+use Rattle.trace.specs.Reading.{formOf}
 use Rattle.checker.specs.declared.line.Span.{Span}
 use Rattle.record.specs.declared.Record.the-variants.{Init, AnEvent, Refused}
 
@@ -19,10 +21,10 @@ isEvent (Init p v) = false
 isEvent (AnEvent e) = true
 isEvent Refused = false
 
--- Whether a line is counted: every line, or only those that are events.
-unfoldable pub counted : Bool → List ℕ → Bool
-counted false l = true
-counted true l = isEvent (recordOf l)
+-- Whether a line of a text of a form is counted: every line, or only those that are events.
+unfoldable pub counted : Form → Bool → List ℕ → Bool
+counted f false l = true
+counted f true l = isEvent (recordOf f l)
 
 -- A part of a text, from one place to another.
 abbrev pub span : ℕ → ℕ → Span
@@ -42,9 +44,9 @@ standing at [] = []
 standing at (l ∷ ls) = record { line = l; place = span at (at + length l) } ∷ standing (at + length l + 1) ls
 
 -- The k-th line that is counted, from 1; nothing if there are not so many.
-unfoldable pub nthLine : Bool → ℕ → List Standing → Standing
-nthLine only k [] = nothing
-nthLine only k (s ∷ ss) = cond (counted only (s .line)) (cond (eqb k 1) s (nthLine only (k - 1) ss)) (nthLine only k ss)
+unfoldable pub nthLine : Form → Bool → ℕ → List Standing → Standing
+nthLine f only k [] = nothing
+nthLine f only k (s ∷ ss) = cond (counted f only (s .line)) (cond (eqb k 1) s (nthLine f only (k - 1) ss)) (nthLine f only k ss)
 
 -- The place of 2, 3 and 4 is a line; that of 5, 6 and 10 to 16 is an event.
 abbrev pub lineFaults : List ℕ
@@ -56,8 +58,8 @@ eventFaults = 5 ∷ 6 ∷ 10 ∷ 11 ∷ 12 ∷ 13 ∷ 14 ∷ 15 ∷ 16 ∷ []
 -- The line of a text that an answer's number and place name, without its LF; nothing for another number.
 unfoldable pub lineOf : ℕ → ℕ → List ℕ → Standing
 lineOf number place t =
-    cond (has number lineFaults) (nthLine false place (standing 0 (split t)))
-    (cond (has number eventFaults) (nthLine true place (standing 0 (split t))) nothing)
+    cond (has number lineFaults) (nthLine (formOf t) false place (standing 0 (split t)))
+    (cond (has number eventFaults) (nthLine (formOf t) true place (standing 0 (split t))) nothing)
 
 -- The side whose text has the line at fault: none where the number has no line.
 unfoldable pub faultSide : Answer → ℕ

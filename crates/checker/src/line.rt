@@ -20,12 +20,15 @@ ghost use Rattle.checker.specs.Line.{
   Begins,
 };
 ghost use Rattle.text.specs.Line.{split};
+ghost use Rattle.trace.specs.Reading.{formOf};
 use event::Answer;
 use event::Number;
 use event::kind::is_in;
 use record::Record;
+use record::form::Form;
 use record::record_of;
 use text::line::line_end;
+use trace::form::form_of;
 
 // A part of a text, from one place to another.
 pub struct Span {
@@ -43,12 +46,12 @@ fn is_event(line: Record) -> bool
     }
 }
 
-// Whether a line is counted: every line, or only those that are events.
-fn is_counted(only: bool, line: &[u8]) -> bool
-    ensures { λ r. ⌜ r ≡ counted only (now (line .entry)) ⌝ }
+// Whether a line of a text of a form is counted: every line, or only those that are events.
+fn is_counted(form: Form, only: bool, line: &[u8]) -> bool
+    ensures { λ r. ⌜ r ≡ counted form only (now (line .entry)) ⌝ }
 {
     if only {
-        return is_event(record_of(line));
+        return is_event(record_of(form, line));
     }
     true
 }
@@ -76,17 +79,18 @@ fn left_after(hit: bool, left: usize) -> usize
 
 // The k-th line that is counted, from 1; an empty part if there are not so many.
 fn span_of(text: &[u8], only: bool, k: usize) -> Span
-    ensures { λ r. ⌜ Spans (now (text .entry)) (nthLine only k (standing 0 (split (now (text .entry)))) .line) r ⌝ }
-    ensures { λ r. ⌜ r ≡ nthLine only k (standing 0 (split (now (text .entry)))) .place ⌝ }
+    ensures { λ r. ⌜ Spans (now (text .entry)) (nthLine (formOf (now (text .entry))) only k (standing 0 (split (now (text .entry)))) .line) r ⌝ }
+    ensures { λ r. ⌜ r ≡ nthLine (formOf (now (text .entry))) only k (standing 0 (split (now (text .entry)))) .place ⌝ }
 {
     if k == 0 {
         return Span { from: 0, to: 0 };
     }
+    let form = form_of(text);
     let mut at: usize = 0;
     let mut left = k;
     while at <= text.len() {
         let end = line_end(text, at);
-        let hit = is_counted(only, &text[at..end]);
+        let hit = is_counted(form, only, &text[at..end]);
         if ends_here(hit, left) {
             return Span { from: at, to: end };
         }

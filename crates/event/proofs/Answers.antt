@@ -16,9 +16,9 @@ use Rattle.event.proofs.Has.{has-every}
 use Rattle.event.specs.Answer.{answer, done, first, answers, InTable, Where, nowhere, ordinal, location, amount}
 use Rattle.event.specs.declared.Answer.{Answer}
 
--- the table has the numbers 0 to 18
-nineteen : length answers ≡ 19
-nineteen = refl
+-- the table has the numbers 0 to 19
+twenty : length answers ≡ 20
+twenty = refl
 
 -- the table has a number with a side and a place from 1 on
 abbrev pub isOrdinal : Where → Bool

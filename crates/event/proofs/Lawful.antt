@@ -6,7 +6,7 @@ use native.Mathlib.Omega.{arith}
 use lib.Dec.{leb, eqb}
 use borrow.Author.Tests.{leb-true, eqb-true}
 use Rattle.laws.proofs.Bools.{and-left, and-right}
-use Rattle.event.specs.Kind.{row, takes, fitsPlace, fitsValues, uncoded, lawful}
+use Rattle.event.specs.Kind.{row, takes, fitsPlace, fitsValues, lastCode, lawful}
 use Rattle.event.specs.declared.Event.{Event}
 use Rattle.event.specs.declared.kind.Place.{Place}
 use Rattle.event.specs.declared.kind.Place.the-variants.{Location, Mutex, Nowhere}
@@ -29,27 +29,12 @@ module _ (e : Event) (h : lawful e ≡ true) where
   unfolding lawful
   values-of = and-left _ _ (and-right (fitsPlace (row (e .kind) .place) (e .place)) _ (and-right (takes (row (e .kind) .orders) (e .order)) _ h))
 
-  pub code-of : e .code ≡ 0
+  pub code-of : e .code ≤ lastCode
   unfolding lawful
   code-of =
-      eqb-true _ _
+      leb-true _ _
       (and-right (fitsValues (row (e .kind) .values) (e .first) (e .second)) _
       (and-right (fitsPlace (row (e .kind) .place) (e .place)) _ (and-right (takes (row (e .kind) .orders) (e .order)) _ h)))
 
   pub place-below : e .place < 256
   place-below = place-in (row (e .kind) .place) (e .place) place-of
-
--- A code line apart, an event is lawful if its fields are.
-apart : (a b c x : Bool) → (a && (b && (c && x))) ≡ ((a && (b && (c && true))) && x)
-apart true true true x = refl
-apart true true false x = refl
-apart true false c x = refl
-apart false b c x = refl
-
-pub coded :
-    (e : Event) → lawful e ≡ (lawful (uncoded (e .kind) (e .place) (e .order) (e .first) (e .second)) && eqb (e .code) 0)
-unfolding lawful
-coded e =
-    apart (takes (row (e .kind) .orders) (e .order)) (fitsPlace (row (e .kind) .place) (e .place))
-    (fitsValues (row (e .kind) .values) (e .first) (e .second))
-    (eqb (e .code) 0)

@@ -1,4 +1,4 @@
--- Document 01, "Numbers that come back": a number, a side and a place; and its table. Assumes nothing.
+-- Document 01, "Numbers that come back", and document 02, C-11: a number, a side and a place; and the table. Assumes nothing.
 use Prim.Native.Nat.{ℕ}
 use mathlib.Core.Bool.{Bool, true, cond, _&&_}
 use mathlib.Core.List.{List, [], _∷_}
@@ -51,6 +51,7 @@ answers =
     ∷ (2 ∷ [], ordinal)  -- 16 target load without a source
     ∷ (0 ∷ 1 ∷ 2 ∷ 3 ∷ [], amount)  -- 17 lent room too short
     ∷ (0 ∷ [], ordinal)  -- 18 fields outside the layout
+    ∷ (0 ∷ 1 ∷ [], ordinal)  -- 19 code line would be lost
     ∷ []
 
 -- An answer is a row of it.

@@ -100,18 +100,22 @@ fitsPlace Nowhere n = eqb n 0
 abbrev pub fitsValues : ℕ → ℕ → ℕ → Bool
 fitsValues n a b = (leb 1 n || eqb a 0) && (leb 2 n || eqb b 0)
 
--- the event of some fields, which has no code line
-abbrev pub uncoded : ℕ → ℕ → ℕ → ℕ → ℕ → Event
-uncoded kind place order first second =
-    record { kind = kind; place = place; order = order; first = first; second = second; code = 0 }
+-- the greatest code line
+abbrev pub lastCode : ℕ
+lastCode = 65535
 
--- an event of the layout, form 1: an order of its kind, a place in range, no value that its kind lacks, and no code line
+-- the event of its fields
+abbrev pub made : ℕ → ℕ → ℕ → ℕ → ℕ → ℕ → Event
+made kind place order first second code =
+    record { kind = kind; place = place; order = order; first = first; second = second; code = code }
+
+-- an event of the layout: an order of its kind, a place in range, no value that its kind lacks, and a code line in range
 unfoldable pub lawful : Event → Bool
 lawful e =
     takes (row (e .kind) .orders) (e .order)
     && (fitsPlace (row (e .kind) .place) (e .place)
     && (fitsValues (row (e .kind) .values) (e .first) (e .second)
-    && eqb (e .code) 0))
+    && leb (e .code) lastCode))
 
 abbrev pub isLocation : Place → Bool
 isLocation Location = true

@@ -1,7 +1,7 @@
 // The fixed table: a kind's number decides all that a kind is, its orders, its place, its values, whether it reads, what it sets and
 // whether it synchronises.
 ghost use mathlib.Core.Path.{_≡_};
-ghost use Rattle.event.specs.Kind.{accessRow, barrierRow, noKind, row, has, takes, fitsPlace, fitsValues, uncoded, lawful, isMarks, isLoadKind, isLocation, plain};
+ghost use Rattle.event.specs.Kind.{accessRow, barrierRow, noKind, row, has, takes, fitsPlace, fitsValues, made, lawful, isMarks, isLoadKind, isLocation, plain};
 use crate::Event;
 use crate::Word;
 
@@ -126,6 +126,9 @@ const UNUSED: Word = 7;
 // The greatest location or mutex.
 pub const LAST_PLACE: Word = 255;
 
+// The greatest code line.
+pub const LAST_CODE: Word = 65535;
+
 // Whether a number is in a list.
 pub fn is_in(n: Word, list: &[Word]) -> bool
     ensures { λ r. ⌜ r ≡ has n (now (list .entry)) ⌝ }
@@ -176,9 +179,9 @@ fn fits_values(values: Word, first: Word, second: Word) -> bool
     }
 }
 
-// Whether a place, an order and values are those of a kind.
-pub fn suits(kind: Word, place: Word, order: Word, first: Word, second: Word) -> bool
-    ensures { λ r. ⌜ r ≡ lawful (uncoded kind place order first second) ⌝ }
+// Whether a place, an order, values and a code line are those of a kind.
+pub fn suits(kind: Word, place: Word, order: Word, first: Word, second: Word, code: Word) -> bool
+    ensures { λ r. ⌜ r ≡ lawful (made kind place order first second code) ⌝ }
 {
     let row = row_of(kind);
     let orders = row.orders;
@@ -189,7 +192,10 @@ pub fn suits(kind: Word, place: Word, order: Word, first: Word, second: Word) ->
     if !fits_place(located, place) {
         return false;
     }
-    fits_values(row.values, first, second)
+    if !fits_values(row.values, first, second) {
+        return false;
+    }
+    code <= LAST_CODE
 }
 
 // Whether these are marks, not orders.
@@ -237,12 +243,9 @@ pub fn is_plain(e: Event) -> bool
     false
 }
 
-// Whether an event is of the layout, form 1.
+// Whether an event is of the layout.
 pub fn is_lawful(e: Event) -> bool
     ensures { λ r. ⌜ r ≡ lawful e ⌝ }
 {
-    if !suits(e.kind, e.place, e.order, e.first, e.second) {
-        return false;
-    }
-    e.code == 0
+    suits(e.kind, e.place, e.order, e.first, e.second, e.code)
 }

@@ -1,10 +1,12 @@
 -- One answer and one room to each contract of a public function, each over the contract itself. Assumes nothing.
 use mathlib.Core.Path.{ap, sym, _∙_}
 use Rattle.checker.specs.declared.line.Span.{Span}
-use Rattle.laws.specs.Unique.{OneOf}
+use Rattle.laws.specs.Unique.{OneAnswer, OneOf}
 use Rattle.export.proofs.laprunto_read_trace.Reads as read-trace
 use Rattle.export.proofs.laprunto_read_matching.Reads as read-matching
+use Rattle.export.proofs.laprunto_trace_form.Reads as trace-form
 use Rattle.export.proofs.laprunto_write_trace.Reads as write-trace
+use Rattle.export.proofs.laprunto_move_trace.Reads as move-trace
 use Rattle.export.proofs.laprunto_check.Reads as check
 use Rattle.export.proofs.laprunto_offending_line.Reads as offending-line
 
@@ -23,11 +25,20 @@ read-matching-result κ a x y s t h k = h .0 ∙ sym (k .0)
 read-matching-room : OneOf read-matching.Post (λ κ r s. s .1 .0 .now)
 read-matching-room κ a x y s t h k = h .1 ∙ sym (k .1)
 
-write-trace-result : OneOf write-trace.Post (λ κ r s. s .1 .1 .1 .0 .now)
+trace-form-number : OneAnswer trace-form.Post
+trace-form-number κ a x y s t h k = h ∙ sym k
+
+write-trace-result : OneOf write-trace.Post (λ κ r s. s .1 .1 .1 .1 .0 .now)
 write-trace-result κ a x y s t h k = h .0 ∙ sym (k .0)
 
-write-trace-bytes : OneOf write-trace.Post (λ κ r s. s .1 .1 .0 .now)
+write-trace-bytes : OneOf write-trace.Post (λ κ r s. s .1 .1 .1 .0 .now)
 write-trace-bytes κ a x y s t h k = h .1 ∙ sym (k .1)
+
+move-trace-result : OneOf move-trace.Post (λ κ r s. s .1 .1 .1 .0 .now)
+move-trace-result κ a x y s t h k = h .0 ∙ sym (k .0)
+
+move-trace-bytes : OneOf move-trace.Post (λ κ r s. s .1 .1 .0 .now)
+move-trace-bytes κ a x y s t h k = h .1 ∙ sym (k .1)
 
 check-result : OneOf check.Post (λ κ r s. s .1 .1 .1 .1 .1 .1 .1 .1 .0 .now)
 check-result κ a x y s t h k = h .numbers ∙ sym (k .numbers)

@@ -1,13 +1,22 @@
-// The library for C and Rust: reading, writing, checking and the line at fault, on numbers, slices and arrays.
+// The library for C and Rust: reading, writing, moving, checking and the line at fault, on numbers, slices and arrays.
 // `door/laprunto.h` declares them for C; a slice is a pointer and a length there, an array a pointer.
 ghost use mathlib.Core.Path.{_≡_};
 ghost use Rattle.event.specs.Answer.{answer};
-ghost use Rattle.trace.specs.Reading.{readOf, roomAfter};
+ghost use Rattle.trace.specs.Reading.{formOf, readOf, roomAfter};
+ghost use Rattle.trace.specs.Moving.{moveOf, movedOut};
 ghost use Rattle.trace.specs.Writing.{writeOf, outAfter};
 ghost use Rattle.matching.specs.Reading.{readOf as matchingOf, roomAfter as entriesAfter};
 ghost use Rattle.checker.specs.Check.{lent};
 ghost use Rattle.checker.specs.Line.{offendingLine, offendingSpan, faultText, span, Spans};
-ghost use Rattle.export.specs.Numbers.{answerNumbers, traceNumbers, matchingNumbers, starting, Leaves};
+ghost use Rattle.export.specs.Numbers.{
+  answerNumbers,
+  traceNumbers,
+  matchingNumbers,
+  starting,
+  formNumber,
+  formNumbered,
+  Leaves,
+};
 use checker::check;
 use checker::line::offending_span;
 use event::Answer;
@@ -16,6 +25,31 @@ use event::Number;
 use event::Word;
 use event::memory::Memory;
 use event::number_index;
+use record::form::Form;
+use trace::form::form_of;
+use trace::moving::move_to;
+
+// The form that a number names.
+fn form_numbered(n: Number) -> Form
+    ensures { λ r. ⌜ r ≡ formNumbered n ⌝ }
+{
+    if n == 2 {
+        return Form::Two;
+    }
+    Form::One
+}
+
+// The form of a trace text, as its number.
+#[no_mangle]
+pub extern "C" fn laprunto_trace_form(text: &[u8]) -> Number
+    ensures { λ r. ⌜ r ≡ formNumber (formOf (now (text .entry))) ⌝ }
+{
+    let form = form_of(text);
+    match form {
+        Form::One => 1,
+        Form::Two => 2,
+    }
+}
 
 // A trace text read alone: number, side, place and events, the starting memory, and the room.
 #[no_mangle]
@@ -58,23 +92,43 @@ pub extern "C" fn laprunto_read_matching(text: &[u8], room: &mut [Entry], result
     ];
 }
 
-// A starting memory and the events of a part of a room, written as a text: number, side and place, and the bytes.
+// A starting memory and the events of a part of a room, written as a text of a form: number, side and place, and the bytes.
 #[no_mangle]
 pub extern "C" fn laprunto_write_trace(
+    form: Number,
     memory: &[Word; 256],
     room: &[Word],
     out: &mut [u8],
     result: &mut [usize; 3],
 )
-    ensures { λ _. ⌜ now (result .exit) ≡ answerNumbers (writeOf (starting (now (memory .entry))) (now (room .entry)) (now (out .entry))) ⌝ }
-    ensures { λ _. ⌜ now (out .exit) ≡ outAfter (starting (now (memory .entry))) (now (room .entry)) (now (out .entry)) ⌝ }
+    ensures { λ _. ⌜ now (result .exit) ≡ answerNumbers (writeOf (formNumbered form) (starting (now (memory .entry))) (now (room .entry)) (now (out .entry))) ⌝ }
+    ensures { λ _. ⌜ now (out .exit) ≡ outAfter (formNumbered form) (starting (now (memory .entry))) (now (room .entry)) (now (out .entry)) ⌝ }
 {
     let cells = *memory;
-    let written = trace::write(Memory { cells }, room, out);
+    let written = trace::write(form_numbered(form), Memory { cells }, room, out);
     *result = [
         number_index(written.number),
         number_index(written.side),
         written.place,
+    ];
+}
+
+// A trace text moved to a form: number, side and place, and the bytes.
+#[no_mangle]
+pub extern "C" fn laprunto_move_trace(
+    to_form: Number,
+    text: &[u8],
+    out: &mut [u8],
+    result: &mut [usize; 3],
+)
+    ensures { λ _. ⌜ now (result .exit) ≡ answerNumbers (moveOf (formNumbered «to_form») (now (text .entry)) (now (out .entry))) ⌝ }
+    ensures { λ _. ⌜ now (out .exit) ≡ movedOut (formNumbered «to_form») (now (text .entry)) (now (out .entry)) ⌝ }
+{
+    let moved = move_to(form_numbered(to_form), text, out);
+    *result = [
+        number_index(moved.number),
+        number_index(moved.side),
+        moved.place,
     ];
 }
 

@@ -1,6 +1,5 @@
 // What the program `laprunto` does: three files checked, and what is found printed.
-use crate::print::print;
-use crate::print::print_answer;
+use crate::print::print_answer_line;
 use crate::print::print_line;
 use crate::read::read_file;
 use crate::read::text_buffer;
@@ -22,12 +21,7 @@ fn print_check<'a>(source: &'a [u8], target: &'a [u8], matching: &[u8]) {
         &mut entry_room,
     );
     let answer = checked.answer;
-    if answer.number == 0 {
-        print(b"accepted");
-    } else {
-        print(b"refused");
-    }
-    print_answer(answer);
+    print_answer_line(b"accepted", answer);
     print_line(offending_line(source, target, answer));
 }
 

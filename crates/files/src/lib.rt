@@ -1,4 +1,6 @@
-// What the programs share: files by name, the lines that they print, and the check of three files.
+// What the programs share: files by name, the lines that they print, the check of three files, and the move of one.
 pub mod check;
+pub mod moving;
 pub mod print;
 pub mod read;
+pub mod write;

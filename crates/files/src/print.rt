@@ -20,6 +20,16 @@ pub fn print_answer(answer: Answer) {
     print(b"\n");
 }
 
+// The answer line of a program: its word for number 0, else `refused`, and the answer.
+pub(crate) fn print_answer_line(done: &[u8], answer: Answer) {
+    if answer.number == 0 {
+        print(done);
+    } else {
+        print(b"refused");
+    }
+    print_answer(answer);
+}
+
 // A line, if there is one.
 pub fn print_line(line: &[u8]) {
     if line.len() != 0 {

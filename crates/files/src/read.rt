@@ -3,11 +3,11 @@ ghost use mathlib.Core.Path.{_≡_};
 ghost use lib.ListN.{length};
 ghost use Rattle.io.specs.Counts.{Counts};
 
-// One byte more than the longest text: a longer file is answer 1 whatever its size.
-pub fn text_buffer() -> [u8; 32401]
-    ensures { λ r. ⌜ 32401 ≡ length r ⌝ }
+// One byte more than the longest text, a trace of form 2: a longer file is answer 1 whatever its size.
+pub fn text_buffer() -> [u8; 37201]
+    ensures { λ r. ⌜ 37201 ≡ length r ⌝ }
 {
-    [0; 32401]
+    [0; 37201]
 }
 
 // The bytes of a file.

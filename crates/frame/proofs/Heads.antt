@@ -43,6 +43,7 @@ head-parts header (l ∷ p ∷ ps) h = (rw (same-eq l header h), tt)
 -- what a text is whose size and lines are not refused
 pub record Framed {S : Type 0} (T : Layout S) (side : ℕ) (t : List ℕ) : Type 0 where
   pub short : length t ≤ T .limit
+  pub first : headed (T .header) (split t) ≡ true
   pub parts : split t ≡ T .header ∷ body (split t)
   pub some : Some (body (split t))
   pub lines : linesFault T side 2 (T .start) (body (split t)) .number ≡ 0
@@ -61,7 +62,7 @@ module _ {S : Type 0} (T : Layout S) (side : ℕ) (t : List ℕ) where
       let f = first-done (headFault side (T .limit) (T .header) t) (linesFault T side 2 (T .start) (body (split t))) h in
       let d = head-done side (T .limit) (T .header) t (f .0) in
       let p = head-parts (T .header) (split t) (d .1) in
-      record { short = d .0; parts = p .0; some = p .1; lines = f .1 }
+      record { short = d .0; first = d .1; parts = p .0; some = p .1; lines = f .1 }
 
   -- a short text with the header for its first part is tried line by line
   pub by-lines : (ls : List (List ℕ)) → length t ≤ T .limit → split t ≡ T .header ∷ ls → Some ls → textFault T side t ≡ linesFault T side 2 (T .start) ls

@@ -9,7 +9,7 @@ use text::line::next_line;
 use text::word::same_bytes;
 
 // Whether line 1 is the header, and has a LF.
-fn is_headed(text: &[u8], header: &[u8]) -> bool
+pub fn is_headed(text: &[u8], header: &[u8]) -> bool
     ensures { λ r. ⌜ r ≡ headed (now (header .entry)) (split (now (text .entry))) ⌝ }
 {
     let LineStep::Line { to } = next_line(text, 0) else {

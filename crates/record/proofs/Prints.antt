@@ -9,15 +9,18 @@ use lib.Dec.{leb}
 use lib.ListN.{length, length-append}
 use borrow.Author.Tests.{leb-true}
 use Rattle.laws.proofs.Lists.{Each, Free, each-append}
-use Rattle.event.specs.Kind.{row, rlx, lastPlace}
-use Rattle.event.specs.Kind.{uncoded}
+use Rattle.event.specs.Kind.{row, rlx, lastPlace, lastCode, made}
 use Rattle.event.specs.declared.Event.{Event}
+use Rattle.event.proofs.Lawful.{code-of}
 use Rattle.text.specs.Cut.{glue}
 use Rattle.text.specs.Number.{decimal}
 use Rattle.text.proofs.Decimals.{length-some, length-more, length-below}
+use Rattle.record.specs.Form.{coded}
 use Rattle.record.specs.Layout.{kindWords, initWord, wordAt, shapeOf, parts, there, eventFields, eventLine, initLine}
 use Rattle.record.specs.Record.{Fit, lastValue, longestEvent, longestInit}
-use Rattle.record.proofs.Tables.{each-to}
+use Rattle.record.specs.declared.form.Form.{Form}
+use Rattle.record.specs.declared.form.Form.the-variants.{One, Two}
+use Rattle.record.proofs.Tables.{upTo, each-to}
 use Rattle.record.proofs.Stands.{orderMost, markMost, stand-length, shaped}
 use Rattle.record.proofs.Layouts.{event-free, init-free}
 
@@ -27,9 +30,9 @@ glue-free s u n [] h = tt
 glue-free s u n (p ∷ []) h = h .0
 glue-free s u n (p ∷ q ∷ ps) h = each-append _ p (s ∷ glue s (q ∷ ps)) (h .0) (n, glue-free s u n (q ∷ ps) (h .1))
 
-pub event-no-lf : (e : Event) → Free 10 (eventLine e)
+pub event-no-lf : (f : Form) (e : Event) → Free 10 (eventLine f e)
 unfolding eventLine
-event-no-lf e = glue-free 9 10 (λ z. omega arith) _ (event-free 10 (omega arith) e)
+event-no-lf f e = glue-free 9 10 (λ z. omega arith) _ (event-free f 10 (omega arith) e)
 
 pub init-no-lf : (p v : ℕ) → Free 10 (initLine p v)
 unfolding initLine
@@ -45,12 +48,15 @@ unfolding glue
 glue-size s p [] = omega arith
 glue-size s p (q ∷ ps) = omega (arith, length-append p (s ∷ glue s (q ∷ ps)), glue-size s q ps)
 
--- the digits of a place and of a value, at most
+-- the digits of a place, a value and a code line, at most
 abbrev placeMost : ℕ
 placeMost = 3
 
 abbrev valueMost : ℕ
 valueMost = 10
+
+abbrev codeMost : ℕ
+codeMost = 5
 
 place-length : (n : ℕ) → n ≤ lastPlace → length (decimal n) ≤ placeMost
 place-length n h = length-below 2 n (omega arith)
@@ -58,9 +64,12 @@ place-length n h = length-below 2 n (omega arith)
 value-length : (n : ℕ) → n ≤ lastValue → length (decimal n) ≤ valueMost
 value-length n h = length-below 9 n (omega arith)
 
+code-length : (n : ℕ) → n ≤ lastCode → length (decimal n) ≤ codeMost
+code-length n h = length-below 4 n (omega arith)
+
 -- the bytes of each field after the word, at most
 abbrev mosts : List ℕ
-mosts = placeMost ∷ orderMost ∷ valueMost ∷ valueMost ∷ markMost ∷ []
+mosts = placeMost ∷ orderMost ∷ valueMost ∷ valueMost ∷ markMost ∷ codeMost ∷ []
 
 abbrev Within : List (Bool × List ℕ) → List ℕ → Type 0
 Within [] ns = Unit {0}
@@ -80,31 +89,35 @@ size-there ((true, f) ∷ ps) (n ∷ ns) h = let i = h .0 refl in omega (arith, 
 size-there ((false, f) ∷ ps) (n ∷ ns) h = omega (arith, size-there ps ns (h .1))
 
 -- the bytes of a kind's line with its LF, at most
-abbrev most : ℕ → ℕ
-most k = suc (length (wordAt kindWords k)) + cost (parts (shapeOf k) (uncoded k 0 0 0 0)) mosts
+abbrev most : Form → ℕ → ℕ
+most f k = suc (length (wordAt kindWords k)) + cost (parts (shapeOf f k) (made k 0 0 0 0 0)) mosts
 
-kind-cost : (k : ℕ) → k ≤ length kindWords → most k ≤ suc longestEvent
+kinds-cost : (f : Form) → upTo (λ n. leb (most f n) (suc (longestEvent f))) (length kindWords) ≡ true
 unfolding row
-kind-cost k h = leb-true _ _ (each-to (λ n. leb (most n) (suc longestEvent)) (length kindWords) refl k h)
+kinds-cost One = refl
+kinds-cost Two = refl
 
-pub event-length : (e : Event) → Fit e → length (eventLine e) ≤ longestEvent
+kind-cost : (f : Form) (k : ℕ) → k ≤ length kindWords → most f k ≤ suc (longestEvent f)
+kind-cost f k h = leb-true _ _ (each-to (λ n. leb (most f n) (suc (longestEvent f))) (length kindWords) (kinds-cost f) k h)
+
+pub event-length : (f : Form) (e : Event) → Fit f e → length (eventLine f e) ≤ longestEvent f
 unfolding eventLine eventFields
-event-length e f =
-    let s = shaped e (f .0) in
+event-length f e i =
+    let s = shaped f e (i .law) in
     let o = stand-length (s .stands) in
-    let ps : List (Bool × List ℕ) = parts (shapeOf (e .kind)) e in
+    let ps : List (Bool × List ℕ) = parts (shapeOf f (e .kind)) e in
     let n : size (there ps) ≤ cost ps mosts =
     size-there ps mosts (
       (λ _. place-length (e .place) (s .place)),
       (
         o .0,
         (
-          (λ _. value-length (e .first) (f .1 .0)),
-          ((λ _. value-length (e .second) (f .1 .1)), ((λ _. o .1), tt)),
+          (λ _. value-length (e .first) (i .first)),
+          ((λ _. value-length (e .second) (i .second)), ((λ _. o .1), ((λ _. code-length (e .code) (code-of e (i .law))), tt))),
         ),
       ),
     ) in
-    omega (arith, n, glue-size 9 (wordAt kindWords (e .kind)) (there ps), kind-cost (e .kind) (s .listed))
+    omega (arith, n, glue-size 9 (wordAt kindWords (e .kind)) (there ps), kind-cost f (e .kind) (s .listed))
 
 pub init-length : (p v : ℕ) → p ≤ lastPlace → v ≤ lastValue → length (initLine p v) ≤ longestInit
 unfolding initLine
@@ -118,17 +131,25 @@ least (suc k) n h =
     let z : 0 < 10 ^ k = one-le-pow k 10 (omega arith) in
     omega (arith, length-more n (omega arith), least k (n / 10) (omega arith))
 
-digits : (length (decimal lastPlace) ≡ placeMost) × (length (decimal lastValue) ≡ valueMost)
-digits =
-    omega
-    (arith, place-length lastPlace (omega arith), least 2 lastPlace (omega arith), value-length lastValue (omega arith), least 9 lastValue (omega arith))
+abbrev full : ℕ → ℕ → Type 0
+full last most = length (decimal last) ≡ most
 
-abbrev longest : Event
-longest = uncoded 5 lastPlace rlx lastValue lastValue
+digits : full lastPlace placeMost × (full lastValue valueMost × full lastCode codeMost)
+digits = (
+  (omega (arith, place-length lastPlace (omega arith), least 2 lastPlace (omega arith))),
+  (
+    (omega (arith, value-length lastValue (omega arith), least 9 lastValue (omega arith))),
+    (omega (arith, code-length lastCode (omega arith), least 4 lastCode (omega arith))),
+  ),
+)
 
-pub event-longest : length (eventLine longest) ≡ longestEvent
+abbrev longest : Form → Event
+longest f = made 5 lastPlace rlx lastValue lastValue (cond (coded f) lastCode 0)
+
+pub event-longest : (f : Form) → length (eventLine f (longest f)) ≡ longestEvent f
 unfolding eventLine eventFields row
-event-longest = omega (arith, glue-size 9 (wordAt kindWords 5) (there (parts (shapeOf 5) longest)), digits)
+event-longest One = omega (arith, glue-size 9 (wordAt kindWords 5) (there (parts (shapeOf One 5) (longest One))), digits)
+event-longest Two = omega (arith, glue-size 9 (wordAt kindWords 5) (there (parts (shapeOf Two 5) (longest Two))), digits)
 
 pub init-longest : length (initLine lastPlace lastValue) ≡ longestInit
 unfolding initLine

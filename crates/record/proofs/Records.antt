@@ -9,16 +9,19 @@ use Rattle.text.specs.Cut.{cut}
 use Rattle.text.specs.Word.{sameBytes}
 use Rattle.record.specs.Layout.{numberIn}
 use Rattle.record.specs.Record.{numberIf, orderIf, eventRest, recordOf}
+use Rattle.record.specs.declared.form.Form.{Form}
+use Rattle.record.specs.declared.form.Form.the-variants.{One, Two}
 use Rattle.record.specs.declared.Record.the-variants.{Init, AnEvent, Refused}
 use Rattle.record.proofs.Layouts.{line-says, init-back}
 
 -- an empty line is no record
-pub blank : recordOf [] ≡ Refused
+pub blank : (f : Form) → recordOf f [] ≡ Refused
 unfolding recordOf eventRest numberIf orderIf numberIn cut sameBytes row lawful takes
-blank = refl
+blank One = refl
+blank Two = refl
 
-pub line-lawful : (l : List ℕ) (e : Event) → recordOf l ≡ AnEvent e → lawful e ≡ true
-line-lawful l e h = line-says l e h .1 .0
+pub line-lawful : (f : Form) (l : List ℕ) (e : Event) → recordOf f l ≡ AnEvent e → lawful e ≡ true
+line-lawful f l e h = line-says f l e h .1 .law
 
-pub init-place : (l : List ℕ) (p v : ℕ) → recordOf l ≡ Init p v → p ≤ lastPlace
-init-place l p v h = init-back l p v h .1 .0
+pub init-place : (f : Form) (l : List ℕ) (p v : ℕ) → recordOf f l ≡ Init p v → p ≤ lastPlace
+init-place f l p v h = init-back f l p v h .1 .0

@@ -18,6 +18,7 @@ use Rattle.event.specs.declared.kind.Place.{Place}
 use Rattle.event.specs.declared.kind.Place.the-variants.{Location, Mutex, Nowhere}
 use Rattle.event.proofs.Lawful.{order-of, place-of, values-of}
 use Rattle.record.specs.Layout.{kindWords, orderWords, wordAt, orderOf, hasPlace, hasOrder, shapeOf, fieldIf}
+use Rattle.record.specs.declared.form.Form.{Form}
 use Rattle.record.specs.declared.shape.Shape.{Shape}
 use Rattle.record.proofs.Tables.{word-of}
 
@@ -114,8 +115,8 @@ pub record Shaped (s : Shape) (e : Event) : Type 0 where
   pub no-first : s .first ≡ false → e .first ≡ 0
   pub no-second : s .second ≡ false → e .second ≡ 0
 
-pub shaped : (e : Event) → lawful e ≡ true → Shaped (shapeOf (e .kind)) e
-shaped e h =
+pub shaped : (f : Form) (e : Event) → lawful e ≡ true → Shaped (shapeOf f (e .kind)) e
+shaped f e h =
     let n : ℕ = row (e .kind) .values in
     let o = order-of e h in
     let p = place-fits (row (e .kind) .place) (e .place) (place-of e h) in

@@ -1,4 +1,4 @@
--- Document 01, "Trace text": the words of a line, and the line of an event, from the table of kinds. Assumes nothing.
+-- Document 01, "Trace text", and document 02, C-11: the words of a line, and the line of an event, from the table of kinds. Assumes nothing.
 use Prim.Native.Nat.{ℕ, suc}
 use mathlib.Core.Bool.{Bool, true, false, cond}
 use mathlib.Core.List.{List, [], _∷_}
@@ -10,6 +10,8 @@ use Rattle.event.specs.declared.kind.Orders.{Orders}
 use Rattle.event.specs.declared.kind.Orders.the-variants.{Bare, Marks, Reads, Writes, Updates, Fences, NoKind}
 use Rattle.event.specs.declared.kind.Place.{Place}
 use Rattle.event.specs.declared.kind.Place.the-variants.{Location, Mutex, Nowhere}
+use Rattle.record.specs.Form.{coded}
+use Rattle.record.specs.declared.form.Form.{Form}
 use Rattle.record.specs.declared.shape.Shape.{Shape}
 use Rattle.text.specs.Field.{join}
 use Rattle.text.specs.Number.{decimal}
@@ -45,10 +47,6 @@ orderWords =
 abbrev pub initWord : List ℕ
 initWord = bytes "init"
 
--- Line 1 of a trace, form 1.
-abbrev pub header : List ℕ
-header = bytes "trace\t1"
-
 -- The word of a number, counted from 1; none for another number.
 abbrev pub wordAt : List (List ℕ) → ℕ → List ℕ
 wordAt ws n = getD ([] ∷ ws) n []
@@ -81,17 +79,19 @@ hasOrder Updates = true
 hasOrder Fences = true
 hasOrder NoKind = false
 
--- Which fields the line of a kind has after its word.
-abbrev pub shapeOf : ℕ → Shape
-shapeOf k = record {
+-- Which fields the line of a kind has after its word, in a form.
+abbrev pub shapeOf : Form → ℕ → Shape
+shapeOf f k = record {
   place = hasPlace (row k .place);
   order = hasOrder (row k .orders);
   first = leb 1 (row k .values);
   second = leb 2 (row k .values);
   mark = isMarks (row k .orders);
+  code = coded f;
 }
 
--- The fields of an event's line after its word, each with whether it is there: its place, its order, its values, its mark.
+-- The fields of an event's line after its word, each with whether it is there: its place, its order, its values, its mark,
+-- its code line.
 abbrev pub parts : Shape → Event → List (Bool × List ℕ)
 parts s e =
     (s .place, decimal (e .place))
@@ -99,6 +99,7 @@ parts s e =
     ∷ (s .first, decimal (e .first))
     ∷ (s .second, decimal (e .second))
     ∷ (s .mark, wordAt orderWords (e .order))
+    ∷ (s .code, decimal (e .code))
     ∷ []
 
 -- A field that is there or not.
@@ -112,12 +113,12 @@ there [] = []
 there (p ∷ ps) = fieldIf (p .0) (p .1) (there ps)
 
 -- The fields of an event's line.
-unfoldable pub eventFields : Event → List (List ℕ)
-eventFields e = wordAt kindWords (e .kind) ∷ there (parts (shapeOf (e .kind)) e)
+unfoldable pub eventFields : Form → Event → List (List ℕ)
+eventFields f e = wordAt kindWords (e .kind) ∷ there (parts (shapeOf f (e .kind)) e)
 
 -- The line of an event.
-unfoldable pub eventLine : Event → List ℕ
-eventLine e = join (eventFields e)
+unfoldable pub eventLine : Form → Event → List ℕ
+eventLine f e = join (eventFields f e)
 
 -- The line of a location's starting value.
 unfoldable pub initLine : ℕ → ℕ → List ℕ

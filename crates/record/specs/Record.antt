@@ -1,16 +1,18 @@
--- Document 01, "Trace text": what a line is, read field by field. Assumes nothing.
+-- Document 01, "Trace text", and document 02, C-11: what a line is, read field by field. Assumes nothing.
 use Prim.Native.Nat.{ℕ, _≤_}
 use mathlib.Core.Bool.{Bool, true, false, cond}
 use mathlib.Core.List.{List}
 use mathlib.Core.Path.{_≡_}
 use lib.Dec.{eqb}
-use Rattle.event.specs.Kind.{lastPlace, lawful}
-use Rattle.event.specs.Kind.{uncoded}
+use Rattle.event.specs.Kind.{lastPlace, lastCode, made, lawful}
 use Rattle.event.specs.declared.Event.{Event}
 use Rattle.text.specs.Field.{fields, onField, onEnd}
 use Rattle.text.specs.Number.{numberOf, onNumber}
 use Rattle.text.specs.Word.{sameBytes}
+use Rattle.record.specs.Form.{loses}
 use Rattle.record.specs.Layout.{initWord, kindOf, orderOf, shapeOf}
+use Rattle.record.specs.declared.form.Form.{Form}
+use Rattle.record.specs.declared.form.Form.the-variants.{One, Two}
 use Rattle.record.specs.declared.Record.{Record}
 use Rattle.record.specs.declared.Record.the-variants.{Init, AnEvent, Refused}
 
@@ -18,13 +20,17 @@ use Rattle.record.specs.declared.Record.the-variants.{Init, AnEvent, Ref
 abbrev pub lastValue : ℕ
 lastValue = 4294967295
 
--- An event of the layout, with values in range.
-abbrev pub Fit : Event → Type 0
-Fit e = (lawful e ≡ true) × ((e .first ≤ lastValue) × (e .second ≤ lastValue))
+-- An event that has a line in a form: lawful, with values in range, and without a code line that would be lost.
+pub record Fit (f : Form) (e : Event) : Type 0 where
+  pub law : lawful e ≡ true
+  pub first : e .first ≤ lastValue
+  pub second : e .second ≤ lastValue
+  pub kept : loses f (e .code) ≡ false
 
 -- The longest event line and the longest `init` line, without their LF.
-abbrev pub longestEvent : ℕ
-longestEvent = 33
+abbrev pub longestEvent : Form → ℕ
+longestEvent One = 33
+longestEvent Two = 39
 
 abbrev pub longestInit : ℕ
 longestInit = 19
@@ -43,15 +49,16 @@ orderIf true o fs k = onField Refused fs (λ f rest. k (orderOf f) rest)
 abbrev pub lawfulLine : Event → Record
 lawfulLine e = cond (lawful e) (AnEvent e) Refused
 
--- An event's line, after its word: place, order, values, mark, and nothing more.
-unfoldable pub eventRest : ℕ → List (List ℕ) → Record
-eventRest kind fs =
-    numberIf (shapeOf kind .place) lastPlace fs (λ place fs₁.
-    orderIf (shapeOf kind .order) 0 fs₁ (λ order fs₂.
-    numberIf (shapeOf kind .first) lastValue fs₂ (λ first fs₃.
-    numberIf (shapeOf kind .second) lastValue fs₃ (λ second fs₄.
-    orderIf (shapeOf kind .mark) order fs₄ (λ mark fs₅.
-    onEnd Refused fs₅ (lawfulLine (uncoded kind place mark first second)))))))
+-- An event's line, after its word: place, order, values, mark, code line, and nothing more.
+unfoldable pub eventRest : Form → ℕ → List (List ℕ) → Record
+eventRest f kind fs =
+    numberIf (shapeOf f kind .place) lastPlace fs (λ place fs₁.
+    orderIf (shapeOf f kind .order) 0 fs₁ (λ order fs₂.
+    numberIf (shapeOf f kind .first) lastValue fs₂ (λ first fs₃.
+    numberIf (shapeOf f kind .second) lastValue fs₃ (λ second fs₄.
+    orderIf (shapeOf f kind .mark) order fs₄ (λ mark fs₅.
+    numberIf (shapeOf f kind .code) lastCode fs₅ (λ code fs₆.
+    onEnd Refused fs₆ (lawfulLine (made kind place mark first second code))))))))
 
 -- An `init` line, after its word: location, value, and nothing more; the value is never 0.
 unfoldable pub initRest : List (List ℕ) → Record
@@ -61,5 +68,5 @@ initRest fs =
     onEnd Refused fs₂ (cond (eqb value 0) Refused (Init place value))))
 
 -- What a line is: a starting value, an event, or not of the layout.
-unfoldable pub recordOf : List ℕ → Record
-recordOf line = onField Refused (fields line) (λ word fs. cond (sameBytes word initWord) (initRest fs) (eventRest (kindOf word) fs))
+unfoldable pub recordOf : Form → List ℕ → Record
+recordOf f line = onField Refused (fields line) (λ word fs. cond (sameBytes word initWord) (initRest fs) (eventRest f (kindOf word) fs))

@@ -1,4 +1,5 @@
 // What a line of a trace is: a starting value, an event, or not of the layout. Its fields come through the small reader.
+pub mod form;
 pub mod part;
 pub mod shape;
 pub mod word;
@@ -9,8 +10,10 @@ ghost use Rattle.record.specs.Part.{Within, initOf};
 ghost use Rattle.record.specs.Record.{eventRest, initRest, recordOf};
 use event::Event;
 use event::Word;
+use event::kind::LAST_CODE;
 use event::kind::LAST_PLACE;
 use event::kind::suits;
+use form::Form;
 use part::Part;
 use part::number_if;
 use part::number_of_field;
@@ -67,10 +70,10 @@ fn init_rest(line: &[u8], at: usize) -> Record
 }
 
 // An event's line from the field after its word on.
-fn event_rest(kind: Word, line: &[u8], at: usize) -> Record
-    ensures { λ r. ⌜ r ≡ eventRest kind (fieldsFrom (now (line .entry)) at) ⌝ }
+fn event_rest(form: Form, kind: Word, line: &[u8], at: usize) -> Record
+    ensures { λ r. ⌜ r ≡ eventRest form kind (fieldsFrom (now (line .entry)) at) ⌝ }
 {
-    let shape = shape_of(kind);
+    let shape = shape_of(form, kind);
     let Part::Given {
         value: place,
         next: after_place,
@@ -99,13 +102,21 @@ fn event_rest(kind: Word, line: &[u8], at: usize) -> Record
     else {
         return Record::Refused;
     };
-    let Part::Given { value: mark, next } = order_if(shape.mark, line, after_second, order) else {
+    let Part::Given {
+        value: mark,
+        next: after_mark,
+    } = order_if(shape.mark, line, after_second, order)
+    else {
+        return Record::Refused;
+    };
+    let Part::Given { value: code, next } = number_if(shape.code, line, after_mark, LAST_CODE)
+    else {
         return Record::Refused;
     };
     if !ends_at(line, next) {
         return Record::Refused;
     }
-    if !suits(kind, place, mark, first, second) {
+    if !suits(kind, place, mark, first, second, code) {
         return Record::Refused;
     }
     Record::AnEvent(Event {
@@ -114,13 +125,13 @@ fn event_rest(kind: Word, line: &[u8], at: usize) -> Record
         order: mark,
         first,
         second,
-        code: 0,
+        code,
     })
 }
 
 // What a line is.
-pub fn record_of(line: &[u8]) -> Record
-    ensures { λ r. ⌜ r ≡ recordOf (now (line .entry)) ⌝ }
+pub fn record_of(form: Form, line: &[u8]) -> Record
+    ensures { λ r. ⌜ r ≡ recordOf form (now (line .entry)) ⌝ }
 {
     let FieldStep::Field { from, to } = field_of(line, 0) else {
         return Record::Refused;
@@ -129,5 +140,5 @@ pub fn record_of(line: &[u8]) -> Record
     if same_bytes(word, b"init") {
         return init_rest(line, to + 1);
     }
-    event_rest(kind_of(word), line, to + 1)
+    event_rest(form, kind_of(word), line, to + 1)
 }

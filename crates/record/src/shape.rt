@@ -1,6 +1,8 @@
-// Which fields the line of a kind has after its word.
+// Which fields the line of a kind has after its word, in a form.
 ghost use mathlib.Core.Path.{_≡_};
 ghost use Rattle.record.specs.Layout.{shapeOf, hasPlace, hasOrder};
+use crate::form::Form;
+use crate::form::is_coded;
 use event::Word;
 use event::kind::Orders;
 use event::kind::Place;
@@ -14,6 +16,7 @@ pub struct Shape {
     pub first: bool,
     pub second: bool,
     pub mark: bool,
+    pub code: bool,
 }
 
 // Whether a line of such a place has it as a field.
@@ -43,8 +46,8 @@ fn has_order(orders: Orders) -> bool
 }
 
 // Those of a kind.
-pub fn shape_of(kind: Word) -> Shape
-    ensures { λ r. ⌜ r ≡ shapeOf kind ⌝ }
+pub fn shape_of(form: Form, kind: Word) -> Shape
+    ensures { λ r. ⌜ r ≡ shapeOf form kind ⌝ }
 {
     let row = row_of(kind);
     let orders = row.orders;
@@ -56,5 +59,6 @@ pub fn shape_of(kind: Word) -> Shape
         first: 1 <= values,
         second: 2 <= values,
         mark: is_marks(orders),
+        code: is_coded(form),
     }
 }

@@ -1,4 +1,5 @@
--- Which answers a trace's reading gives: 1 to 6 and 17, with its side; and the writer: 3, 5, 6, 17 and 18, with side 0. Assumes nothing.
+-- Which answers a trace's reading gives: 1 to 6 and 17, with its side; the writer: 3, 5, 6, 17, 18 and 19, with side 0; and a move: the reading's and
+-- 19 with side 1, and 17 with side 0. Assumes nothing.
 use Prim.Native.Nat.{ℕ, _+_, _≤_, _/_}
 use mathlib.Core.Bool.{Bool, true}
 use mathlib.Core.List.{List, [], _∷_}
@@ -16,16 +17,18 @@ use Rattle.event.specs.declared.Answer.{Answer}
 use Rattle.event.specs.declared.Event.{Event}
 use Rattle.event.specs.declared.memory.Memory.{Memory}
 use Rattle.event.proofs.Answers.{Among, Given, none, one, among-first, among-more, given-among, given-cond, given-first, given-in, in-cond, in-first, ranked}
-use Rattle.text.specs.Line.{split, body, textLimit}
-use Rattle.frame.specs.Reading.{headFault, linesFault, textFault}
+use Rattle.text.specs.Line.{split, body}
+use Rattle.frame.specs.Reading.{headed, headFault, linesFault, textFault}
 use Rattle.frame.proofs.Answers.{lines-given, head-among, head-in}
-use Rattle.record.specs.Layout.{header}
+use Rattle.record.specs.Form.{header, limitOf, loses}
 use Rattle.record.specs.Record.{recordOf}
+use Rattle.record.specs.declared.form.Form.{Form}
 use Rattle.record.specs.declared.Record.{Record}
 use Rattle.record.specs.declared.Record.the-variants.{Init, AnEvent, Refused}
 use Rattle.trace.specs.Fault.{clashes, faultAt, eventFault}
-use Rattle.trace.specs.Reading.{SoFar, eventLimit, lineFault, traceLayout, startOf, eventsOf, faultOf, surveyOf, readOf}
-use Rattle.trace.specs.Writing.{countOf, roomEvents, layoutFault, roomFault, bytesOf, inOut, writeOf}
+use Rattle.trace.specs.Reading.{SoFar, formOf, eventLimit, lineFault, traceLayout, startOf, eventsOf, faultOf, surveyOf, readOf}
+use Rattle.trace.specs.Moving.{movedText, moveHead, moveFault, moveOf}
+use Rattle.trace.specs.Writing.{countOf, roomEvents, layoutFault, lost, traceText, roomFault, inOut, writeFault, writeOf}
 use Rattle.trace.specs.declared.reading.TraceRead.{TraceRead}
 
 -- the numbers of a reading's refusals, and those of lines and of events
@@ -53,16 +56,16 @@ events-given side k m before (e ∷ es) h =
 
 module _ (side : ℕ) (t room : List ℕ) where
   abbrev head : Answer
-  head = headFault side textLimit header t
+  head = headFault side (limitOf (formOf t)) (header (formOf t)) t
 
   abbrev lines : Answer
-  lines = linesFault traceLayout side 2 (record { low = 0; events = 0 }) (body (split t))
+  lines = linesFault (traceLayout (formOf t)) side 2 (record { low = 0; events = 0 }) (body (split t))
 
   abbrev events : Answer
   events = eventFault side 1 (startOf t) [] (eventsOf t)
 
   lines-are : Given lineFaults side lines
-  lines-are = lines-given traceLayout lineFaults side refl (λ s l. line-fault s (recordOf l)) 2 _ (body (split t)) (omega arith)
+  lines-are = lines-given (traceLayout (formOf t)) lineFaults side refl (λ s l. line-fault s (recordOf (formOf t) l)) 2 _ (body (split t)) (omega arith)
 
   events-are : Given eventFaults side events
   events-are = events-given side 1 (startOf t) [] (eventsOf t) (omega arith)
@@ -78,18 +81,20 @@ module _ (side : ℕ) (t room : List ℕ) where
   read-among =
       by-fault (Among traceFaults) none
       (among-first _ (first head lines) events
-      (among-first _ head lines (among-more _ _ refl (head-among side textLimit header t)) (among-more _ _ refl (given-among _ side lines-are)))
+      (among-first _ head lines (among-more _ _ refl (head-among side (limitOf (formOf t)) (header (formOf t)) t)) (among-more _ _ refl (given-among _ side lines-are)))
       (among-more _ _ refl (given-among _ side events-are)))
       (λ n. one refl)
 
   -- every answer of a trace's reading is a row of the table, for a side that the table has there
+  refusal-in : has side (1 ∷ 2 ∷ 3 ∷ []) ≡ true → every (ranked side) lineFaults ≡ true → every (ranked side) eventFaults ≡ true
+      → InTable (first (first head lines) events)
+  refusal-in s l e =
+      in-first (first head lines) events (in-first head lines (head-in side (limitOf (formOf t)) (header (formOf t)) t s) (given-in _ side l lines-are))
+      (given-in _ side e events-are)
+
   known-in : has side (1 ∷ 2 ∷ 3 ∷ []) ≡ true → every (ranked side) lineFaults ≡ true → every (ranked side) eventFaults ≡ true
       → ((n : ℕ) → InTable (answer 17 side n)) → InTable (readOf side t room .answer)
-  known-in s l e f =
-      by-fault InTable refl
-      (in-first (first head lines) events (in-first head lines (head-in side textLimit header t s) (given-in _ side l lines-are))
-      (given-in _ side e events-are))
-      f
+  known-in s l e f = by-fault InTable refl (refusal-in s l e) f
 
 pub source-in : (t room : List ℕ) → InTable (readOf 1 t room .answer)
 source-in t room = known-in 1 t room refl refl refl (λ n. refl)
@@ -97,19 +102,44 @@ source-in t room = known-in 1 t room refl refl refl (λ n. refl)
 pub target-in : (t room : List ℕ) → InTable (readOf 2 t room .answer)
 target-in t room = known-in 2 t room refl refl refl (λ n. refl)
 
+fault-in : (t : List ℕ) → InTable (faultOf 1 t)
+unfolding faultOf textFault
+fault-in t = refusal-in 1 t [] refl refl refl
+
 -- every answer of the writer is
 layout-given : (k : ℕ) (es : List Event) → 1 ≤ k → Given (18 ∷ []) 0 (layoutFault k es)
 unfolding layoutFault
 layout-given k [] h = none
 layout-given k (e ∷ es) h = given-cond _ 0 (lawful e) (layout-given (k + 1) es (omega arith)) (one refl h)
 
-pub written-in : (m : Memory) (room out : List ℕ) → InTable (writeOf m room out)
-unfolding writeOf roomFault
-written-in m room out =
+lost-given : (f : Form) (side k : ℕ) (es : List Event) → 1 ≤ k → Given (19 ∷ []) side (lost f side k es)
+unfolding lost
+lost-given f side k [] h = none
+lost-given f side k (e ∷ es) h = given-cond _ side (loses f (e .code)) (one refl h) (lost-given f side (k + 1) es (omega arith))
+
+-- 17 is told alike of all texts that are handed back
+out-in : (n : ℕ) (out : List ℕ) → InTable (inOut n out)
+out-in n out = in-cond (leb n (length out)) (answer 0 0 n) (answer 17 0 n) refl refl
+
+pub written-in : (f : Form) (m : Memory) (room out : List ℕ) → InTable (writeOf f m room out)
+unfolding writeOf writeFault roomFault
+written-in f m room out =
     let l = layoutFault 1 (roomEvents room) in
     let e = eventFault 0 1 m [] (roomEvents room) in
-    in-first (roomFault m room) (inOut (bytesOf m room) out)
+    in-first (writeFault f m room) (inOut (length (traceText f m (roomEvents room))) out)
+    (in-first (roomFault m room) (lost f 0 1 (roomEvents room))
     (in-cond (ltb eventLimit (countOf room)) (answer 3 0 (eventLimit + 1)) (first l e) refl
     (in-first l e (given-in _ 0 refl (layout-given 1 (roomEvents room) (omega arith)))
     (given-in _ 0 refl (events-given 0 1 m [] (roomEvents room) (omega arith)))))
-    (in-cond (leb (bytesOf m room) (length out)) (answer 0 0 (bytesOf m room)) (answer 17 0 (bytesOf m room)) refl refl)
+    (given-in _ 0 refl (lost-given f 0 1 (roomEvents room) (omega arith))))
+    (out-in _ out)
+
+-- every answer of a move is
+pub moved-in : (to : Form) (t out : List ℕ) → InTable (moveOf to t out)
+unfolding moveOf moveFault moveHead
+moved-in to t out =
+    in-first (moveFault to t) (inOut (length (movedText to t)) out)
+    (in-first (moveHead to t) (first (faultOf 1 t) (lost to 1 1 (eventsOf t)))
+    (in-cond (ltb (limitOf (formOf t)) (length t)) (answer 1 1 0) _ refl (in-cond (headed (header to) (split t)) (answer 2 1 1) done refl refl))
+    (in-first (faultOf 1 t) (lost to 1 1 (eventsOf t)) (fault-in t) (given-in _ 1 refl (lost-given to 1 1 (eventsOf t) (omega arith)))))
+    (out-in _ out)

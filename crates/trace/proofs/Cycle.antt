@@ -19,9 +19,10 @@ use Rattle.event.specs.declared.memory.Memory.{Memory}
 use Rattle.event.proofs.Rooms.{flat-length, onward-flat}
 use Rattle.frame.proofs.Settled.{first-done}
 use Rattle.record.specs.Record.{Fit, lastValue}
+use Rattle.record.specs.declared.form.Form.{Form}
 use Rattle.trace.specs.Fault.{eventFault}
-use Rattle.trace.specs.Reading.{eventLimit, readAs, surveyOf, eventsOf, roomAfter}
-use Rattle.trace.specs.Writing.{countOf, roomEvents, layoutFault, traceText, roomFault, bytesOf, inOut, writeOf, outAfter}
+use Rattle.trace.specs.Reading.{formOf, eventLimit, readAs, surveyOf, eventsOf, roomAfter}
+use Rattle.trace.specs.Writing.{countOf, roomEvents, layoutFault, lost, traceText, roomFault, inOut, writeFault, writeOf, outAfter}
 use Rattle.trace.specs.Text.{places, Valued, Fits}
 use Rattle.trace.proofs.OneText.{text-whole, written-read}
 use Rattle.trace.proofs.Range.{onward-length, room-fits}
@@ -30,7 +31,7 @@ use Rattle.trace.proofs.Readings.{counts, read-done}
 use Rattle.trace.proofs.Judged.{fault-parts}
 
 -- that no event is at fault does not hang on the side, nor on where the counting starts
-fault-none : (side side′ k k′ : ℕ) (m : Memory) (before es : List Event) → eventFault side k m before es .number ≡ 0
+pub fault-none : (side side′ k k′ : ℕ) (m : Memory) (before es : List Event) → eventFault side k m before es .number ≡ 0
     → eventFault side′ k′ m before es ≡ done
 unfolding eventFault
 fault-none side side′ k k′ m before [] h = refl
@@ -39,10 +40,16 @@ fault-none side side′ k k′ m before (e ∷ es) h =
     rw (f .0 .0, f .0 .1) (fault-none side side′ (k + 1) (k′ + 1) (stepped m e .memory) (e ∷ before) es (f .1))
 
 -- 18 is not found where each event is lawful
-layout-done : (k : ℕ) (es : List Event) → Each Fit es → layoutFault k es ≡ done
+layout-done : (f : Form) (k : ℕ) (es : List Event) → Each (Fit f) es → layoutFault k es ≡ done
 unfolding layoutFault
-layout-done k [] h = refl
-layout-done k (e ∷ es) h = rw (h .0 .0) (layout-done (k + 1) es (h .1))
+layout-done f k [] h = refl
+layout-done f k (e ∷ es) h = rw (h .0 .law) (layout-done f (k + 1) es (h .1))
+
+-- nor 19 where each has a line in the form
+pub lost-done : (f : Form) (side k : ℕ) (es : List Event) → Each (Fit f) es → lost f side k es ≡ done
+unfolding lost
+lost-done f side k [] h = refl
+lost-done f side k (e ∷ es) h = rw (h .0 .kept) (lost-done f side (k + 1) es (h .1))
 
 -- each word of a room whose words are in range
 held-at : (l : List ℕ) (i : ℕ) → Valued l → getD l i 0 ≤ lastValue
@@ -52,23 +59,28 @@ held-at (a ∷ l) (suc i) h = held-at l i (h .1)
 
 -- Document 01, "Lent room": "The writer is handed a starting memory, whose cells hold lawful values, and a part of a room". What it then writes
 -- is read back, whatever the side, as that memory and the events of that part.
-module _ (m : Memory) (room out : List ℕ) (size : length (m .cells) ≡ places) (values : Valued (m .cells)) (held : Valued room)
-    (h : writeOf m room out .number ≡ 0) where
+module _ (f : Form) (m : Memory) (room out : List ℕ) (size : length (m .cells) ≡ places) (values : Valued (m .cells)) (held : Valued room)
+    (h : writeOf f m room out .number ≡ 0) where
+  no-refusals : (roomFault m room .number ≡ 0) × (lost f 0 1 (roomEvents room) .number ≡ 0)
+  unfolding writeOf writeFault
+  no-refusals =
+      let w = first-done (writeFault f m room) (inOut (length (traceText f m (roomEvents room))) out) h in
+      first-done (roomFault m room) (lost f 0 1 (roomEvents room)) (w .0)
+
   no-fault : (countOf room ≤ eventLimit) × ((layoutFault 1 (roomEvents room) .number ≡ 0) × (eventFault 0 1 m [] (roomEvents room) .number ≡ 0))
-  unfolding writeOf roomFault
+  unfolding roomFault
   no-fault =
-      let f = first-done (roomFault m room) (inOut (bytesOf m room) out) h in
-      let c = not-first (λ (x : Answer). x .number) (ltb eventLimit (countOf room)) (answer 3 0 (eventLimit + 1)) _ (λ z. omega arith) (f .0) in
+      let c = not-first (λ (x : Answer). x .number) (ltb eventLimit (countOf room)) (answer 3 0 (eventLimit + 1)) _ (λ z. omega arith) (no-refusals .0) in
       (ltb-false eventLimit (countOf room) (c .0), first-done (layoutFault 1 (roomEvents room)) (eventFault 0 1 m [] (roomEvents room)) (c .1))
 
-  written-fits : Fits m (roomEvents room)
-  written-fits = room-fits room (λ k. held-at room k held) m (countOf room) size values (no-fault .0) (no-fault .1 .0)
+  written-fits : Fits f m (roomEvents room)
+  written-fits = room-fits room (λ k. held-at room k held) f m (countOf room) size values (no-fault .0) (no-fault .1 .0) (no-refusals .1)
 
-  pub room-written : (side : ℕ) → (surveyOf side (traceText m (roomEvents room)) ≡ readAs (countOf room) m)
-      × (eventsOf (traceText m (roomEvents room)) ≡ roomEvents room)
+  pub room-written : (side : ℕ) → (surveyOf side (traceText f m (roomEvents room)) ≡ readAs (countOf room) m)
+      × (eventsOf (traceText f m (roomEvents room)) ≡ roomEvents room)
   room-written side =
       rw (onward-length room 0 (countOf room)) at
-      (read-written side m (roomEvents room) written-fits (fault-none 0 side 1 1 m [] (roomEvents room) (no-fault .1 .1)))
+      (read-written f side m (roomEvents room) written-fits (fault-none 0 side 1 1 m [] (roomEvents room) (no-fault .1 .1)))
 
 -- the events of the words of events are those events
 room-words : (es : List Event) → roomEvents (flat es) ≡ es
@@ -93,14 +105,19 @@ module _ (side : ℕ) (t room out : List ℕ) (h : surveyOf side t .answer .numb
   no-refusal =
       let w = text-whole side t h in
       let n : (length (flat (eventsOf t)) + 5) / 6 ≤ eventLimit = omega (arith, flat-length (eventsOf t), w .fits .few) in
-      rw (le-ltb eventLimit ((length (flat (eventsOf t)) + 5) / 6) n, room-words (eventsOf t), layout-done 1 (eventsOf t) (w .fits .events))
+      rw (le-ltb eventLimit ((length (flat (eventsOf t)) + 5) / 6) n, room-words (eventsOf t), layout-done (formOf t) 1 (eventsOf t) (w .fits .events))
       (fault-none side 0 1 1 start [] (eventsOf t) (w .sound))
 
-  written : writeOf start (flat (eventsOf t)) out ≡ answer 0 0 (length t)
-  unfolding writeOf
-  written = rw (no-refusal, room-words (eventsOf t), written-read side t h, le-leb (length t) (length out) long)
+  no-loss : writeFault (formOf t) start (flat (eventsOf t)) ≡ done
+  unfolding writeFault
+  no-loss = rw (no-refusal, room-words (eventsOf t)) (lost-done (formOf t) 0 1 (eventsOf t) (text-whole side t h .fits .events))
 
-  pub room-read : (writeOf (surveyOf side t .memory) (take (surveyOf side t .events * 6) (roomAfter side t room)) out ≡ answer 0 0 (length t))
-      × (outAfter (surveyOf side t .memory) (take (surveyOf side t .events * 6) (roomAfter side t room)) out ≡ t ++ drop (length t) out)
-  unfolding outAfter
-  room-read = rw part (written, rw (written, room-words (eventsOf t), written-read side t h))
+  pub room-read : (writeOf (formOf t) (surveyOf side t .memory) (take (surveyOf side t .events * 6) (roomAfter side t room)) out ≡ answer 0 0 (length t))
+      × (outAfter (formOf t) (surveyOf side t .memory) (take (surveyOf side t .events * 6) (roomAfter side t room)) out ≡ t ++ drop (length t) out)
+  unfolding writeOf outAfter
+  room-read =
+      let l = le-leb (length t) (length out) long in
+      rw part (
+        rw (no-loss, room-words (eventsOf t), written-read side t h, l),
+        rw (no-loss, room-words (eventsOf t), written-read side t h, l),
+      )

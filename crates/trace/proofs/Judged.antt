@@ -1,10 +1,11 @@
--- The events of a room one by one: the first of those that are left, what 18 says of it, and what 5 and 6 say of it. Assumes nothing.
+-- The events of a room one by one: the first of those that are left, what 18 and 19 say of it, and what 5 and 6 say of it. Assumes nothing.
 use Prim.Native.Nat.{ℕ, suc, _+_, _-_, _≤_, _<_}
 use mathlib.Core.Bool.{Bool, true, false}
 use mathlib.Core.Path.{_≡_, refl, sym}
-use mathlib.Core.List.{List, [], _∷_}
+use mathlib.Core.List.{List, [], _∷_, _++_}
 use native.Mathlib.Omega.{arith}
 use lib.Dec.{eqb}
+use lib.ListN.{length}
 use borrow.Author.Tests.{eqb-true}
 use Rattle.laws.proofs.Cases.{cases, either}
 use Rattle.event.specs.Answer.{answer, done, first}
@@ -15,8 +16,10 @@ use Rattle.event.specs.declared.Answer.{Answer}
 use Rattle.event.specs.declared.Event.{Event}
 use Rattle.event.specs.declared.memory.Memory.{Memory}
 use Rattle.frame.proofs.Settled.{first-done}
+use Rattle.record.specs.Form.{loses}
+use Rattle.record.specs.declared.form.Form.{Form}
 use Rattle.trace.specs.Fault.{clashes, faultAt, eventFault}
-use Rattle.trace.specs.Writing.{layoutFault}
+use Rattle.trace.specs.Writing.{layoutFault, lost}
 
 module _ (room : List ℕ) (i n : ℕ) where
   pub onward-next : i < n → onward room i (n - i) ≡ eventAt room i ∷ onward room (i + 1) (n - (i + 1))
@@ -46,6 +49,36 @@ module _ (k : ℕ) (e : Event) (es : List Event) where
   pub layout-first : layoutFault k (e ∷ es) .number ≡ 0 → (lawful e ≡ true) × (layoutFault (k + 1) es .number ≡ 0)
   layout-first h =
       cases (either (lawful e)) (λ y. (y, rw (layout-go y) at h)) (λ y. let z : _≡_ {A = ℕ} 18 0 = rw (layout-bad y) at h in absurd (omega arith))
+
+-- what 19 says of it, likewise
+module _ (f : Form) (side k : ℕ) (e : Event) (es : List Event) where
+  pub lost-go : loses f (e .code) ≡ false → lost f side k (e ∷ es) ≡ lost f side (k + 1) es
+  unfolding lost
+  lost-go h = rw h
+
+  pub lost-here : loses f (e .code) ≡ true → lost f side k (e ∷ es) ≡ answer 19 side k
+  unfolding lost
+  lost-here h = rw h
+
+  pub lost-first : lost f side k (e ∷ es) .number ≡ 0 → (loses f (e .code) ≡ false) × (lost f side (k + 1) es .number ≡ 0)
+  lost-first h =
+      cases (either (loses f (e .code))) (λ y. let z : _≡_ {A = ℕ} 19 0 = rw (lost-here y) at h in absurd (omega arith)) (λ y. (y, rw (lost-go y) at h))
+
+-- of two lists one after the other, the first of what it says of each
+lost-append : (f : Form) (side k : ℕ) (xs ys : List Event) → lost f side k (xs ++ ys) ≡ first (lost f side k xs) (lost f side (k + length xs) ys)
+unfolding lost
+lost-append f side k [] ys = let z : k + 0 ≡ k = omega arith in rw z
+lost-append f side k (e ∷ xs) ys =
+    let z : k + suc (length xs) ≡ k + 1 + length xs = omega arith in
+    cases (either (loses f (e .code))) (λ y. rw y) (λ y. rw (y, z) (lost-append f side (k + 1) xs ys))
+
+pub lost-parted : (f : Form) (side k : ℕ) (xs ys : List Event) {zs : List Event} {a : Answer} → zs ≡ xs ++ ys → a ≡ lost f side k xs
+    → lost f side k zs ≡ first a (lost f side (k + length xs) ys)
+lost-parted f side k xs ys p q = rw (p, q) (lost-append f side k xs ys)
+
+pub lost-end : (f : Form) (side k : ℕ) → lost f side k [] ≡ done
+unfolding lost
+lost-end f side k = refl
 
 pub layout-end : (k : ℕ) → layoutFault k [] ≡ done
 unfolding layoutFault
@@ -79,6 +112,10 @@ fault-parts side k m before e es h =
 pub fault-end : (side k : ℕ) (m : Memory) (before : List Event) → eventFault side k m before [] ≡ done
 unfolding eventFault
 fault-end side k m before = refl
+
+-- the first of two answers, where one does not refuse
+pub first-passes : (a b : Answer) → a .number ≡ 0 → first a b ≡ b
+first-passes a b z = rw z
 
 -- the first of three answers that refuses, and the first of two by the one alone
 pub first-assoc : (a b c : Answer) → first a (first b c) ≡ first (first a b) c

@@ -4,11 +4,13 @@ pub mod Ways
 pub mod Inits
 pub mod Readings
 pub mod Stores
+pub mod Walks
 pub mod Range
 pub mod ReadBack
 pub mod WriteBack
 pub mod OneText
 pub mod Cycle
+pub mod Moved
 pub mod Answers
 pub mod Unique
 pub mod Puts

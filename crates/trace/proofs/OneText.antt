@@ -2,6 +2,7 @@
 -- that trace, and parts glued together are the text again. Assumes nothing.
 use Prim.Native.Nat.{ℕ, _≤_}
 use mathlib.Core.Path.{_≡_, refl, sym, _∙_, ap}
+use mathlib.Core.Bool.{true}
 use mathlib.Core.List.{List, [], _∷_, _++_, map, append-assoc}
 use native.Mathlib.Omega.{arith}
 use lib.ListN.{length}
@@ -12,12 +13,14 @@ use Rattle.text.specs.Cut.{glue}
 use Rattle.text.specs.Line.{split, body}
 use Rattle.text.proofs.Parts.{glue-cut}
 use Rattle.text.proofs.Walk.{Some}
-use Rattle.record.specs.Layout.{header, eventLine}
+use Rattle.record.specs.Form.{header}
+use Rattle.record.specs.Layout.{eventLine}
+use Rattle.record.specs.declared.form.Form.{Form}
 use Rattle.trace.specs.Fault.{eventFault}
-use Rattle.frame.specs.Reading.{linesFault, textFault}
+use Rattle.frame.specs.Reading.{headed, linesFault, textFault}
 use Rattle.frame.proofs.Heads.{framed}
 use Rattle.frame.proofs.Settled.{first-done}
-use Rattle.trace.specs.Reading.{traceLayout, eventsIn, startFrom, startOf, faultOf, surveyOf, eventsOf}
+use Rattle.trace.specs.Reading.{formOf, traceLayout, eventsIn, startFrom, startOf, faultOf, surveyOf, eventsOf}
 use Rattle.trace.specs.Writing.{textOf, initLines, traceText}
 use Rattle.trace.specs.Text.{Fits, longestText}
 use Rattle.trace.specs.declared.reading.TraceRead.{TraceRead}
@@ -32,67 +35,72 @@ glue-text [] = refl
 glue-text (l ∷ []) = refl
 glue-text (l ∷ m ∷ ls) = rw (glue-text (m ∷ ls))
 
--- a text whose parts are the lines of a trace is the text of that trace
-text-glue : (m : Memory) (es : List Event) (t : List ℕ) → split t ≡ header ∷ (initLines 0 (m .cells) ++ tail es) → traceText m es ≡ t
-unfolding traceText
-text-glue m es t h = sym (glue-text (header ∷ initLines 0 (m .cells) ++ map eventLine es)) ∙ rw (append-assoc, ← h) (glue-cut 10 t)
+module _ (f : Form) where
+  -- a text whose parts are the lines of a trace is the text of that trace
+  text-glue : (m : Memory) (es : List Event) (t : List ℕ) → split t ≡ header f ∷ (initLines 0 (m .cells) ++ tail f es) → traceText f m es ≡ t
+  unfolding traceText
+  text-glue m es t h = sym (glue-text (header f ∷ initLines 0 (m .cells) ++ map (eventLine f) es)) ∙ rw (append-assoc, ← h) (glue-cut 10 t)
 
--- lines that are read without refusal: what they are read as is within bounds
-lines-fit : (side : ℕ) (ls : List (List ℕ)) → Some ls → linesFault traceLayout side 2 (traceLayout .start) ls .number ≡ 0
-    → Fits (startFrom empty ls) (eventsIn ls)
-lines-fit side ls s h =
-    let b = bounded side 2 ls s h (empty .cells) refl (zeros 256) in
-    record { size = b .size; values = b .values; few = omega (arith, b .few); events = b .events }
+  -- lines that are read without refusal: what they are read as is within bounds
+  lines-fit : (side : ℕ) (ls : List (List ℕ)) → Some ls → linesFault (traceLayout f) side 2 (traceLayout f .start) ls .number ≡ 0
+      → Fits f (startFrom f empty ls) (eventsIn f ls)
+  lines-fit side ls s h =
+      let b = bounded f side 2 ls s h (empty .cells) refl (zeros 256) in
+      record { size = b .size; values = b .values; few = omega (arith, b .few); events = b .events }
 
--- and they are the lines of the trace that they are read as
-lines-printed : (side : ℕ) (ls : List (List ℕ)) → Some ls → linesFault traceLayout side 2 (traceLayout .start) ls .number ≡ 0
-    → ls ≡ initLines 0 (startFrom empty ls .cells) ++ tail (eventsIn ls)
-lines-printed side ls s h = let p = printed side 2 ls s h in rw (p .start) (p .lines)
+  -- and they are the lines of the trace that they are read as
+  lines-printed : (side : ℕ) (ls : List (List ℕ)) → Some ls → linesFault (traceLayout f) side 2 (traceLayout f .start) ls .number ≡ 0
+      → ls ≡ initLines 0 (startFrom f empty ls .cells) ++ tail f (eventsIn f ls)
+  lines-printed side ls s h = let p = printed f side 2 ls s h in rw (p .start) (p .lines)
 
--- Document 01, "Trace text": "The longest lawful trace text is under 32,400 bytes." So it is for every text that has no line at
--- fault, whatever its length is held to and whatever its values are.
-pub layout-length : (side : ℕ) (t l : List ℕ) (ls : List (List ℕ)) → split t ≡ header ∷ l ∷ ls
-    → linesFault traceLayout side 2 (traceLayout .start) (l ∷ ls) .number ≡ 0 → length t ≤ longestText
-layout-length side t l ls p h =
-    let m : Memory = startFrom empty (l ∷ ls) in
-    rw (text-glue m (eventsIn (l ∷ ls)) t (p ∙ ap (λ (qs : List (List ℕ)). header ∷ qs) (lines-printed side (l ∷ ls) tt h))) at
-    (text-length m (eventsIn (l ∷ ls)) (lines-fit side (l ∷ ls) tt h))
+  -- Document 01, "Trace text": "The longest lawful trace text is under 32,400 bytes." So it is for every text that has no line at
+  -- fault, whatever its length is held to and whatever its values are.
+  pub layout-length : (side : ℕ) (t l : List ℕ) (ls : List (List ℕ)) → split t ≡ header f ∷ l ∷ ls
+      → linesFault (traceLayout f) side 2 (traceLayout f .start) (l ∷ ls) .number ≡ 0 → length t ≤ longestText f
+  layout-length side t l ls p h =
+      let m : Memory = startFrom f empty (l ∷ ls) in
+      rw (text-glue m (eventsIn f (l ∷ ls)) t (p ∙ ap (λ (qs : List (List ℕ)). header f ∷ qs) (lines-printed side (l ∷ ls) tt h))) at
+      (text-length f m (eventsIn f (l ∷ ls)) (lines-fit side (l ∷ ls) tt h))
 
 -- what is so of every text that is read without refusal; and that its lines are the prints of what it is read as
-pub record Sound (side : ℕ) (m : Memory) (es : List Event) : Type 0 where
-  pub fits : Fits m es
+pub record Sound (f : Form) (side : ℕ) (m : Memory) (es : List Event) : Type 0 where
+  pub fits : Fits f m es
   pub sound : eventFault side 1 m [] es .number ≡ 0
 
 module _ (side : ℕ) (t : List ℕ) (h : surveyOf side t .answer .number ≡ 0) where
-  no-fault : (textFault traceLayout side t .number ≡ 0) × (eventFault side 1 (startOf t) [] (eventsOf t) .number ≡ 0)
+  no-fault : (textFault (traceLayout (formOf t)) side t .number ≡ 0) × (eventFault side 1 (startOf t) [] (eventsOf t) .number ≡ 0)
   unfolding faultOf
-  no-fault = first-done (textFault traceLayout side t) (eventFault side 1 (startOf t) [] (eventsOf t)) (survey-done side t h .0)
+  no-fault = first-done (textFault (traceLayout (formOf t)) side t) (eventFault side 1 (startOf t) [] (eventsOf t)) (survey-done side t h .0)
 
-  memory-is : surveyOf side t .memory ≡ startOf t
+  pub memory-is : surveyOf side t .memory ≡ startOf t
   memory-is = ap (λ (r : TraceRead). r .memory) (survey-done side t h .1)
 
-  pub text-whole : Sound side (surveyOf side t .memory) (eventsOf t)
+  -- line 1 is that of its form
+  pub line-one : headed (header (formOf t)) (split t) ≡ true
+  line-one = framed (traceLayout (formOf t)) side t (no-fault .0) .first
+
+  pub text-whole : Sound (formOf t) side (surveyOf side t .memory) (eventsOf t)
   unfolding eventsOf
   text-whole =
-      let f = framed traceLayout side t (no-fault .0) in
-      rw memory-is (record { fits = lines-fit side (body (split t)) (f .some) (f .lines); sound = no-fault .1 })
+      let f = framed (traceLayout (formOf t)) side t (no-fault .0) in
+      rw memory-is (record { fits = lines-fit (formOf t) side (body (split t)) (f .some) (f .lines); sound = no-fault .1 })
 
-  pub text-printed : split t ≡ header ∷ (initLines 0 (surveyOf side t .memory .cells) ++ tail (eventsOf t))
+  pub text-printed : split t ≡ header (formOf t) ∷ (initLines 0 (surveyOf side t .memory .cells) ++ tail (formOf t) (eventsOf t))
   unfolding eventsOf
   text-printed =
-      let f = framed traceLayout side t (no-fault .0) in
-      rw memory-is (f .parts ∙ ap (λ (qs : List (List ℕ)). header ∷ qs) (lines-printed side (body (split t)) (f .some) (f .lines)))
+      let f = framed (traceLayout (formOf t)) side t (no-fault .0) in
+      rw memory-is (f .parts ∙ ap (λ (qs : List (List ℕ)). header (formOf t) ∷ qs) (lines-printed (formOf t) side (body (split t)) (f .some) (f .lines)))
 
 -- Document 01, "Trace text": "`init` lines ascend strictly by location, and their value is never 0 (a 0 there is answer 2): a location without
 -- a line starts at 0." So what is read writes back the same bytes.
-pub written-read : (side : ℕ) (t : List ℕ) → surveyOf side t .answer .number ≡ 0 → traceText (surveyOf side t .memory) (eventsOf t) ≡ t
-written-read side t h = text-glue (surveyOf side t .memory) (eventsOf t) t (text-printed side t h)
+pub written-read : (side : ℕ) (t : List ℕ) → surveyOf side t .answer .number ≡ 0 → traceText (formOf t) (surveyOf side t .memory) (eventsOf t) ≡ t
+written-read side t h = text-glue (formOf t) (surveyOf side t .memory) (eventsOf t) t (text-printed side t h)
 
--- And so one trace has one text.
+-- And so one trace has one text of a form.
 pub one-text : (side side′ : ℕ) (t u : List ℕ) → surveyOf side t .answer .number ≡ 0 → surveyOf side′ u .answer .number ≡ 0
-    → surveyOf side t .memory ≡ surveyOf side′ u .memory → eventsOf t ≡ eventsOf u → t ≡ u
-one-text side side′ t u h k p q = sym (written-read side t h) ∙ rw (p, q) (written-read side′ u k)
+    → formOf t ≡ formOf u → surveyOf side t .memory ≡ surveyOf side′ u .memory → eventsOf t ≡ eventsOf u → t ≡ u
+one-text side side′ t u h k f p q = sym (written-read side t h) ∙ rw (f, p, q) (written-read side′ u k)
 
 -- Document 01, "Trace text": "The longest lawful trace text is under 32,400 bytes." So it is for every text that is read without refusal.
-pub lawful-length : (side : ℕ) (t : List ℕ) → surveyOf side t .answer .number ≡ 0 → length t ≤ longestText
-lawful-length side t h = rw (written-read side t h) at (text-length (surveyOf side t .memory) (eventsOf t) (text-whole side t h .fits))
+pub lawful-length : (side : ℕ) (t : List ℕ) → surveyOf side t .answer .number ≡ 0 → length t ≤ longestText (formOf t)
+lawful-length side t h = rw (written-read side t h) at (text-length (formOf t) (surveyOf side t .memory) (eventsOf t) (text-whole side t h .fits))

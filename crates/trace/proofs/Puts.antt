@@ -65,25 +65,24 @@ module _ {room whole now : List ℕ} {at here : ℕ} where
   pub left-small : {v : List ℕ} {ps : List (List ℕ)} → Left room at whole now here (v ∷ ps) → Small here v
   left-small {v} {ps} l = omega (arith, length-append v (all ps), l .counts, l .small)
 
--- a whole that is put in n pieces: those from the i-th on are left
+-- a whole that is put in pieces: those from the i-th of n on are left
 pub record Going (whole : List ℕ) (rest : ℕ → List ℕ) (n : ℕ) (room : List ℕ) (at : ℕ) (now : List ℕ) (here i : ℕ) : Type 0 where
   pub few : i ≤ n
   pub left : Left room at whole now here (rest i ∷ [])
 
-pub going : (room : List ℕ) (at n : ℕ) {whole : List ℕ} {rest : ℕ → List ℕ} → Small at whole → whole ≡ rest 0 → Going whole rest n room at room at 0
-going room at n {whole} {rest} h e = record { few = omega arith; left = left-all room at h (e ∙ sym (append-nil (rest 0))) }
+pub going : (room : List ℕ) (at n i : ℕ) {whole : List ℕ} {rest : ℕ → List ℕ} → i ≤ n → Small at whole → whole ≡ rest i → Going whole rest n room at room at i
+going room at n i {whole} {rest} f h e = record { few = f; left = left-all room at h (e ∙ sym (append-nil (rest i))) }
 
 module _ {whole room now : List ℕ} {rest : ℕ → List ℕ} {n at here i : ℕ} (g : Going whole rest n room at now here i) where
-  -- the next piece, and the others
-  pub going-next : {v : List ℕ} → rest i ≡ v ++ rest (i + 1) → Left room at whole now here (v ∷ rest (i + 1) ∷ [])
-  going-next {v} e =
-      let d : all ((v ++ rest (i + 1)) ∷ []) ≡ all (v ∷ rest (i + 1) ∷ []) = append-assoc v (rest (i + 1)) [] in
+  -- the next piece, and those from j on
+  pub going-next : {v : List ℕ} {j : ℕ} → rest i ≡ v ++ rest j → Left room at whole now here (v ∷ rest j ∷ [])
+  going-next {v} {j} e =
+      let d : all ((v ++ rest j) ∷ []) ≡ all (v ∷ rest j ∷ []) = append-assoc v (rest j) [] in
       let m = rw e at (g .left) in
       record { small = m .small; counts = rw (← d) (m .counts); stores = rw (← d) (m .stores) }
 
-  pub going-on : {v now₁ : List ℕ} {here₁ : ℕ} → i < n → rest i ≡ v ++ rest (i + 1) → Put now here v now₁ here₁
-      → Going whole rest n room at now₁ here₁ (i + 1)
-  going-on h e p = record { few = omega arith; left = left-next (going-next e) p }
+  pub going-on : {v now₁ : List ℕ} {here₁ j : ℕ} → j ≤ n → rest i ≡ v ++ rest j → Put now here v now₁ here₁ → Going whole rest n room at now₁ here₁ j
+  going-on h e p = record { few = h; left = left-next (going-next e) p }
 
   -- no piece is left
   pub going-end : rest i ≡ [] → Put room at whole now here

@@ -1,8 +1,9 @@
 -- The text of a trace that has one is short, as no line of it is long. The events of a room that is not refused have a text, as its words are in
 -- range. Assumes nothing.
-use Prim.Native.Nat.{ℕ, zero, suc, _+_, _*_, _≤_}
+use Prim.Native.Nat.{ℕ, zero, suc, _+_, _*_, _≤_, _<_}
 use mathlib.Core.Path.{_≡_, refl, ap}
 use mathlib.Core.List.{List, [], _∷_, _++_, map}
+use native.Mathlib.Nat.{mul-le-mul-right}
 use native.Mathlib.Omega.{arith}
 use lib.Dec.{eqb}
 use lib.ListN.{length, getD, length-append}
@@ -11,20 +12,24 @@ use Rattle.laws.specs.Each.{Each}
 use Rattle.event.specs.Room.{inRoom, eventAt, onward}
 use Rattle.event.specs.declared.Event.{Event}
 use Rattle.event.specs.declared.memory.Memory.{Memory}
+use Rattle.record.specs.Form.{header, limitOf}
 use Rattle.record.specs.Layout.{eventLine, initLine}
 use Rattle.record.specs.Record.{Fit, lastValue, longestEvent, longestInit}
 use Rattle.record.proofs.Prints.{event-length, init-length}
+use Rattle.record.specs.declared.form.Form.{Form}
+use Rattle.record.specs.declared.form.Form.the-variants.{One, Two}
 use Rattle.trace.specs.Reading.{eventLimit}
-use Rattle.trace.specs.Writing.{layoutFault, textOf, initLines, traceText}
+use Rattle.trace.specs.Put.{Small}
+use Rattle.trace.specs.Writing.{layoutFault, lost, textOf, initLines, traceText}
 use Rattle.trace.specs.Text.{places, Valued, Fits, longestText}
-use Rattle.trace.proofs.Judged.{layout-first}
+use Rattle.trace.proofs.Judged.{layout-first, lost-first}
 
 -- each line has an LF after it
-events-length : (es : List Event) → Each Fit es → length (textOf (map eventLine es)) ≤ length es * suc longestEvent
+events-length : (f : Form) (es : List Event) → Each (Fit f) es → length (textOf (map (eventLine f) es)) ≤ length es * suc (longestEvent f)
 unfolding textOf
-events-length [] h = omega arith
-events-length (e ∷ es) h =
-    omega (arith, length-append (eventLine e) (10 ∷ textOf (map eventLine es)), event-length e (h .0), events-length es (h .1))
+events-length f [] h = omega arith
+events-length f (e ∷ es) h =
+    omega (arith, length-append (eventLine f e) (10 ∷ textOf (map (eventLine f) es)), event-length f e (h .0), events-length f es (h .1))
 
 inits-length : (l : ℕ) (vs : List ℕ) (ts : List (List ℕ)) → l + length vs ≤ places → Valued vs
     → length (textOf (initLines l vs ++ ts)) ≤ length vs * suc longestInit + length (textOf ts)
@@ -35,12 +40,23 @@ inits-length l (v ∷ vs) ts b h =
     cases (either (eqb v 0)) (λ e. rw e (omega arith))
     (λ e. rw e (omega (arith, length-append (initLine l v) (10 ∷ textOf (initLines (l + 1) vs ++ ts)), init-length l v (omega arith) (h .0))))
 
-pub text-length : (m : Memory) (es : List Event) → Fits m es → length (traceText m es) ≤ longestText
+pub text-length : (f : Form) (m : Memory) (es : List Event) → Fits f m es → length (traceText f m es) ≤ longestText f
 unfolding traceText textOf
-text-length m es f =
-    let a = inits-length 0 (m .cells) (map eventLine es) (omega arith) (f .values) in
-    let b = events-length es (f .events) in
-    omega arith
+text-length f m es i =
+    let a = inits-length 0 (m .cells) (map (eventLine f) es) (omega arith) (i .values) in
+    let b = events-length f es (i .events) in
+    let c = mul-le-mul-right (suc (longestEvent f)) (i .few) in
+    omega (arith, length-append (header f) (10 ∷ textOf (initLines 0 (m .cells) ++ map (eventLine f) es)))
+
+-- Document 01, "Trace text": "The longest lawful trace text is under 32,400 bytes"; and document 02, C-11: under 37,200 in form 2.
+pub longest-short : (f : Form) → longestText f < limitOf f
+longest-short One = omega arith
+longest-short Two = omega arith
+
+-- so its bytes are few enough to be counted
+pub small-text : (f : Form) (t : List ℕ) → length t ≤ longestText f → Small 0 t
+small-text One t h = omega arith
+small-text Two t h = omega arith
 
 -- the events of a room
 pub onward-length : (room : List ℕ) (i n : ℕ) → length (onward room i n) ≡ n
@@ -53,17 +69,21 @@ module _ (room : List ℕ) (held : (k : ℕ) → getD room k 0 ≤ lastValue) wh
   unfolding eventAt
   values-in i = cases (either (inRoom room i)) (λ y. rw y (held (i * 6 + 3), held (i * 6 + 4))) (λ y. rw y (omega arith, omega arith))
 
-  events-fit : (k i n : ℕ) → layoutFault k (onward room i n) .number ≡ 0 → Each Fit (onward room i n)
+  events-fit : (f : Form) (k l i n : ℕ) → layoutFault k (onward room i n) .number ≡ 0 → lost f 0 l (onward room i n) .number ≡ 0
+      → Each (Fit f) (onward room i n)
   unfolding onward
-  events-fit k i zero h = tt
-  events-fit k i (suc n) h =
-      let f = layout-first k (eventAt room i) (onward room (i + 1) n) h in ((f .0, values-in i), events-fit (k + 1) (i + 1) n (f .1))
+  events-fit f k l i zero h g = tt
+  events-fit f k l i (suc n) h g =
+      let a = layout-first k (eventAt room i) (onward room (i + 1) n) h in
+      let b = lost-first f 0 l (eventAt room i) (onward room (i + 1) n) g in
+      let v = values-in i in
+      (record { law = a .0; first = v .0; second = v .1; kept = b .0 }, events-fit f (k + 1) (l + 1) (i + 1) n (a .1) (b .1))
 
-  pub room-fits : (m : Memory) (n : ℕ) → length (m .cells) ≡ places → Valued (m .cells) → n ≤ eventLimit → layoutFault 1 (onward room 0 n) .number ≡ 0
-      → Fits m (onward room 0 n)
-  room-fits m n size values few lawful = record {
+  pub room-fits : (f : Form) (m : Memory) (n : ℕ) → length (m .cells) ≡ places → Valued (m .cells) → n ≤ eventLimit
+      → layoutFault 1 (onward room 0 n) .number ≡ 0 → lost f 0 1 (onward room 0 n) .number ≡ 0 → Fits f m (onward room 0 n)
+  room-fits f m n size values few lawful kept = record {
     size = size;
     values = values;
     few = omega (arith, onward-length room 0 n);
-    events = events-fit 1 0 n lawful;
+    events = events-fit f 1 1 0 n lawful kept;
   }

@@ -15,6 +15,7 @@ use Rattle.frame.proofs.Stores.{Puts, all-front}
 use Rattle.record.specs.Record.{recordOf}
 use Rattle.record.specs.declared.Record.{Record}
 use Rattle.record.specs.declared.Record.the-variants.{Init, AnEvent, Refused}
+use Rattle.record.specs.declared.form.Form.{Form}
 use Rattle.trace.specs.Reading.{eventsOn, front}
 
 pub keeps : (l : List ℕ) (i : ℕ) (e : Event) → length (putAt l i e) ≡ length l
@@ -39,13 +40,13 @@ pub events-front : (es : List Event) (room : List ℕ) → length es * 6 ≤ len
 events-front es room h = all-front putAt events-put room es h
 
 -- what a line says, which is one event at most
-abbrev pub says : List ℕ → List Event
-says l = eventsOn (recordOf l)
+abbrev pub says : Form → List ℕ → List Event
+says f l = eventsOn (recordOf f l)
 
-one-at-most : (r : Record) → length (eventsOn r) ≤ 1
+pub one-at-most : (r : Record) → length (eventsOn r) ≤ 1
 one-at-most Refused = omega arith
 one-at-most (Init p v) = omega arith
 one-at-most (AnEvent e) = omega arith
 
-pub brief : (l : List ℕ) → length (says l) ≤ 1
-brief l = one-at-most (recordOf l)
+pub brief : (f : Form) (l : List ℕ) → length (says f l) ≤ 1
+brief f l = one-at-most (recordOf f l)

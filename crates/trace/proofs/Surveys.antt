@@ -20,6 +20,7 @@ use Rattle.frame.proofs.Lines.{lines-open, lines-end, lines-stop, lines-go}
 use Rattle.record.specs.Record.{recordOf}
 use Rattle.record.specs.declared.Record.the-variants.{Init, AnEvent, Refused}
 use Rattle.record.proofs.Records.{blank, init-place}
+use Rattle.record.specs.declared.form.Form.{Form}
 use Rattle.trace.specs.Fault.{clashes, faultAt, eventFault}
 use Rattle.trace.specs.Reading.{traceLayout, eventsIn, refused, readAs, eventLimit}
 use Rattle.trace.specs.Survey.{closed, surveyEvents}
@@ -27,33 +28,33 @@ use Rattle.trace.specs.declared.reading.TraceRead.{TraceRead}
 use Rattle.trace.proofs.Judged.{fault-next, fault-end, first-assoc, first-same, others-fault}
 
 -- the lines from line k on, after n events, which left the memory m, are `before`, nearest first, and had the fault `found`, if any
-unfoldable pub surveyOn : ℕ → ℕ → ℕ → Memory → List Event → Answer → Memory → List (List ℕ) → TraceRead
-surveyOn side k n m before found start ls =
+unfoldable pub surveyOn : Form → ℕ → ℕ → ℕ → Memory → List Event → Answer → Memory → List (List ℕ) → TraceRead
+surveyOn f side k n m before found start ls =
     settle refused
-    (first (linesFault traceLayout side k (closed n) ls) (first found (eventFault side (n + 1) m before (eventsIn ls))))
-    (readAs (n + length (eventsIn ls)) start)
+    (first (linesFault (traceLayout f) side k (closed n) ls) (first found (eventFault side (n + 1) m before (eventsIn f ls))))
+    (readAs (n + length (eventsIn f ls)) start)
 
-pub on-start : (side k : ℕ) (m : Memory) (ls : List (List ℕ)) → surveyEvents side k m ls ≡ surveyOn side k 0 m [] done m ls
+pub on-start : (f : Form) (side k : ℕ) (m : Memory) (ls : List (List ℕ)) → surveyEvents f side k m ls ≡ surveyOn f side k 0 m [] done m ls
 unfolding surveyEvents surveyOn
-on-start side k m ls = let z : 0 + length (eventsIn ls) ≡ length (eventsIn ls) = omega arith in rw z
+on-start f side k m ls = let z : 0 + length (eventsIn f ls) ≡ length (eventsIn f ls) = omega arith in rw z
 
-module _ (side k n : ℕ) (m : Memory) (before : List Event) (found : Answer) (start : Memory) (l : List ℕ) where
+module _ (f : Form) (side k n : ℕ) (m : Memory) (before : List Event) (found : Answer) (start : Memory) (l : List ℕ) where
   abbrev here : List (List ℕ) → TraceRead
-  here ls = surveyOn side k n m before found start ls
+  here ls = surveyOn f side k n m before found start ls
 
-  on-refused : (ls : List (List ℕ)) (x : ℕ) → eqb x 0 ≡ false → linesFault traceLayout side k (closed n) ls ≡ answer x side k
+  on-refused : (ls : List (List ℕ)) (x : ℕ) → eqb x 0 ≡ false → linesFault (traceLayout f) side k (closed n) ls ≡ answer x side k
       → here ls ≡ refused (answer x side k)
   unfolding surveyOn
   on-refused ls x z h = rw (h, z, z)
 
   -- what stands after the last LF: something, or nothing
   pub on-open : isEmpty l ≡ false → here (l ∷ []) ≡ refused (answer 2 side k)
-  on-open h = on-refused (l ∷ []) 2 refl (lines-open traceLayout side k (closed n) l h)
+  on-open h = on-refused (l ∷ []) 2 refl (lines-open (traceLayout f) side k (closed n) l h)
 
   module _ (h : isEmpty l ≡ true) (e : l ≡ []) where
     at-end : here (l ∷ []) ≡ settle refused (first found done) (readAs (n + 0) start)
     unfolding surveyOn saidIn
-    at-end = rw (lines-end traceLayout side k (closed n) l h, e, blank, fault-end side (n + 1) m before)
+    at-end = rw (lines-end (traceLayout f) side k (closed n) l h, e, blank f, fault-end side (n + 1) m before)
 
     pub on-found : eqb (found .number) 0 ≡ false → here (l ∷ []) ≡ refused found
     on-found z = at-end ∙ rw (z, z)
@@ -62,28 +63,28 @@ module _ (side k n : ℕ) (m : Memory) (before : List Event) (found : Answer) (s
     on-end z = let o : n + 0 ≡ n = omega arith in at-end ∙ rw (z, o)
 
   module _ (ps : List (List ℕ)) (s : Some ps) where
-    pub on-bad : recordOf l ≡ Refused → here (l ∷ ps) ≡ refused (answer 2 side k)
-    on-bad h = on-refused (l ∷ ps) 2 refl (lines-stop traceLayout side k (closed n) l ps 2 s (rw h) refl)
+    pub on-bad : recordOf f l ≡ Refused → here (l ∷ ps) ≡ refused (answer 2 side k)
+    on-bad h = on-refused (l ∷ ps) 2 refl (lines-stop (traceLayout f) side k (closed n) l ps 2 s (rw h) refl)
 
-    pub on-init : (p v : ℕ) → recordOf l ≡ Init p v → here (l ∷ ps) ≡ refused (answer 4 side k)
+    pub on-init : (p v : ℕ) → recordOf f l ≡ Init p v → here (l ∷ ps) ≡ refused (answer 4 side k)
     on-init p v h =
-        let b : p < 256 = omega (arith, init-place l p v h) in
-        on-refused (l ∷ ps) 4 refl (lines-stop traceLayout side k (closed n) l ps 4 s (rw (h, lt-ltb p 256 b)) refl)
+        let b : p < 256 = omega (arith, init-place f l p v h) in
+        on-refused (l ∷ ps) 4 refl (lines-stop (traceLayout f) side k (closed n) l ps 4 s (rw (h, lt-ltb p 256 b)) refl)
 
-    module _ (e : Event) (h : recordOf l ≡ AnEvent e) where
+    module _ (e : Event) (h : recordOf f l ≡ AnEvent e) where
       pub on-full : eventLimit ≤ n → here (l ∷ ps) ≡ refused (answer 3 side k)
-      on-full f = on-refused (l ∷ ps) 3 refl (lines-stop traceLayout side k (closed n) l ps 3 s (rw (h, le-leb eventLimit n f)) refl)
+      on-full q = on-refused (l ∷ ps) 3 refl (lines-stop (traceLayout f) side k (closed n) l ps 3 s (rw (h, le-leb eventLimit n q)) refl)
 
       -- an event, whether it clashes and whether its value is the latest being asked only where nothing was found before
       pub on-go : n < eventLimit → (clash : Bool) → (found .number ≡ 0 → clash ≡ clashes before e)
           → here (l ∷ ps)
-          ≡ surveyOn side (k + 1) (n + 1) (stepped m e .memory) (e ∷ before) (first found (faultAt side (n + 1) clash (stepped m e .right))) start ps
+          ≡ surveyOn f side (k + 1) (n + 1) (stepped m e .memory) (e ∷ before) (first found (faultAt side (n + 1) clash (stepped m e .right))) start ps
       unfolding surveyOn saidIn
-      on-go f clash q =
-          let c : n + suc (length (eventsIn ps)) ≡ n + 1 + length (eventsIn ps) = omega arith in
+      on-go b clash q =
+          let c : n + suc (length (eventsIn f ps)) ≡ n + 1 + length (eventsIn f ps) = omega arith in
           let a : Answer = faultAt side (n + 1) clash (stepped m e .right) in
-          let b : Answer = faultAt side (n + 1) (clashes before e) (stepped m e .right) in
-          let w : first found a ≡ first found b = first-same found a b (λ z. rw (q z)) in
-          let o : Answer = others-fault side (n + 1) m before e (eventsIn ps) in
-          let g = lines-go traceLayout side k (closed n) l ps s (rw (h, lt-leb eventLimit n f)) in
-          rw (g, h, c, fault-next side (n + 1) m before e (eventsIn ps), first-assoc found b o, w)
+          let d : Answer = faultAt side (n + 1) (clashes before e) (stepped m e .right) in
+          let w : first found a ≡ first found d = first-same found a d (λ z. rw (q z)) in
+          let o : Answer = others-fault side (n + 1) m before e (eventsIn f ps) in
+          let g = lines-go (traceLayout f) side k (closed n) l ps s (rw (h, lt-leb eventLimit n b)) in
+          rw (g, h, c, fault-next side (n + 1) m before e (eventsIn f ps), first-assoc found d o, w)

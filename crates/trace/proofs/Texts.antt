@@ -14,9 +14,11 @@ use Rattle.event.specs.declared.memory.Memory.{Memory}
 use Rattle.text.specs.Cut.{glue}
 use Rattle.text.specs.Field.{join}
 use Rattle.text.specs.Number.{decimal}
-use Rattle.record.specs.Layout.{kindWords, wordAt, header, initWord, shapeOf, parts, there, eventFields, eventLine, initLine}
+use Rattle.record.specs.Form.{header}
+use Rattle.record.specs.Layout.{kindWords, wordAt, initWord, shapeOf, parts, there, eventFields, eventLine, initLine}
 use Rattle.record.specs.declared.shape.Shape.{Shape}
-use Rattle.trace.specs.Put.{tabIf, initPart}
+use Rattle.record.specs.declared.form.Form.{Form}
+use Rattle.trace.specs.Put.{tabIf, initPart, startText}
 use Rattle.trace.specs.Writing.{textOf, initLines, traceText}
 use Rattle.trace.proofs.Puts.{all}
 use Rattle.trace.proofs.Judged.{onward-next, onward-end}
@@ -40,9 +42,9 @@ line-parts w ((false, f) ∷ ps) = line-parts w ps
 abbrev pub eventParts : Shape → Event → List (List ℕ)
 eventParts s e = lineParts (wordAt kindWords (e .kind)) (parts s e)
 
-pub event-parts : (e : Event) {s : Shape} → s ≡ shapeOf (e .kind) → eventLine e ++ 10 ∷ [] ≡ all (eventParts s e)
+pub event-parts : (f : Form) (e : Event) {s : Shape} → s ≡ shapeOf f (e .kind) → eventLine f e ++ 10 ∷ [] ≡ all (eventParts s e)
 unfolding eventLine eventFields
-event-parts e h = rw h (line-parts (wordAt kindWords (e .kind)) (parts (shapeOf (e .kind)) e))
+event-parts f e h = rw h (line-parts (wordAt kindWords (e .kind)) (parts (shapeOf f (e .kind)) e))
 
 -- that of a starting value
 abbrev pub initParts : ℕ → ℕ → List (List ℕ)
@@ -61,15 +63,22 @@ unfolding textOf
 text-append [] ms = refl
 text-append (l ∷ ls) ms = rw (text-append ls ms) (sym (append-assoc l (10 ∷ textOf ls) (textOf ms)))
 
--- the header, the `init` lines, the events' lines
-abbrev pub traceParts : Memory → List Event → List (List ℕ)
-traceParts m es = (header ++ 10 ∷ []) ∷ textOf (initLines 0 (m .cells)) ∷ textOf (map eventLine es) ∷ []
+-- what stands before the events: the header, the `init` lines
+abbrev pub startParts : Form → Memory → List (List ℕ)
+startParts f m = (header f ++ 10 ∷ []) ∷ textOf (initLines 0 (m .cells)) ∷ []
 
-pub trace-parts : (m : Memory) (es : List Event) → traceText m es ≡ all (traceParts m es)
-unfolding traceText
-trace-parts m es =
-    text-cons header (initLines 0 (m .cells) ++ map eventLine es)
-    ∙ rw (text-append (initLines 0 (m .cells)) (map eventLine es), append-nil (textOf (map eventLine es)))
+pub start-parts : (f : Form) (m : Memory) → startText f m ≡ all (startParts f m)
+unfolding startText
+start-parts f m = text-cons (header f) (initLines 0 (m .cells)) ∙ rw (append-nil (textOf (initLines 0 (m .cells))))
+
+-- that, and the events' lines
+abbrev pub traceParts : Form → Memory → List Event → List (List ℕ)
+traceParts f m es = startText f m ∷ textOf (map (eventLine f) es) ∷ []
+
+pub trace-parts : (f : Form) (m : Memory) (es : List Event) → traceText f m es ≡ all (traceParts f m es)
+unfolding traceText startText
+trace-parts f m es =
+    text-append (header f ∷ initLines 0 (m .cells)) (map (eventLine f) es) ∙ rw (append-nil (textOf (map (eventLine f) es)))
 
 -- the `init` lines from a location on
 pub init-cons : (l v : ℕ) (vs : List ℕ) → textOf (initLines l (v ∷ vs)) ≡ initPart l v ++ textOf (initLines (l + 1) vs)
@@ -87,11 +96,11 @@ module _ (cells : List ℕ) (i : ℕ) where
   inits-end h = rw (drop-of-length-le cells h)
 
 -- the lines of the events from an index on
-module _ (room : List ℕ) (i n : ℕ) where
-  pub events-next : i < n → textOf (map eventLine (onward room i (n - i)))
-      ≡ (eventLine (eventAt room i) ++ 10 ∷ []) ++ textOf (map eventLine (onward room (i + 1) (n - (i + 1))))
-  events-next h = rw (onward-next room i n h) (text-cons (eventLine (eventAt room i)) (map eventLine (onward room (i + 1) (n - (i + 1)))))
+module _ (f : Form) (room : List ℕ) (i n : ℕ) where
+  pub events-next : i < n → textOf (map (eventLine f) (onward room i (n - i)))
+      ≡ (eventLine f (eventAt room i) ++ 10 ∷ []) ++ textOf (map (eventLine f) (onward room (i + 1) (n - (i + 1))))
+  events-next h = rw (onward-next room i n h) (text-cons (eventLine f (eventAt room i)) (map (eventLine f) (onward room (i + 1) (n - (i + 1)))))
 
-  pub events-end : n ≤ i → textOf (map eventLine (onward room i (n - i))) ≡ []
+  pub events-end : n ≤ i → textOf (map (eventLine f) (onward room i (n - i))) ≡ []
   unfolding textOf
   events-end h = rw (onward-end room i n h)

@@ -5,6 +5,8 @@ use Rattle.trace.proofs.read.Reads as read
 use Rattle.trace.proofs.write.Reads as write
 use Rattle.trace.proofs.reading.survey_in.Reads as survey-in
 use Rattle.trace.proofs.reading.store.Reads as store
+use Rattle.trace.proofs.form.form_of.Reads as form-of
+use Rattle.trace.proofs.moving.move_to.Reads as move-to
 
 read-one : OneAnswer read.Post
 read-one κ a x y s t h k = h .0 ∙ sym (k .0)
@@ -15,7 +17,7 @@ read-room κ a x y s t h k = h .1 ∙ sym (k .1)
 write-one : OneAnswer write.Post
 write-one κ a x y s t h k = h .0 ∙ sym (k .0)
 
-write-room : OneOf write.Post (λ κ r s. s .1 .1 .0 .now)
+write-room : OneOf write.Post (λ κ r s. s .1 .1 .1 .0 .now)
 write-room κ a x y s t h k = h .1 ∙ sym (k .1)
 
 survey-in-one : OneAnswer survey-in.Post
@@ -23,3 +25,12 @@ survey-in-one κ a x y s t h k = h ∙ sym k
 
 store-room : OneOf store.Post (λ κ r s. s .1 .0 .now)
 store-room κ a x y s t h k = h ∙ sym k
+
+form-of-one : OneAnswer form-of.Post
+form-of-one κ a x y s t h k = h ∙ sym k
+
+move-to-one : OneAnswer move-to.Post
+move-to-one κ a x y s t h k = h .0 ∙ sym (k .0)
+
+move-to-room : OneOf move-to.Post (λ κ r s. s .1 .1 .0 .now)
+move-to-room κ a x y s t h k = h .1 ∙ sym (k .1)

@@ -1,4 +1,4 @@
--- The writer's answers in their order, by the first refusal and by the bytes needed. Assumes nothing.
+-- The writer's answers in their order, by the first refusal and by the bytes needed; a move's 17 is told as the writer's. Assumes nothing.
 use Prim.Native.Nat.{ℕ, _+_, _≤_, _<_}
 use mathlib.Core.Bool.{false}
 use mathlib.Core.Path.{_≡_, refl, sym, _∙_, ap}
@@ -16,7 +16,7 @@ use Rattle.event.specs.declared.memory.Memory.{Memory}
 use Rattle.trace.specs.Reading.{eventLimit}
 use Rattle.trace.specs.Fault.{eventFault}
 use Rattle.trace.specs.Put.{Put}
-use Rattle.trace.specs.Writing.{countOf, layoutFault, roomFault, traceText, writeOf, outAfter}
+use Rattle.trace.specs.Writing.{countOf, layoutFault, roomFault, answered, outWith}
 
 module _ (m : Memory) (room : List ℕ) {n : ℕ} (c : n ≡ countOf room) where
   pub room-full : eventLimit < n → roomFault m room ≡ answer 3 0 (eventLimit + 1)
@@ -42,23 +42,19 @@ module _ (m : Memory) (room : List ℕ) {n : ℕ} (c : n ≡ countOf room) where
             (λ e. absurd (eqb-false _ _ e (rw (room-layout h (eqb-false _ _ e)) at z))),
       ))
 
--- what `write` hands back, and the lent bytes afterwards
-module _ (m : Memory) (room out : List ℕ) where
-  pub refused : {r : Answer} → r ≡ roomFault m room → (r .number ≡ 0 → ⊥) → (r ≡ writeOf m room out) × (out ≡ outAfter m room out)
-  unfolding writeOf outAfter
+-- what comes back for a text, by the first refusal of what was handed, and the lent bytes afterwards
+module _ (fault : Answer) (t out : List ℕ) where
+  pub refused : {r : Answer} → r ≡ fault → (r .number ≡ 0 → ⊥) → (r ≡ answered fault t out) × (out ≡ outWith fault t out)
   refused q x =
-      let e : eqb (roomFault m room .number) 0 ≡ false = ne-eqb _ _ (λ z. x (ap (λ (a : Answer). a .number) q ∙ z)) in
+      let e : eqb (fault .number) 0 ≡ false = ne-eqb _ _ (λ z. x (ap (λ (a : Answer). a .number) q ∙ z)) in
       rw (e, e) (q, refl)
 
-  module _ {n size : ℕ} {r : Answer} (c : n ≡ countOf room) (z : roomFault m room .number ≡ 0) (s : size ≡ length (traceText m (onward room 0 n))) where
-    pub short : length out < size → r ≡ answer 17 0 size → (r ≡ writeOf m room out) × (out ≡ outAfter m room out)
-    unfolding writeOf outAfter
-    short h q = rw (z, ← c, ← s, lt-leb size (length out) h) (q, refl)
+  module _ {size : ℕ} {r : Answer} (z : fault .number ≡ 0) (s : size ≡ length t) where
+    pub short : length out < size → r ≡ answer 17 0 size → (r ≡ answered fault t out) × (out ≡ outWith fault t out)
+    short h q = rw (z, ← s, lt-leb size (length out) h) (q, refl)
 
-    pub written : {out₁ : List ℕ} {next : ℕ} → size ≤ length out → r ≡ answer 0 0 size → Put out 0 (traceText m (onward room 0 n)) out₁ next
-        → (r ≡ writeOf m room out) × (out₁ ≡ outAfter m room out)
-    unfolding writeOf outAfter
+    pub written : {out₁ : List ℕ} {next : ℕ} → size ≤ length out → r ≡ answer 0 0 size → Put out 0 t out₁ next
+        → (r ≡ answered fault t out) × (out₁ ≡ outWith fault t out)
     written h q p =
-        let o : 0 + length (traceText m (onward room 0 n)) ≡ length (traceText m (onward room 0 n)) = omega arith in
-        rw (z, ← c, ← s, le-leb size (length out) h)
-        (q, p .stored ∙ sets-eq (traceText m (onward room 0 n)) out 0 (omega arith) ∙ rw (s, o))
+        let o : 0 + length t ≡ length t = omega arith in
+        rw (z, ← s, le-leb size (length out) h) (q, p .stored ∙ sets-eq t out 0 (omega arith) ∙ rw (s, o))

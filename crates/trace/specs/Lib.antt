@@ -1,7 +1,9 @@
--- What a reader has to believe, by page: answers 5 and 6, the reading of a whole text, the writing of a whole text, which traces have a text.
+-- What a reader has to believe, by page: answers 5 and 6, the reading of a whole text, the writing of a whole text, its move to the other form, which
+-- traces have a text.
 pub mod Fault
 pub mod Reading
 pub mod Writing
+pub mod Moving
 pub mod Text
 -- Inner: how a location is used, as a number; the steps of a reading; bytes that are put. Assumes nothing.
 pub mod Way

@@ -6,7 +6,11 @@ use mathlib.Core.List.{List, [], _∷_, _++_}
 use lib.Dec.{eqb}
 use lib.ListN.{length}
 use lib.Seq.{sets}
+use Rattle.event.specs.declared.memory.Memory.{Memory}
+use Rattle.record.specs.Form.{header}
 use Rattle.record.specs.Layout.{initLine}
+use Rattle.record.specs.declared.form.Form.{Form}
+use Rattle.trace.specs.Writing.{textOf, initLines}
 
 -- Of a room, a place and bytes: the room after them, and the place after them.
 pub record Put (room : List ℕ) (at : ℕ) (bytes : List ℕ) (after : List ℕ) (next : ℕ) : Type 0 where
@@ -25,3 +29,7 @@ tabIf false f = []
 -- The `init` line of a location with its LF; none for the value 0.
 abbrev pub initPart : ℕ → ℕ → List ℕ
 initPart place value = cond (eqb value 0) [] (initLine place value ++ 10 ∷ [])
+
+-- Line 1 and the `init` lines, each with its LF.
+unfoldable pub startText : Form → Memory → List ℕ
+startText f m = textOf (header f ∷ initLines 0 (m .cells))

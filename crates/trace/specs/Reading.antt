@@ -1,4 +1,5 @@
--- Document 01, "Numbers that come back" and "Lent room": the reading of a trace text. Assumes nothing.
+-- Document 01, "Numbers that come back" and "Lent room", and document 02, C-11: the reading of a trace text. Its form comes from the text.
+-- Assumes nothing.
 use Prim.Native.Nat.{ℕ, _+_, _*_, _/_}
 use mathlib.Core.Bool.{cond}
 use mathlib.Core.List.{List, [], _∷_, _++_}
@@ -10,14 +11,20 @@ use Rattle.event.specs.Room.{flat}
 use Rattle.event.specs.declared.Answer.{Answer}
 use Rattle.event.specs.declared.Event.{Event}
 use Rattle.event.specs.declared.memory.Memory.{Memory}
-use Rattle.text.specs.Line.{split, body, saidIn, textLimit}
-use Rattle.frame.specs.Reading.{Layout, textFault, settle, fitted}
-use Rattle.record.specs.Layout.{header}
+use Rattle.text.specs.Line.{split, body, saidIn}
+use Rattle.frame.specs.Reading.{Layout, headed, textFault, settle, fitted}
+use Rattle.record.specs.Form.{header, limitOf}
 use Rattle.record.specs.Record.{recordOf}
 use Rattle.trace.specs.Fault.{eventFault}
+use Rattle.record.specs.declared.form.Form.{Form}
+use Rattle.record.specs.declared.form.Form.the-variants.{One, Two}
 use Rattle.record.specs.declared.Record.{Record}
 use Rattle.record.specs.declared.Record.the-variants.{Init, AnEvent, Refused}
 use Rattle.trace.specs.declared.reading.TraceRead.{TraceRead}
+
+-- The form of a text: form 2 exactly where line 1, with its LF, is that of form 2.
+unfoldable pub formOf : List ℕ → Form
+formOf t = cond (headed (header Two) (split t)) Two One
 
 -- The most events.
 abbrev pub eventLimit : ℕ
@@ -41,14 +48,14 @@ afterLine s Refused = s
 afterLine s (Init p v) = record { low = p + 1; events = s .events }
 afterLine s (AnEvent e) = record { low = 256; events = s .events + 1 }
 
--- The layout of a trace.
-abbrev pub traceLayout : Layout SoFar
-traceLayout = record {
-  limit = textLimit;
-  header = header;
+-- The layout of a trace, by its form.
+abbrev pub traceLayout : Form → Layout SoFar
+traceLayout f = record {
+  limit = limitOf f;
+  header = header f;
   start = record { low = 0; events = 0 };
-  fault = λ s l. lineFault s (recordOf l);
-  next = λ s l. afterLine s (recordOf l);
+  fault = λ s l. lineFault s (recordOf f l);
+  next = λ s l. afterLine s (recordOf f l);
 }
 
 -- The events of a text: those of the lines after line 1.
@@ -57,11 +64,11 @@ eventsOn Refused = []
 eventsOn (Init p v) = []
 eventsOn (AnEvent e) = e ∷ []
 
-abbrev pub eventsIn : List (List ℕ) → List Event
-eventsIn ls = saidIn (λ l. eventsOn (recordOf l)) ls
+abbrev pub eventsIn : Form → List (List ℕ) → List Event
+eventsIn f ls = saidIn (λ l. eventsOn (recordOf f l)) ls
 
 unfoldable pub eventsOf : List ℕ → List Event
-eventsOf t = eventsIn (body (split t))
+eventsOf t = eventsIn (formOf t) (body (split t))
 
 -- The memory after the lines' starting values.
 abbrev pub onInit : Record → List ℕ → List ℕ
@@ -69,20 +76,20 @@ onInit Refused cells = cells
 onInit (Init p v) cells = set cells p v
 onInit (AnEvent e) cells = cells
 
-unfoldable pub startIn : List ℕ → List (List ℕ) → List ℕ
-startIn cells [] = cells
-startIn cells (l ∷ ls) = startIn (onInit (recordOf l) cells) ls
+unfoldable pub startIn : Form → List ℕ → List (List ℕ) → List ℕ
+startIn f cells [] = cells
+startIn f cells (l ∷ ls) = startIn f (onInit (recordOf f l) cells) ls
 
-abbrev pub startFrom : Memory → List (List ℕ) → Memory
-startFrom m ls = record { cells = startIn (m .cells) ls }
+abbrev pub startFrom : Form → Memory → List (List ℕ) → Memory
+startFrom f m ls = record { cells = startIn f (m .cells) ls }
 
 -- A text's starting memory.
 abbrev pub startOf : List ℕ → Memory
-startOf t = startFrom empty (body (split t))
+startOf t = startFrom (formOf t) empty (body (split t))
 
 -- The first refusal of a text: 1, then line by line 2, 4, 3, then event by event 5, 6.
 unfoldable pub faultOf : ℕ → List ℕ → Answer
-faultOf side t = first (textFault traceLayout side t) (eventFault side 1 (startOf t) [] (eventsOf t))
+faultOf side t = first (textFault (traceLayout (formOf t)) side t) (eventFault side 1 (startOf t) [] (eventsOf t))
 
 -- What a refusal hands back, no event and an empty memory; and what a reading of n events does.
 abbrev pub refused : Answer → TraceRead

@@ -1,5 +1,5 @@
--- Document 01, "Trace text": which traces have a text (but for 5 and 6, which are asked of their events), and "The longest lawful trace text".
--- Assumes nothing.
+-- Document 01, "Trace text", and document 02, C-11: which traces have a text (but for 5 and 6, which are asked of their events), and "The longest
+-- lawful trace text". Assumes nothing.
 use Prim.Native.Nat.{ℕ, suc, _+_, _*_, _≤_}
 use mathlib.Core.List.{List}
 use mathlib.Core.Path.{_≡_}
@@ -8,8 +8,9 @@ use Rattle.laws.specs.Each.{Each}
 use Rattle.event.specs.Kind.{lastPlace}
 use Rattle.event.specs.declared.Event.{Event}
 use Rattle.event.specs.declared.memory.Memory.{Memory}
-use Rattle.record.specs.Layout.{header}
+use Rattle.record.specs.Form.{header}
 use Rattle.record.specs.Record.{Fit, lastValue, longestEvent, longestInit}
+use Rattle.record.specs.declared.form.Form.{Form}
 use Rattle.trace.specs.Reading.{eventLimit}
 
 -- How many locations there are, each with its cell.
@@ -20,13 +21,14 @@ places = suc lastPlace
 abbrev pub Valued : List ℕ → Type 0
 Valued vs = Each (λ v. v ≤ lastValue) vs
 
--- A starting memory and events that have a text.
-pub record Fits (m : Memory) (es : List Event) : Type 0 where
+-- A starting memory and events that have a text in a form.
+pub record Fits (f : Form) (m : Memory) (es : List Event) : Type 0 where
   pub size : length (m .cells) ≡ places
   pub values : Valued (m .cells)
   pub few : length es ≤ eventLimit
-  pub events : Each Fit es
+  pub events : Each (Fit f) es
 
--- The longest text, 32,328 bytes: line 1, a starting value of 19 bytes for each location, and the most events, of 33 bytes, each with its LF.
-abbrev pub longestText : ℕ
-longestText = suc (length header) + places * suc longestInit + eventLimit * suc longestEvent
+-- The longest text: line 1, a starting value of 19 bytes for each location, and the most events, each with its LF. With events of 33 bytes it has
+-- 32,328 in form 1, with events of 39 bytes 37,128 in form 2.
+abbrev pub longestText : Form → ℕ
+longestText f = suc (length (header f)) + places * suc longestInit + eventLimit * suc (longestEvent f)

@@ -1,4 +1,4 @@
--- Document 01, "Lent room" and "The writer": a starting memory and a room written as a text. Assumes nothing.
+-- Document 01, "Lent room" and "The writer", and document 02, C-11: a starting memory and a room written as a text of a form. Assumes nothing.
 use Prim.Native.Nat.{ℕ, _+_, _/_}
 use mathlib.Core.Bool.{cond}
 use mathlib.Core.List.{List, [], _∷_, _++_, map}
@@ -10,7 +10,9 @@ use Rattle.event.specs.Room.{onward}
 use Rattle.event.specs.declared.Answer.{Answer}
 use Rattle.event.specs.declared.Event.{Event}
 use Rattle.event.specs.declared.memory.Memory.{Memory}
-use Rattle.record.specs.Layout.{header, initLine, eventLine}
+use Rattle.record.specs.Form.{header, loses}
+use Rattle.record.specs.Layout.{initLine, eventLine}
+use Rattle.record.specs.declared.form.Form.{Form}
 use Rattle.trace.specs.Fault.{eventFault}
 use Rattle.trace.specs.Reading.{eventLimit}
 
@@ -27,6 +29,11 @@ unfoldable pub layoutFault : ℕ → List Event → Answer
 layoutFault k [] = done
 layoutFault k (e ∷ es) = cond (lawful e) (layoutFault (k + 1) es) (answer 18 0 k)
 
+-- 19: the first event whose code line a form would lose, likewise.
+unfoldable pub lost : Form → ℕ → ℕ → List Event → Answer
+lost f side k [] = done
+lost f side k (e ∷ es) = cond (loses f (e .code)) (answer 19 side k) (lost f side (k + 1) es)
+
 -- Each line with its LF.
 unfoldable pub textOf : List (List ℕ) → List ℕ
 textOf [] = []
@@ -38,8 +45,8 @@ initLines l [] = []
 initLines l (v ∷ vs) = cond (eqb v 0) (initLines (l + 1) vs) (initLine l v ∷ initLines (l + 1) vs)
 
 -- The text of a trace.
-unfoldable pub traceText : Memory → List Event → List ℕ
-traceText m es = textOf (header ∷ initLines 0 (m .cells) ++ map eventLine es)
+unfoldable pub traceText : Form → Memory → List Event → List ℕ
+traceText f m es = textOf (header f ∷ initLines 0 (m .cells) ++ map (eventLine f) es)
 
 -- Answers 3, 18, 5 and 6 of the writer.
 unfoldable pub roomFault : Memory → List ℕ → Answer
@@ -47,18 +54,24 @@ roomFault m room =
     cond (ltb eventLimit (countOf room)) (answer 3 0 (eventLimit + 1))
     (first (layoutFault 1 (roomEvents room)) (eventFault 0 1 m [] (roomEvents room)))
 
--- The bytes needed.
-abbrev pub bytesOf : Memory → List ℕ → ℕ
-bytesOf m room = length (traceText m (roomEvents room))
-
 -- 17: the room for the bytes is too short; else 0 with the bytes written.
 abbrev pub inOut : ℕ → List ℕ → Answer
 inOut n out = cond (leb n (length out)) (answer 0 0 n) (answer 17 0 n)
 
-unfoldable pub writeOf : Memory → List ℕ → List ℕ → Answer
-writeOf m room out = first (roomFault m room) (inOut (bytesOf m room) out)
+-- The answer that a text comes with, by the first refusal of what was handed; and what the lent bytes hold afterwards: the text at the front. A refusal
+-- changes nothing.
+abbrev pub answered : Answer → List ℕ → List ℕ → Answer
+answered fault t out = first fault (inOut (length t) out)
 
--- What the lent bytes hold afterwards: the text at the front; a refusal changes nothing.
-unfoldable pub outAfter : Memory → List ℕ → List ℕ → List ℕ
-outAfter m room out =
-    cond (eqb (writeOf m room out .number) 0) (traceText m (roomEvents room) ++ drop (bytesOf m room) out) out
+abbrev pub outWith : Answer → List ℕ → List ℕ → List ℕ
+outWith fault t out = cond (eqb (answered fault t out .number) 0) (t ++ drop (length t) out) out
+
+-- The writer's refusals but 17: 3, 18, 5, 6 and 19.
+unfoldable pub writeFault : Form → Memory → List ℕ → Answer
+writeFault f m room = first (roomFault m room) (lost f 0 1 (roomEvents room))
+
+unfoldable pub writeOf : Form → Memory → List ℕ → List ℕ → Answer
+writeOf f m room out = answered (writeFault f m room) (traceText f m (roomEvents room)) out
+
+unfoldable pub outAfter : Form → Memory → List ℕ → List ℕ → List ℕ
+outAfter f m room out = outWith (writeFault f m room) (traceText f m (roomEvents room)) out

@@ -1,5 +1,7 @@
-// Trace texts: read into a room (`read`), written from one (`write`).
+// Trace texts: read into a room (`read`), written from one (`write`), moved from one form to the other (`moving::move_to`).
 pub mod fault;
+pub mod form;
+pub mod moving;
 pub mod reading;
 pub mod writing;
 
@@ -12,10 +14,11 @@ use event::memory::Memory;
 use reading::TraceRead;
 use reading::store;
 use reading::survey_in;
+use record::form::Form;
 use writing::count_of;
 use writing::put_text;
-use writing::room_fault;
 use writing::size_of;
+use writing::write_fault;
 
 // A trace text read alone, side 1: its events at the front of the room, or a refusal, which changes nothing.
 pub fn read(text: &[u8], room: &mut [Word]) -> TraceRead
@@ -30,19 +33,20 @@ pub fn read(text: &[u8], room: &mut [Word]) -> TraceRead
     surveyed
 }
 
-// A starting memory and the events of a part of a room, written as a text at the front of the lent bytes; a refusal, with side 0, changes nothing.
-pub fn write(memory: Memory, room: &[Word], out: &mut [u8]) -> Answer
-    ensures { λ r. ⌜ (r ≡ writeOf memory (now (room .entry)) (now (out .entry))) × (now (out .exit) ≡ outAfter memory (now (room .entry)) (now (out .entry))) ⌝ }
+// A starting memory and the events of a part of a room, written as a text of a form at the front of the lent bytes; a refusal, with side 0, changes
+// nothing.
+pub fn write(form: Form, memory: Memory, room: &[Word], out: &mut [u8]) -> Answer
+    ensures { λ r. ⌜ (r ≡ writeOf form memory (now (room .entry)) (now (out .entry))) × (now (out .exit) ≡ outAfter form memory (now (room .entry)) (now (out .entry))) ⌝ }
 {
-    let fault = room_fault(memory, room);
+    let fault = write_fault(form, memory, room);
     if fault.number != 0 {
         return fault;
     }
     let n = count_of(room);
-    let size = size_of(memory, room, n);
+    let size = size_of(form, memory, room, n);
     if out.len() < size {
         return Answer::new(17, 0, size);
     }
-    put_text(out, memory, room, n);
+    put_text(form, out, memory, room, n);
     Answer::new(0, 0, size)
 }

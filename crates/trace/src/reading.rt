@@ -12,6 +12,8 @@ use crate::fault::UNTOUCHED;
 use crate::fault::Way;
 use crate::fault::fault_at;
 use crate::fault::use_place;
+use crate::form::form_of;
+use crate::form::head_fault_of;
 use event::Answer;
 use event::Number;
 use event::WORDS;
@@ -20,11 +22,10 @@ use event::index_of;
 use event::memory::Memory;
 use event::memory::Stepped;
 use event::room::put;
-use frame::head_fault;
 use record::Record;
+use record::form::Form;
 use record::record_of;
 use text::line::LineStep;
-use text::line::TEXT_LIMIT;
 use text::line::line_end;
 use text::line::line_two;
 use text::line::next_line;
@@ -39,7 +40,7 @@ pub struct TraceRead {
     pub memory: Memory,
 }
 
-fn refusal(answer: Answer) -> TraceRead
+pub(crate) fn refusal(answer: Answer) -> TraceRead
     ensures { λ r. ⌜ r ≡ refused answer ⌝ }
 {
     let memory = Memory::empty();
@@ -51,11 +52,18 @@ fn refusal(answer: Answer) -> TraceRead
 }
 
 // The lines from line `line` on, which are to be events: each is tried for 2, 4, 3, and its event for 5, 6, which come after all lines.
-fn survey_events(text: &[u8], from: usize, line: usize, side: Number, start: Memory) -> TraceRead
+fn survey_events(
+    form: Form,
+    text: &[u8],
+    from: usize,
+    line: usize,
+    side: Number,
+    start: Memory,
+) -> TraceRead
     requires { ⌜ from ≤ length (now text) ⌝ }
     requires { ⌜ line ≤ from ⌝ }
     requires { ⌜ 0 < from ⌝ }
-    ensures { λ r. ⌜ r ≡ surveyEvents side line start (splitFrom (now (text .entry)) from) ⌝ }
+    ensures { λ r. ⌜ r ≡ surveyEvents form side line start (splitFrom (now (text .entry)) from) ⌝ }
 {
     let mut last = Stepped {
         memory: start,
@@ -70,7 +78,7 @@ fn survey_events(text: &[u8], from: usize, line: usize, side: Number, start: Mem
         let LineStep::Line { to } = next_line(text, at) else {
             break;
         };
-        let e = match record_of(&text[at..to]) {
+        let e = match record_of(form, &text[at..to]) {
             Record::Refused => {
                 return refusal(Answer::new(2, side, k));
             }
@@ -103,10 +111,10 @@ fn survey_events(text: &[u8], from: usize, line: usize, side: Number, start: Mem
 }
 
 // The lines after line 1: the starting values, then the events.
-fn survey_lines(text: &[u8], from: usize, side: Number) -> TraceRead
+fn survey_lines(form: Form, text: &[u8], from: usize, side: Number) -> TraceRead
     requires { ⌜ from ≤ length (now text) ⌝ }
     requires { ⌜ 2 ≤ from ⌝ }
-    ensures { λ r. ⌜ r ≡ surveyInits side 2 0 emptyMemory (splitFrom (now (text .entry)) from) ⌝ }
+    ensures { λ r. ⌜ r ≡ surveyInits form side 2 0 emptyMemory (splitFrom (now (text .entry)) from) ⌝ }
 {
     let mut start = Memory::empty();
     let mut at = from;
@@ -114,14 +122,14 @@ fn survey_lines(text: &[u8], from: usize, side: Number) -> TraceRead
     let mut low: Word = 0;
     loop {
         let LineStep::Line { to } = next_line(text, at) else {
-            return survey_events(text, at, k, side, start);
+            return survey_events(form, text, at, k, side, start);
         };
-        match record_of(&text[at..to]) {
+        match record_of(form, &text[at..to]) {
             Record::Refused => {
-                return survey_events(text, at, k, side, start);
+                return survey_events(form, text, at, k, side, start);
             }
             Record::AnEvent(_) => {
-                return survey_events(text, at, k, side, start);
+                return survey_events(form, text, at, k, side, start);
             }
             Record::Init { place, value } => {
                 if place < low {
@@ -138,14 +146,15 @@ fn survey_lines(text: &[u8], from: usize, side: Number) -> TraceRead
 }
 
 // Answers 1 to 6 of a text, with its number of events and its starting memory.
-fn survey(text: &[u8], side: Number) -> TraceRead
+pub(crate) fn survey(text: &[u8], side: Number) -> TraceRead
     ensures { λ r. ⌜ r ≡ surveyOf side (now (text .entry)) ⌝ }
 {
-    let found = head_fault(text, side, TEXT_LIMIT, b"trace\t1");
+    let form = form_of(text);
+    let found = head_fault_of(form, text, side);
     if found.number != 0 {
         return refusal(found);
     }
-    survey_lines(text, line_two(text), side)
+    survey_lines(form, text, line_two(text), side)
 }
 
 // Answers 1 to 6 and 17, for a room of so many words.
@@ -179,11 +188,12 @@ fn put_record(room: &mut [Word], i: usize, line: Record) -> usize
 pub fn store(text: &[u8], room: &mut [Word])
     ensures { λ _. ⌜ now (room .exit) ≡ putAll putAt (now (room .entry)) 0 (eventsOf (now (text .entry))) ⌝ }
 {
+    let form = form_of(text);
     let mut at = line_two(text);
     let mut i: usize = 0;
     while at < text.len() {
         let end = line_end(text, at);
-        i = put_record(room, i, record_of(&text[at..end]));
+        i = put_record(room, i, record_of(form, &text[at..end]));
         at = end + 1;
     }
 }

@@ -8,10 +8,11 @@ ghost use Rattle.event.specs.Kind.{lastPlace};
 ghost use Rattle.event.specs.Room.{onward};
 ghost use Rattle.text.specs.Number.{decimal};
 ghost use Rattle.record.specs.Layout.{orderWords, wordAt, eventLine};
+ghost use Rattle.record.specs.Form.{header};
 ghost use Rattle.record.specs.Table.{wordIn};
 ghost use Rattle.trace.specs.Fault.{eventFault};
-ghost use Rattle.trace.specs.Put.{Put, Small, tabIf, initPart};
-ghost use Rattle.trace.specs.Writing.{countOf, layoutFault, textOf, initLines, traceText, roomFault};
+ghost use Rattle.trace.specs.Put.{Put, Small, tabIf, initPart, startText};
+ghost use Rattle.trace.specs.Writing.{countOf, layoutFault, lost, textOf, initLines, traceText, roomFault, writeFault};
 use crate::fault::UNTOUCHED;
 use crate::fault::Way;
 use crate::fault::fault_at;
@@ -26,6 +27,8 @@ use event::kind::is_lawful;
 use event::memory::Memory;
 use event::memory::Stepped;
 use event::room::get;
+use record::form::Form;
+use record::form::does_lose;
 use record::shape::shape_of;
 use record::word::KIND_WORDS;
 use record::word::ORDER_WORDS;
@@ -60,6 +63,21 @@ fn layout_fault(room: &[Word], n: usize) -> Answer
     Answer::new(0, 0, 0)
 }
 
+// 19: the first event whose code line a form would lose.
+fn loss_of(form: Form, room: &[Word], n: usize) -> Answer
+    requires { ⌜ n ≤ 800 ⌝ }
+    ensures { λ r. ⌜ r ≡ lost form 0 1 (onward (now (room .entry)) 0 n) ⌝ }
+{
+    let mut i: usize = 0;
+    while i < n {
+        if does_lose(form, get(room, i).code) {
+            return Answer::new(19, 0, i + 1);
+        }
+        i += 1;
+    }
+    Answer::new(0, 0, 0)
+}
+
 // 5 and 6, event by event.
 fn event_fault(start: Memory, room: &[Word], n: usize) -> Answer
     requires { ⌜ n ≤ 800 ⌝ }
@@ -87,7 +105,7 @@ fn event_fault(start: Memory, room: &[Word], n: usize) -> Answer
 }
 
 // Answers 3, 18, 5 and 6, in this order.
-pub(crate) fn room_fault(memory: Memory, room: &[Word]) -> Answer
+fn room_fault(memory: Memory, room: &[Word]) -> Answer
     ensures { λ r. ⌜ r ≡ roomFault memory (now (room .entry)) ⌝ }
 {
     let n = count_of(room);
@@ -99,6 +117,17 @@ pub(crate) fn room_fault(memory: Memory, room: &[Word]) -> Answer
         return found;
     }
     event_fault(memory, room, n)
+}
+
+// And 19.
+pub(crate) fn write_fault(form: Form, memory: Memory, room: &[Word]) -> Answer
+    ensures { λ r. ⌜ r ≡ writeFault form memory (now (room .entry)) ⌝ }
+{
+    let found = room_fault(memory, room);
+    if found.number != 0 {
+        return found;
+    }
+    loss_of(form, room, count_of(room))
 }
 
 // A byte at a place; none beyond the end.
@@ -180,18 +209,19 @@ fn put_number_if(wanted: bool, out: &mut [u8], at: usize, n: Word) -> usize
 }
 
 // An event's line, with its LF.
-fn put_event(out: &mut [u8], at: usize, e: Event) -> usize
-    requires { ⌜ Small at (eventLine e ++ 10 ∷ []) ⌝ }
-    ensures { λ r. ⌜ Put (now (out .entry)) at (eventLine e ++ 10 ∷ []) (now (out .exit)) r ⌝ }
+pub(crate) fn put_event(form: Form, out: &mut [u8], at: usize, e: Event) -> usize
+    requires { ⌜ Small at (eventLine form e ++ 10 ∷ []) ⌝ }
+    ensures { λ r. ⌜ Put (now (out .entry)) at (eventLine form e ++ 10 ∷ []) (now (out .exit)) r ⌝ }
 {
-    let shape = shape_of(e.kind);
+    let shape = shape_of(form, e.kind);
     let after_kind = put_word(out, at, &KIND_WORDS, e.kind);
     let after_place = put_number_if(shape.place, out, after_kind, e.place);
     let after_order = put_order_if(shape.order, out, after_place, e.order);
     let after_first = put_number_if(shape.first, out, after_order, e.first);
     let after_second = put_number_if(shape.second, out, after_first, e.second);
     let after_mark = put_order_if(shape.mark, out, after_second, e.order);
-    put(out, after_mark, b"\n")
+    let after_code = put_number_if(shape.code, out, after_mark, e.code);
+    put(out, after_code, b"\n")
 }
 
 // The `init` line of a location, with its LF; none for the value 0.
@@ -224,35 +254,53 @@ fn put_inits(out: &mut [u8], at: usize, cells: &[Word]) -> usize
 }
 
 // The lines of the first n events of a room.
-fn put_events(out: &mut [u8], at: usize, room: &[Word], n: usize) -> usize
-    requires { ⌜ Small at (textOf (map eventLine (onward (now room) 0 n))) ⌝ }
-    ensures { λ r. ⌜ Put (now (out .entry)) at (textOf (map eventLine (onward (now (room .entry)) 0 n))) (now (out .exit)) r ⌝ }
+fn put_events(form: Form, out: &mut [u8], at: usize, room: &[Word], n: usize) -> usize
+    requires { ⌜ Small at (textOf (map (eventLine form) (onward (now room) 0 n))) ⌝ }
+    ensures { λ r. ⌜ Put (now (out .entry)) at (textOf (map (eventLine form) (onward (now (room .entry)) 0 n))) (now (out .exit)) r ⌝ }
 {
     let mut next = at;
     let mut i: usize = 0;
     while i < n {
-        next = put_event(out, next, get(room, i));
+        next = put_event(form, out, next, get(room, i));
         i += 1;
     }
     next
 }
 
-// The whole text.
-pub(crate) fn put_text(out: &mut [u8], memory: Memory, room: &[Word], n: usize) -> usize
-    requires { ⌜ Small 0 (traceText memory (onward (now room) 0 n)) ⌝ }
-    ensures { λ r. ⌜ Put (now (out .entry)) 0 (traceText memory (onward (now (room .entry)) 0 n)) (now (out .exit)) r ⌝ }
+// Line 1.
+fn put_header(form: Form, out: &mut [u8]) -> usize
+    ensures { λ r. ⌜ Put (now (out .entry)) 0 (header form ++ 10 ∷ []) (now (out .exit)) r ⌝ }
+{
+    match form {
+        Form::One => put(out, 0, b"trace\t1\n"),
+        Form::Two => put(out, 0, b"trace\t2\n"),
+    }
+}
+
+// Line 1 and the `init` lines.
+pub(crate) fn put_start(form: Form, out: &mut [u8], memory: Memory) -> usize
+    requires { ⌜ Small 0 (startText form memory) ⌝ }
+    ensures { λ r. ⌜ Put (now (out .entry)) 0 (startText form memory) (now (out .exit)) r ⌝ }
 {
     let cells = memory.cells;
-    let after_header = put(out, 0, b"trace\t1\n");
-    let after_inits = put_inits(out, after_header, &cells);
-    put_events(out, after_inits, room, n)
+    let after_header = put_header(form, out);
+    put_inits(out, after_header, &cells)
+}
+
+// The whole text.
+pub(crate) fn put_text(form: Form, out: &mut [u8], memory: Memory, room: &[Word], n: usize) -> usize
+    requires { ⌜ Small 0 (traceText form memory (onward (now room) 0 n)) ⌝ }
+    ensures { λ r. ⌜ Put (now (out .entry)) 0 (traceText form memory (onward (now (room .entry)) 0 n)) (now (out .exit)) r ⌝ }
+{
+    let after_start = put_start(form, out, memory);
+    put_events(form, out, after_start, room, n)
 }
 
 // How many bytes the text has.
-pub(crate) fn size_of(memory: Memory, room: &[Word], n: usize) -> usize
-    requires { ⌜ Small 0 (traceText memory (onward (now room) 0 n)) ⌝ }
-    ensures { λ r. ⌜ r ≡ length (traceText memory (onward (now (room .entry)) 0 n)) ⌝ }
+pub(crate) fn size_of(form: Form, memory: Memory, room: &[Word], n: usize) -> usize
+    requires { ⌜ Small 0 (traceText form memory (onward (now room) 0 n)) ⌝ }
+    ensures { λ r. ⌜ r ≡ length (traceText form memory (onward (now (room .entry)) 0 n)) ⌝ }
 {
     let mut none: [u8; 0] = [];
-    put_text(&mut none, memory, room, n)
+    put_text(form, &mut none, memory, room, n)
 }

@@ -5,8 +5,8 @@ use mathlib.Core.List.{List}
 use mathlib.Core.Path.{_≡_, sym, _∙_, ap}
 use borrow.Author.Needs.{needs}
 use borrow.Author.Tests.{not-true, not-false}
-use Rattle.event.specs.Kind.{lastPlace}
-use Rattle.event.specs.Kind.{uncoded}
+use Rattle.event.specs.Kind.{lastPlace, lastCode, made}
+use Rattle.event.specs.declared.Event.{Event}
 use Rattle.text.specs.Field.{fieldsFrom, onEnd}
 use Rattle.text.proofs.Takes.{ended, not-ended}
 use Rattle.record.specs.Record.{lastValue, numberIf, orderIf, lawfulLine, eventRest}
@@ -17,12 +17,15 @@ use Rattle.record.proofs.Taking.{number-given, number-refused, order-gi
 use Rattle.record.proofs.event_rest.Statement.{statement}
 use Rattle.record.proofs.event_rest.Tie as tie
 
--- what the fields come to that are left after the mark, the second value, the first, the order, the place and the word
-abbrev after-mark : ℕ → ℕ → ℕ → ℕ → ℕ → List (List ℕ) → Record
-after-mark k place first second mark fs = onEnd Refused fs (lawfulLine (uncoded k place mark first second))
+-- what the fields come to that are left after the code line, the mark, the second value, the first, the order, the place and the word
+abbrev after-code : ℕ → ℕ → ℕ → ℕ → ℕ → ℕ → List (List ℕ) → Record
+after-code k place first second mark code fs = onEnd Refused fs (lawfulLine (made k place mark first second code))
+
+abbrev after-mark : Shape → ℕ → ℕ → ℕ → ℕ → ℕ → List (List ℕ) → Record
+after-mark s k place first second mark fs = numberIf (s .code) lastCode fs (after-code k place first second mark)
 
 abbrev after-second : Shape → ℕ → ℕ → ℕ → ℕ → ℕ → List (List ℕ) → Record
-after-second s k place order first second fs = orderIf (s .mark) order fs (after-mark k place first second)
+after-second s k place order first second fs = orderIf (s .mark) order fs (after-mark s k place first second)
 
 abbrev after-first : Shape → ℕ → ℕ → ℕ → ℕ → List (List ℕ) → Record
 after-first s k place order first fs = numberIf (s .second) lastValue fs (after-second s k place order first)
@@ -47,7 +50,7 @@ abbrev from : tie.After-shape-of → ℕ → List (List ℕ)
 from c at = fieldsFrom (c .before .before .args .line .now) at
 
 abbrev whole : tie.After-shape-of → Record
-whole c = eventRest (kind c) (from c (c .before .before .args .at))
+whole c = eventRest (c .before .before .args .form) (kind c) (from c (c .before .before .args .at))
 
 past₀ : (c : tie.After-shape-of) → whole c ≡ after-word (shape c) (kind c) (from c (c .before .before .args .at))
 unfolding eventRest
@@ -103,11 +106,31 @@ past₄ c = past₃ (c₄ c) ∙ number-given _ _ _ _ _ _ (c .before .before .be
 abbrev c₅ : tie.After-known-told5 → tie.After-known-told4
 c₅ c = c .before .before .before .before
 
+abbrev mark : tie.After-known-told5 → ℕ
+mark c = c .before .mark .given .0 .0
+
 past₅ : (c : tie.After-known-told5) → let t = c₄ (c₅ c) in
     let r = c₁ (c₂ (c₃ t)) in
     whole r
-    ≡ after-mark (kind r) (place (c₂ (c₃ t))) (first t) (second (c₅ c)) (c .before .mark .given .0 .0) (from r (c .before .mark .given .0 .1 .0))
+    ≡ after-mark (shape r) (kind r) (place (c₂ (c₃ t))) (first t) (second (c₅ c)) (mark c) (from r (c .before .mark .given .0 .1 .0))
 past₅ c = past₄ (c₅ c) ∙ order-given _ _ _ _ _ _ (c .before .before .before .order-if2 .ensures) (c .before .mark .given .1) _
+
+-- after the code line
+abbrev c₆ : tie.After-known-told6 → tie.After-known-told5
+c₆ c = c .before .before .before .before
+
+abbrev event : tie.After-known-told6 → Event
+event c =
+    let m = c₆ c in
+    let t = c₄ (c₅ m) in
+    let p = c₂ (c₃ t) in
+    made (kind (c₁ p)) (place p) (mark m) (first t) (second (c₅ m)) (c .before .code .given .0 .0)
+
+abbrev start : tie.After-known-told6 → tie.After-shape-of
+start c = c₁ (c₂ (c₃ (c₄ (c₅ (c₆ c)))))
+
+past₆ : (c : tie.After-known-told6) → whole (start c) ≡ onEnd Refused (from (start c) (c .before .code .given .0 .1 .0)) (lawfulLine (event c))
+past₆ c = past₅ (c₆ c) ∙ number-given _ _ _ _ _ _ (c .before .before .before .number-if4 .ensures) (c .before .code .given .1) _
 
 returns : tie.Need-returns
 returns c = sym (past₀ (c .before .before .before) ∙ number-refused _ _ _ _ (c .before .before .number-if .ensures) (c .enum-told .given .1) _)
@@ -125,20 +148,20 @@ returns-5 : tie.Need-returns-5
 returns-5 c = sym (past₄ (c .before .before .before) ∙ order-refused _ _ _ _ (c .before .before .order-if2 .ensures) (c .enum-told5 .given .1) _)
 
 returns-6 : tie.Need-returns-6
-returns-6 c = sym (past₅ (c .before .before) ∙ not-ended _ _ _ _ (sym (c .before .ends-at .ensures) ∙ not-true _ (c .if1 .taken)))
-
--- the line has ended
-end : (c : tie.Else1) → let t = c₄ (c₅ (c .before .before)) in
-    let r = c₁ (c₂ (c₃ t)) in
-    whole r
-    ≡ lawfulLine (uncoded (kind r) (place (c₂ (c₃ t))) (c .before .before .before .mark .given .0 .0) (first t) (second (c₅ (c .before .before))))
-end c = past₅ (c .before .before) ∙ ended _ _ _ _ (sym (c .before .ends-at .ensures) ∙ not-false _ (c .if1 .left))
+returns-6 c = sym (past₅ (c .before .before .before) ∙ number-refused _ _ _ _ (c .before .before .number-if4 .ensures) (c .enum-told6 .given .1) _)
 
 returns-7 : tie.Need-returns-7
-returns-7 c = sym (end (c .before .before) ∙ rw (sym (c .before .suits .ensures) ∙ not-true _ (c .if2 .taken)))
+returns-7 c = sym (past₆ (c .before .before) ∙ not-ended _ _ _ _ (sym (c .before .ends-at .ensures) ∙ not-true _ (c .if1 .taken)))
+
+-- the line has ended
+end : (c : tie.Else1) → whole (start (c .before .before)) ≡ lawfulLine (event (c .before .before))
+end c = past₆ (c .before .before) ∙ ended _ _ _ _ (sym (c .before .ends-at .ensures) ∙ not-false _ (c .if1 .left))
 
 returns-8 : tie.Need-returns-8
-returns-8 c = sym (end (c .before .before) ∙ rw (sym (c .before .suits .ensures) ∙ not-false _ (c .if2 .left)))
+returns-8 c = sym (end (c .before .before) ∙ rw (sym (c .before .suits .ensures) ∙ not-true _ (c .if2 .taken)))
+
+returns-9 : tie.Need-returns-9
+returns-9 c = sym (end (c .before .before) ∙ rw (sym (c .before .suits .ensures) ∙ not-false _ (c .if2 .left)))
 
 pub event-rest-spec : {M : Type 1} → statement M
 event-rest-spec =
@@ -166,7 +189,11 @@ event-rest-spec =
     (search needs)
     returns-5
     (search needs)
+    (search needs)
+    (search needs)
     returns-6
     (search needs)
     returns-7
-    returns-8)
+    (search needs)
+    returns-8
+    returns-9)

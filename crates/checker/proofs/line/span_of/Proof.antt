@@ -8,21 +8,24 @@ use lib.Seq.{length-take-le}
 use Rattle.text.specs.Line.{split, splitFrom}
 use Rattle.text.proofs.Cuts.{from-start, from-out}
 use Rattle.text.proofs.Walk.{line, parts-line, line-in}
-use Rattle.checker.specs.Line.{Standing, nothing, nthLine, standing}
+use Rattle.trace.specs.Reading.{formOf}
+use Rattle.checker.specs.Line.{Standing, counted, nothing, nthLine, standing}
 use Rattle.checker.proofs.Lines.{left-some, line-found, line-passed, none-left, none-zero}
 use Rattle.checker.proofs.line.span_of.Statement.{statement}
 use Rattle.checker.proofs.line.span_of.Tie as tie
 
 abbrev Inv-loop : tie.InvT-loop
-Inv-loop text only k at₀ left₀ at left =
-    (at ≤ length text + 1) × ((1 ≤ left) × (nthLine only k (standing 0 (split text)) ≡ nthLine only left (standing at (splitFrom text at))))
+Inv-loop text only k form at₀ left₀ at left =
+    (at ≤ length text + 1)
+    × ((1 ≤ left)
+    × (nthLine (formOf text) only k (standing 0 (split text)) ≡ nthLine (formOf text) only left (standing at (splitFrom text at))))
 
 abbrev μ-loop : tie.MeasureT-loop
-μ-loop text only k at₀ left₀ at left = length text + 1 - at
+μ-loop text only k form at₀ left₀ at left = length text + 1 - at
 
 -- the line that starts at the loop's place
 abbrev begin : tie.After-line-end Inv-loop μ-loop → tie.Start Inv-loop μ-loop
-begin c = c .before .before .before .before .before
+begin c = c .before .before .before .before .before .before
 
 abbrev text : tie.After-line-end Inv-loop μ-loop → List ℕ
 text c = begin c .args .text .now
@@ -51,22 +54,26 @@ size c =
     omega (arith, ends (end c), length-take-le n (drop (at (end c)) t) q)
 
 whole : (c : tie.After-ends-here Inv-loop μ-loop)
-    → nthLine (begin (end c) .args .only) (begin (end c) .args .k) (standing 0 (split (text (end c))))
-    ≡ nthLine (begin (end c) .args .only) (end c .before .before .loop .left) (standing (at (end c)) (this c ∷ others c))
+    → nthLine (formOf (text (end c))) (begin (end c) .args .only) (begin (end c) .args .k) (standing 0 (split (text (end c))))
+    ≡ nthLine (formOf (text (end c))) (begin (end c) .args .only) (end c .before .before .loop .left) (standing (at (end c)) (this c ∷ others c))
 whole c =
     end c .before .before .loop .inv .1 .1
     ∙ rw (parts-line (text (end c)) (at (end c)) (end c .line-end .result) (end c .line-end .ensures) (omega arith))
 
+is-told : (c : tie.After-ends-here Inv-loop μ-loop)
+    → c .before .is-counted .result ≡ counted (formOf (text (end c))) (begin (end c) .args .only) (this c)
+is-told c = rw (← end c .before .before .before .form-of .ensures) (c .before .is-counted .ensures)
+
 returns : tie.Need-returns Inv-loop μ-loop
 returns c =
     let t = c .before .before .args in
-    let z = sym (none-zero (t .only) (standing 0 (split (t .text .now)))) in (
+    let z = sym (none-zero (formOf (t .text .now)) (t .only) (standing 0 (split (t .text .now)))) in (
       record { rises = omega arith; within = omega arith; is = rw (c .if1 .taken) (ap (λ (s : Standing). s .line) z) },
       rw (c .if1 .taken) (ap (λ (s : Standing). s .place) z),
     )
 
 loop-holds : tie.Need-loop-holds Inv-loop μ-loop
-loop-holds c = (omega arith, (omega arith, rw (from-start 10 (c .before .before .args .text .now))))
+loop-holds c = (omega arith, (omega arith, rw (from-start 10 (c .before .before .before .args .text .now))))
 
 line-end-requires : tie.Need-line-end-requires Inv-loop μ-loop
 line-end-requires c κs = tt
@@ -90,7 +97,7 @@ returns-2 : tie.Need-returns-2 Inv-loop μ-loop
 returns-2 c =
     let h = c .before in
     let p = sym (h .ends-here .ensures) ∙ c .if2 .taken in
-    let f = sym (whole h ∙ line-found _ _ _ _ (this h) (others h) _ (size h) (h .before .is-counted .ensures) p) in (
+    let f = sym (whole h ∙ line-found _ _ _ _ _ (this h) (others h) _ (size h) (is-told h) p) in (
       record { rises = omega (arith, ends (end h)); within = omega (arith, ends (end h)); is = ap (λ (s : Standing). s .line) f },
       ap (λ (s : Standing). s .place) f,
     )
@@ -111,15 +118,15 @@ loop-again c =
       omega (arith, ends (end h)),
       (
         rw (c .left-after .ensures) (left-some (h .before .is-counted .result) (end h .before .before .loop .left) (end h .before .before .loop .inv .1 .0) p),
-        rw (c .left-after .ensures) (whole h ∙ line-passed _ _ _ _ (this h) (others h) _ (size h) (h .before .is-counted .ensures) p),
+        rw (c .left-after .ensures) (whole h ∙ line-passed _ _ _ _ _ (this h) (others h) _ (size h) (is-told h) p),
       ),
     )
 
 returns-3 : tie.Need-returns-3 Inv-loop μ-loop
 returns-3 c =
-    let a = c .before .before .before .before .args in
+    let a = c .before .before .before .before .before .args in
     let l = c .before .loop in
-    let n = sym {b = nothing} (l .inv .1 .1 ∙ rw (from-out 10 (a .text .now) (l .at) (omega arith)) (none-left _ _ _)) in (
+    let n = sym {b = nothing} (l .inv .1 .1 ∙ rw (from-out 10 (a .text .now) (l .at) (omega arith)) (none-left _ _ _ _)) in (
       record { rises = omega arith; within = omega arith; is = ap (λ (s : Standing). s .line) n },
       ap (λ (s : Standing). s .place) n,
     )
@@ -131,6 +138,7 @@ span-of-spec =
     Inv-loop
     μ-loop
     returns
+    (λ c κs. tt)
     loop-holds
     line-end-requires
     sub-is-counted

@@ -3,7 +3,6 @@ use mathlib.Core.Bool.{Bool, true, false}
 use mathlib.Core.Path.{_≡_, sym, _∙_}
 use borrow.Author.Tests.{not-true, not-false}
 use Rattle.event.specs.Kind.{row, takes, fitsPlace, fitsValues, lawful}
-use Rattle.laws.proofs.Bools.{and-true}
 use borrow.Author.Needs.{needs}
 use Rattle.event.proofs.kind.suits.Statement.{statement}
 use Rattle.event.proofs.kind.suits.Tie as tie
@@ -48,7 +47,15 @@ returns-2 c = rw (orders-held (c .before .before), place (c .before) ∙ not-tru
 
 returns-3 : tie.Need-returns-3
 unfolding lawful
-returns-3 c = rw (orders-held (c .before .before .before), place-held (c .before), values c, and-true (c .fits-values .result))
+returns-3 c =
+    let p = c .before .before in
+    rw (orders-held (p .before .before), place-held p, values (c .before) ∙ not-true _ (c .if3 .taken))
+
+returns-4 : tie.Need-returns-4
+unfolding lawful
+returns-4 c =
+    let p = c .before .before in
+    rw (orders-held (p .before .before), place-held p, values (c .before) ∙ not-false _ (c .if3 .left))
 
 pub suits-spec : {M : Type 1} → statement M
 suits-spec =
@@ -60,4 +67,5 @@ suits-spec =
     (search needs)
     returns-2
     (search needs)
-    returns-3)
+    returns-3
+    returns-4)

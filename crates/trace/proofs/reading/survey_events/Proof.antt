@@ -21,6 +21,7 @@ use Rattle.record.specs.Record.{recordOf}
 use Rattle.record.specs.declared.Record.{Record}
 use Rattle.record.specs.declared.Record.the-variants.{AnEvent}
 use Rattle.record.proofs.Records.{line-lawful}
+use Rattle.record.specs.declared.form.Form.{Form}
 use Rattle.trace.specs.Fault.{clashes, faultAt}
 use Rattle.trace.specs.Reading.{refused}
 use Rattle.trace.specs.Survey.{surveyEvents}
@@ -31,7 +32,7 @@ use Rattle.trace.proofs.Ways.{Marks, marks-start, marks-told, clash, ma
 use Rattle.trace.proofs.reading.survey_events.Statement.{statement}
 use Rattle.trace.proofs.reading.survey_events.Tie as tie
 
-record Inv (text : List ℕ) (from line side : ℕ) (start m : Memory) (ways : List ℕ) (found : Answer) (at k n : ℕ) : Type 0 where
+record Inv (form : Form) (text : List ℕ) (from line side : ℕ) (start m : Memory) (ways : List ℕ) (found : Answer) (at k n : ℕ) : Type 0 where
   within : at ≤ length text
   lined : k ≤ at
   counted : n < at
@@ -39,24 +40,24 @@ record Inv (text : List ℕ) (from line side : ℕ) (start m : Memory) (ways : L
   before : List Event
   none : found .number ≡ 0 → found ≡ done
   marks : found .number ≡ 0 → Marks ways before
-  same : surveyEvents side line start (splitFrom text from) ≡ surveyOn side k n m before found start (splitFrom text at)
+  same : surveyEvents form side line start (splitFrom text from) ≡ surveyOn form side k n m before found start (splitFrom text at)
 
 abbrev Inv-loop : tie.InvT-loop
-Inv-loop text from line side start last₀ ways₀ found₀ at₀ k₀ n₀ last ways found at k n =
-    Inv text from line side start (last .memory) ways found at k n
+Inv-loop form text from line side start last₀ ways₀ found₀ at₀ k₀ n₀ last ways found at k n =
+    Inv form text from line side start (last .memory) ways found at k n
 
 abbrev μ-loop : tie.MeasureT-loop
-μ-loop text from line side start last₀ ways₀ found₀ at₀ k₀ n₀ last ways found at k n = length text - at
+μ-loop form text from line side start last₀ ways₀ found₀ at₀ k₀ n₀ last ways found at k n = length text - at
 
 -- a refusal that is returned
 refuses : {r w : TraceRead} {a b : Answer} → r ≡ refused a → a ≡ b → w ≡ refused b → r ≡ w
 refuses p q e = p ∙ (ap refused q ∙ sym e)
 
 -- what the step and the judging of an event hand back
-on-told : (side k n : ℕ) (es : List Event) (start : Memory) (ls : List (List ℕ)) (clash : Bool) (a : Answer) {s s′ : Stepped} {f : Answer} → s ≡ s′
+on-told : (form : Form) (side k n : ℕ) (es : List Event) (start : Memory) (ls : List (List ℕ)) (clash : Bool) (a : Answer) {s s′ : Stepped} {f : Answer} → s ≡ s′
     → f ≡ first a (faultAt side n clash (s .right))
-    → surveyOn side k n (s′ .memory) es (first a (faultAt side n clash (s′ .right))) start ls ≡ surveyOn side k n (s .memory) es f start ls
-on-told side k n es start ls clash a p q = rw (q, p)
+    → surveyOn form side k n (s′ .memory) es (first a (faultAt side n clash (s′ .right))) start ls ≡ surveyOn form side k n (s .memory) es f start ls
+on-told form side k n es start ls clash a p q = rw (q, p)
 
 -- a turn's place
 module _ (c : tie.After-next-line Inv-loop μ-loop) where
@@ -73,16 +74,16 @@ module _ (c : tie.After-next-line Inv-loop μ-loop) where
   memory = c .before .loop .last .memory
 
   abbrev whole : TraceRead
-  whole = surveyEvents (begin .args .side) (begin .args .line) (begin .args .start) (splitFrom text (begin .args .from))
+  whole = surveyEvents (begin .args .form) (begin .args .side) (begin .args .line) (begin .args .start) (splitFrom text (begin .args .from))
 
-  inv : Inv text (begin .args .from) (begin .args .line) (begin .args .side) (begin .args .start) memory (c .before .loop .ways) (c .before .loop .found)
+  inv : Inv (begin .args .form) text (begin .args .from) (begin .args .line) (begin .args .side) (begin .args .start) memory (c .before .loop .ways) (c .before .loop .found)
       at (c .before .loop .k) (c .before .loop .n)
   inv = c .before .loop .inv
 
   -- the reading from there on
   abbrev on : List (List ℕ) → TraceRead
   on ls =
-      surveyOn (begin .args .side) (c .before .loop .k) (c .before .loop .n) memory (inv .before) (c .before .loop .found) (begin .args .start) ls
+      surveyOn (begin .args .form) (begin .args .side) (c .before .loop .k) (c .before .loop .n) memory (inv .before) (c .before .loop .found) (begin .args .start) ls
 
 -- its line has a LF
 module _ (c : tie.After-to Inv-loop μ-loop) where
@@ -106,7 +107,7 @@ module _ (c : tie.After-record-of Inv-loop μ-loop) where
   abbrev others : List (List ℕ)
   others = splitFrom (text (l t)) (to t + 1)
 
-  is : {r : Record} → c .record-of .result ≡ r → recordOf this ≡ r
+  is : {r : Record} → c .record-of .result ≡ r → recordOf (begin (l t) .args .form) this ≡ r
   is e = sym (c .record-of .ensures) ∙ e
 
   by-line : {r : TraceRead} → on (l t) (this ∷ others) ≡ r → whole (l t) ≡ r
@@ -120,11 +121,11 @@ module _ (c : tie.After-e Inv-loop μ-loop) where
   abbrev event : Event
   event = c .e .given .0 .0
 
-  its : recordOf (this r) ≡ AnEvent event
+  its : recordOf (begin (l (t r)) .args .form) (this r) ≡ AnEvent event
   its = is r (c .e .given .1)
 
   inside : event .place < 256
-  inside = place-below _ (line-lawful _ _ its)
+  inside = place-below _ (line-lawful _ _ _ its)
 
 -- which is judged
 module _ (c : tie.After-fault-at Inv-loop μ-loop) where
@@ -149,12 +150,12 @@ module _ (c : tie.After-fault-at Inv-loop μ-loop) where
   clash-is : found .number ≡ 0 → u .use-place .result ≡ clashes (inv p .before) (event v)
   clash-is z = u .use-place .ensures .0 ∙ sym (clash ways (inv p .before) (event v) (inside v) (inv p .marks z))
 
-  goes-on : whole p ≡ surveyOn (begin p .args .side) (p .before .loop .k + 1) (p .before .loop .n + 1) (c .before .step .result .memory)
+  goes-on : whole p ≡ surveyOn (begin p .args .form) (begin p .args .side) (p .before .loop .k + 1) (p .before .loop .n + 1) (c .before .step .result .memory)
       (event v ∷ inv p .before) (c .fault-at .result) (begin p .args .start) (others (r v))
   goes-on =
       by-line (r v)
-      (on-go _ _ _ _ _ _ _ _ _ (line (t (r v)) .some) (event v) (its v) (u .before .before .if1 .left) (u .use-place .result) clash-is
-      ∙ on-told _ _ _ _ _ _ (u .use-place .result) found (c .before .step .ensures) (c .fault-at .ensures))
+      (on-go _ _ _ _ _ _ _ _ _ _ (line (t (r v)) .some) (event v) (its v) (u .before .before .if1 .left) (u .use-place .result) clash-is
+      ∙ on-told _ _ _ _ _ _ _ (u .use-place .result) found (c .before .step .ensures) (c .fault-at .ensures))
 
   none-after : c .fault-at .result .number ≡ 0 → c .fault-at .result ≡ done
   none-after z =
@@ -176,26 +177,26 @@ loop-holds c = record {
   before = [];
   none = λ z. c .new .ensures;
   marks = λ z. marks-start;
-  same = rw (c .new .ensures) (on-start _ _ _ _);
+  same = rw (c .new .ensures) (on-start _ _ _ _ _);
 }
 
 returns : tie.Need-returns Inv-loop μ-loop
 returns c =
     let q = c .before .before .before .before in
     refuses (c .refusal .ensures) (c .before .new2 .ensures)
-    (by-line q (on-bad _ _ _ _ _ _ _ _ _ (line (t q) .some) (is q (c .before .before .enum-told2 .given .1))))
+    (by-line q (on-bad _ _ _ _ _ _ _ _ _ _ (line (t q) .some) (is q (c .before .before .enum-told2 .given .1))))
 
 returns-2 : tie.Need-returns-2 Inv-loop μ-loop
 returns-2 c =
     let q = c .before .before .before .before in
     refuses (c .refusal2 .ensures) (c .before .new3 .ensures)
-    (by-line q (on-init _ _ _ _ _ _ _ _ _ (line (t q) .some) _ _ (is q (c .before .before .enum-told3 .given .1))))
+    (by-line q (on-init _ _ _ _ _ _ _ _ _ _ (line (t q) .some) _ _ (is q (c .before .before .enum-told3 .given .1))))
 
 returns-3 : tie.Need-returns-3 Inv-loop μ-loop
 returns-3 c =
     let q = c .before .before .before .before in
     refuses (c .refusal3 .ensures) (c .before .new4 .ensures)
-    (by-line (r q) (on-full _ _ _ _ _ _ _ _ _ (line (t (r q)) .some) _ (its q) (c .before .before .if1 .taken)))
+    (by-line (r q) (on-full _ _ _ _ _ _ _ _ _ _ (line (t (r q)) .some) _ (its q) (c .before .before .if1 .taken)))
 
 loop-again : tie.Need-loop-again Inv-loop μ-loop
 loop-again c =
@@ -222,20 +223,20 @@ module _ (c : tie.After-enum-told Inv-loop μ-loop) where
 returns-4 : tie.Need-returns-4 Inv-loop μ-loop
 returns-4 c =
     let q = c .before .before .before in
-    refuses (c .refusal4 .ensures) (c .before .new5 .ensures) (rest q (on-open _ _ _ _ _ _ _ _ (rest-some _ _ (c .before .before .if2 .taken))))
+    refuses (c .refusal4 .ensures) (c .before .new5 .ensures) (rest q (on-open _ _ _ _ _ _ _ _ _ (rest-some _ _ (c .before .before .if2 .taken))))
 
 returns-5 : tie.Need-returns-5 Inv-loop μ-loop
 returns-5 c =
     let h = c .before .before .before in
     let z = drop-of-length-le (text (o (h .before))) (h .if2 .left) in
     refuses (c .refusal5 .ensures) refl
-    (rest (h .before) (on-found _ _ _ _ _ _ _ _ (rest-none _ _ (h .if2 .left)) z (ne-eqb _ _ (c .before .if3 .taken))))
+    (rest (h .before) (on-found _ _ _ _ _ _ _ _ _ (rest-none _ _ (h .if2 .left)) z (ne-eqb _ _ (c .before .if3 .taken))))
 
 returns-6 : tie.Need-returns-6 Inv-loop μ-loop
 returns-6 c =
     let h = c .before .before .before in
     let z = drop-of-length-le (text (o (h .before))) (h .if2 .left) in
-    rw (c .new6 .ensures) (sym (rest (h .before) (on-end _ _ _ _ _ _ _ _ (rest-none _ _ (h .if2 .left)) z (c .before .if3 .left))))
+    rw (c .new6 .ensures) (sym (rest (h .before) (on-end _ _ _ _ _ _ _ _ _ (rest-none _ _ (h .if2 .left)) z (c .before .if3 .left))))
 
 pub survey-events-spec : {M : Type 1} → statement M
 survey-events-spec =

@@ -14,6 +14,7 @@ use Rattle.record.specs.Record.{recordOf}
 use Rattle.record.specs.declared.Record.{Record}
 use Rattle.record.specs.declared.Record.the-variants.{Init}
 use Rattle.record.proofs.Records.{init-place}
+use Rattle.record.specs.declared.form.Form.{Form}
 use Rattle.trace.specs.Reading.{refused}
 use Rattle.trace.specs.Survey.{surveyInits, surveyEvents}
 use Rattle.trace.specs.declared.reading.TraceRead.{TraceRead}
@@ -21,19 +22,19 @@ use Rattle.trace.proofs.Inits.{inits-last, inits-refused, inits-event, 
 use Rattle.trace.proofs.reading.survey_lines.Statement.{statement}
 use Rattle.trace.proofs.reading.survey_lines.Tie as tie
 
-record Inv (text : List ℕ) (from side : ℕ) (start : Memory) (at k low : ℕ) : Type 0 where
+record Inv (form : Form) (text : List ℕ) (from side : ℕ) (start : Memory) (at k low : ℕ) : Type 0 where
   within : at ≤ length text
   second : 2 ≤ k
   lined : k ≤ at
   lowest : low ≤ 256
   size : length (start .cells) ≡ 256
-  same : surveyInits side 2 0 empty (splitFrom text from) ≡ surveyInits side k low start (splitFrom text at)
+  same : surveyInits form side 2 0 empty (splitFrom text from) ≡ surveyInits form side k low start (splitFrom text at)
 
 abbrev Inv-loop : tie.InvT-loop
-Inv-loop text from side start₀ at₀ k₀ low₀ start at k low = Inv text from side start at k low
+Inv-loop form text from side start₀ at₀ k₀ low₀ start at k low = Inv form text from side start at k low
 
 abbrev μ-loop : tie.MeasureT-loop
-μ-loop text from side start₀ at₀ k₀ low₀ start at k low = length text - at
+μ-loop form text from side start₀ at₀ k₀ low₀ start at k low = length text - at
 
 -- a turn's place
 module _ (c : tie.After-next-line Inv-loop μ-loop) where
@@ -53,15 +54,15 @@ module _ (c : tie.After-next-line Inv-loop μ-loop) where
   start = c .before .loop .start
 
   abbrev whole : TraceRead
-  whole = surveyInits (begin .args .side) 2 0 empty (splitFrom text (begin .args .from))
+  whole = surveyInits (begin .args .form) (begin .args .side) 2 0 empty (splitFrom text (begin .args .from))
 
-  inv : Inv text (begin .args .from) (begin .args .side) start at k (c .before .loop .low)
+  inv : Inv (begin .args .form) text (begin .args .from) (begin .args .side) start at k (c .before .loop .low)
   inv = c .before .loop .inv
 
   -- no starting value stands there: the reading of events
   rest : {r : TraceRead} {ls : List (List ℕ)} → splitFrom text at ≡ ls
-      → surveyInits (begin .args .side) k (c .before .loop .low) start ls ≡ surveyEvents (begin .args .side) k start ls
-      → r ≡ surveyEvents (begin .args .side) k start (splitFrom text at) → r ≡ whole
+      → surveyInits (begin .args .form) (begin .args .side) k (c .before .loop .low) start ls ≡ surveyEvents (begin .args .form) (begin .args .side) k start ls
+      → r ≡ surveyEvents (begin .args .form) (begin .args .side) k start (splitFrom text at) → r ≡ whole
   rest p e q = (rw p at q) ∙ sym ((rw p at (inv .same)) ∙ e)
 
 -- its line has a LF
@@ -83,7 +84,7 @@ module _ (c : tie.After-record-of Inv-loop μ-loop) where
   abbrev this : List ℕ
   this = take (to t - at (l t)) (drop (at (l t)) (text (l t)))
 
-  is : {r : Record} → c .record-of .result ≡ r → recordOf this ≡ r
+  is : {r : Record} → c .record-of .result ≡ r → recordOf (begin (l t) .args .form) this ≡ r
   is e = sym (c .record-of .ensures) ∙ e
 
 -- it is a starting value
@@ -97,11 +98,11 @@ module _ (c : tie.After-place Inv-loop μ-loop) where
   abbrev value : ℕ
   value = c .place .given .0 .1 .0
 
-  its : recordOf (this r) ≡ Init cell value
+  its : recordOf (begin (l (t r)) .args .form) (this r) ≡ Init cell value
   its = is r (c .place .given .1)
 
   inside : cell ≤ 255
-  inside = init-place _ _ _ its
+  inside = init-place _ _ _ _ its
 
   abbrev p : tie.After-next-line Inv-loop μ-loop
   p = l (t r)
@@ -109,12 +110,12 @@ module _ (c : tie.After-place Inv-loop μ-loop) where
   abbrev others : List (List ℕ)
   others = splitFrom (text p) (to (t r) + 1)
 
-  by-line : {w : TraceRead} → surveyInits (begin p .args .side) (k p) (p .before .loop .low) (start p) (this r ∷ others) ≡ w → whole p ≡ w
+  by-line : {w : TraceRead} → surveyInits (begin p .args .form) (begin p .args .side) (k p) (p .before .loop .low) (start p) (this r ∷ others) ≡ w → whole p ≡ w
   by-line e = inv p .same ∙ rw (line (t r) .parts) e
 
   goes-on : (i : ℕ) → i ≡ cell → p .before .loop .low ≤ cell
-      → whole p ≡ surveyInits (begin p .args .side) (k p + 1) (cell + 1) (record { cells = set (start p .cells) i value }) others
-  goes-on i e o = rw e (by-line (inits-go _ _ _ _ _ _ (line (t r) .some) cell value its o))
+      → whole p ≡ surveyInits (begin p .args .form) (begin p .args .side) (k p + 1) (cell + 1) (record { cells = set (start p .cells) i value }) others
+  goes-on i e o = rw e (by-line (inits-go _ _ _ _ _ _ _ (line (t r) .some) cell value its o))
 
 loop-holds : tie.Need-loop-holds Inv-loop μ-loop
 loop-holds c = record {
@@ -134,23 +135,23 @@ returns : tie.Need-returns Inv-loop μ-loop
 returns c =
     let o = c .before .before .before in
     let z = last (text o) (at o) (inv o .within) (sym (o .next-line .ensures) ∙ c .before .enum-told .given .1) in
-    rest o z (inits-last _ _ _ _ _) (c .survey-events .ensures)
+    rest o z (inits-last _ _ _ _ _ _) (c .survey-events .ensures)
 
 returns-2 : tie.Need-returns-2 Inv-loop μ-loop
 returns-2 c =
     let q = c .before .before .before in
-    rest (l (t q)) (line (t q) .parts) (inits-refused _ _ _ _ _ _ (line (t q) .some) (is q (c .before .enum-told2 .given .1))) (c .survey-events2 .ensures)
+    rest (l (t q)) (line (t q) .parts) (inits-refused _ _ _ _ _ _ _ (line (t q) .some) (is q (c .before .enum-told2 .given .1))) (c .survey-events2 .ensures)
 
 returns-3 : tie.Need-returns-3 Inv-loop μ-loop
 returns-3 c =
     let q = c .before .before .before in
-    rest (l (t q)) (line (t q) .parts) (inits-event _ _ _ _ _ _ (line (t q) .some) _ (is q (c .before .enum-told3 .given .1))) (c .survey-events3 .ensures)
+    rest (l (t q)) (line (t q) .parts) (inits-event _ _ _ _ _ _ _ (line (t q) .some) _ (is q (c .before .enum-told3 .given .1))) (c .survey-events3 .ensures)
 
 returns-4 : tie.Need-returns-4 Inv-loop μ-loop
 returns-4 c =
     let q = c .before .before .before .before in
     c .refusal .ensures
-    ∙ (ap refused (c .before .new .ensures) ∙ sym (by-line q (inits-low _ _ _ _ _ _ (line (t (r q)) .some) _ _ (its q) (c .before .before .if1 .taken))))
+    ∙ (ap refused (c .before .new .ensures) ∙ sym (by-line q (inits-low _ _ _ _ _ _ _ (line (t (r q)) .some) _ _ (its q) (c .before .before .if1 .taken))))
 
 -- what is known of a turn's numbers
 module _ (c : tie.After-index-of Inv-loop μ-loop) where

@@ -27,7 +27,7 @@ loop-holds : tie.Need-loop-holds Inv-loop μ-loop
 loop-holds c =
     let s = c .before .before .before in
     let z : s .args .at + 0 ≡ s .args .at = omega arith in
-    rw z (going _ _ _ (s .pre) refl)
+    rw z (going _ _ _ 0 (omega arith) (s .pre) refl)
 
 -- the byte at hand, and the others
 next : (bytes : List ℕ) (i : ℕ) → i < length bytes → drop i bytes ≡ (getD bytes i 0 ∷ []) ++ drop (i + 1) bytes

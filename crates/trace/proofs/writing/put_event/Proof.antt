@@ -14,10 +14,10 @@ use Rattle.trace.proofs.writing.put_event.Tie as tie
 -- the parts of the line from the i-th on are left
 abbrev Rest : tie.After-shape-of → List ℕ → ℕ → ℕ → Type 0
 Rest r now here i = let a = r .before .before .args in
-    Left (a .out .now) (a .at) (eventLine (a .e) ++ 10 ∷ []) now here (drop i (eventParts (r .shape-of .result) (a .e)))
+    Left (a .out .now) (a .at) (eventLine (a .form) (a .e) ++ 10 ∷ []) now here (drop i (eventParts (r .shape-of .result) (a .e)))
 
 at-first : (r : tie.After-shape-of) → let a = r .before .before .args in Rest r (a .out .now) (a .at) 0
-at-first r = left-all _ _ (r .before .before .pre) (event-parts (r .before .before .args .e) (r .shape-of .ensures))
+at-first r = left-all _ _ (r .before .before .pre) (event-parts (r .before .before .args .form) (r .before .before .args .e) (r .shape-of .ensures))
 
 abbrev r₁ : tie.After-put-word → tie.After-shape-of
 r₁ c = c .before .before .before
@@ -55,9 +55,15 @@ r₆ c = r₅ (c .before .before .before .before)
 after-mark : (c : tie.After-put-order-if2) → Rest (r₆ c) (c .put-order-if2 .last .1 .0) (c .put-order-if2 .result) 6
 after-mark c = left-next (after-second (c .before .before .before .before)) (c .put-order-if2 .ensures)
 
-line-put : (c : tie.After-put) → let a = r₆ (c .before .before .before .before .before) .before .before .args in
-    Put (a .out .now) (a .at) (eventLine (a .e) ++ 10 ∷ []) (c .put .last .0) (c .put .result)
-line-put c = left-none (left-next (after-mark (c .before .before .before .before .before)) (c .put .ensures))
+abbrev r₇ : tie.After-put-number-if4 → tie.After-shape-of
+r₇ c = r₆ (c .before .before .before .before)
+
+after-code : (c : tie.After-put-number-if4) → Rest (r₇ c) (c .put-number-if4 .last .1 .0) (c .put-number-if4 .result) 7
+after-code c = left-next (after-mark (c .before .before .before .before)) (c .put-number-if4 .ensures)
+
+line-put : (c : tie.After-put) → let a = r₇ (c .before .before .before .before .before) .before .before .args in
+    Put (a .out .now) (a .at) (eventLine (a .form) (a .e) ++ 10 ∷ []) (c .put .last .0) (c .put .result)
+line-put c = left-none (left-next (after-code (c .before .before .before .before .before)) (c .put .ensures))
 
 pub put-event-spec : {M : Type 1} → statement M
 put-event-spec =
@@ -71,7 +77,8 @@ put-event-spec =
     (λ c κs. left-small (after-order (c .before .before .before)))
     (λ c κs. left-small (after-first (c .before .before .before)))
     (λ c κs. left-small (after-second (c .before .before .before)))
+    (λ c κs. left-small (after-mark (c .before .before .before)))
     (λ c. refl)
-    (λ c κs. left-small (after-mark (c .before .before .before .before)))
+    (λ c κs. left-small (after-code (c .before .before .before .before)))
     (λ c. put-length (line-put (c .before .before)))
     (λ c. line-put (c .before .before)))

@@ -39,7 +39,7 @@ put-inits-spec =
     (tie.spec
     Inv-loop
     μ-loop
-    (λ c. going _ _ _ (c .before .before .pre .1) refl)
+    (λ c. going _ _ _ 0 (omega arith) (c .before .before .pre .1) refl)
     (λ c. omega arith)
     (λ c. omega arith)
     (λ c. omega arith)

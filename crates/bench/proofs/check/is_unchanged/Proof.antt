@@ -1,10 +1,10 @@
--- `bench::run::is_unchanged` is safe and ends: `i` runs up to the length. Assumes nothing.
+-- `bench::check::is_unchanged` is safe and ends: `i` runs up to the length. Assumes nothing.
 use native.Mathlib.Omega.{arith}
 use Prim.Native.Nat.{_≤_, _-_}
 use borrow.Author.Needs.{needs}
 use lib.ListN.{length}
-use Rattle.bench.proofs.run.is_unchanged.Statement.{statement}
-use Rattle.bench.proofs.run.is_unchanged.Tie as tie
+use Rattle.bench.proofs.check.is_unchanged.Statement.{statement}
+use Rattle.bench.proofs.check.is_unchanged.Tie as tie
 
 abbrev Inv-loop : tie.InvT-loop
 Inv-loop room from i₀ i = from ≤ i

@@ -1,13 +1,18 @@
-// One vector run: its texts checked in rooms of its lengths, and all that comes back compared.
-ghost use Rattle.io.specs.Counts.{Counts};
+// One check run: the texts checked in rooms of the lengths that the vector says, and all that comes back compared.
 use super::back::Back;
-use super::back::back_of;
+use super::back::count_of;
+use super::back::written_back;
+use super::lent::lent_words;
+use super::tell::Ran;
+use super::tell::and_more;
+use super::tell::is_said;
+use super::tell::print_differing;
+use super::tell::print_unless;
 use super::vector::ENTRY_WORDS;
-use super::vector::NUMBER;
-use super::vector::PLACE;
-use super::vector::SIDE;
 use super::vector::SOURCE_WORDS;
 use super::vector::TARGET_WORDS;
+use super::vector::between;
+use super::vector::check_vector;
 use super::vector::number_at;
 use checker::Checked;
 use checker::check;
@@ -17,7 +22,6 @@ use event::Number;
 use event::WORDS;
 use event::Word;
 use event::kind::is_in;
-use event::number_index;
 use text::word::same_bytes;
 
 // What every word of a room is before a check: no word of an event or entry that a vector has.
@@ -27,29 +31,19 @@ const MARK: Word = 3735928559;
 const MOST_EVENTS: usize = 800;
 
 // What a check in rooms gives, and whether the rooms hold nothing but what they should.
-struct Ran {
+struct InRooms {
     answer: Answer,
     rooms_right: bool,
 }
 
 // What a vector gives, and which of it is what the vector says.
-pub(crate) struct Outcome {
-    pub answer: Answer,
-    pub answer_right: bool,
-    pub line_right: bool,
-    pub rooms_right: bool,
-    pub source_back: Back,
-    pub target_back: Back,
-}
-
-// The words of a room that is lent, of the words that there are.
-pub(crate) fn lent_words(room: &[Word], words: usize) -> usize
-    ensures { λ r. ⌜ Counts r (now (room .entry)) ⌝ }
-{
-    if words < room.len() {
-        return words;
-    }
-    room.len()
+struct Outcome {
+    answer: Answer,
+    answer_right: bool,
+    line_right: bool,
+    rooms_right: bool,
+    source_back: Back,
+    target_back: Back,
 }
 
 // The words of events.
@@ -106,7 +100,7 @@ fn check_in(
     source_room: &mut [Word],
     target_room: &mut [Word],
     entry_room: &mut [Word],
-) -> Ran {
+) -> InRooms {
     let source_words = lent_words(source_room, number_at(header, SOURCE_WORDS));
     let target_words = lent_words(target_room, number_at(header, TARGET_WORDS));
     let entry_words = lent_words(entry_room, number_at(header, ENTRY_WORDS));
@@ -120,25 +114,14 @@ fn check_in(
     );
     let answer = checked.answer;
     let rooms_right = are_unchanged(checked, source_room, target_room, entry_room);
-    Ran {
+    InRooms {
         answer,
         rooms_right,
     }
 }
 
-// Whether an answer is the one that the header says.
-fn is_said(header: &[u8], answer: Answer) -> bool {
-    if number_index(answer.number) != number_at(header, NUMBER) {
-        return false;
-    }
-    if number_index(answer.side) != number_at(header, SIDE) {
-        return false;
-    }
-    answer.place == number_at(header, PLACE)
-}
-
 // A vector's texts checked, and all that comes back compared.
-pub(crate) fn outcome_of<'a>(
+fn outcome_of<'a>(
     source: &'a [u8],
     target: &'a [u8],
     matching: &[u8],
@@ -160,8 +143,8 @@ pub(crate) fn outcome_of<'a>(
     let answer = ran.answer;
     let answer_right = is_said(header, answer);
     let line_right = same_bytes(offending_line(source, target, answer), line);
-    let source_back = back_of(source);
-    let target_back = back_of(target);
+    let source_back = written_back(source);
+    let target_back = written_back(target);
     Outcome {
         answer,
         answer_right,
@@ -169,5 +152,57 @@ pub(crate) fn outcome_of<'a>(
         rooms_right: ran.rooms_right,
         source_back,
         target_back,
+    }
+}
+
+// Whether all that a check gives is what its vector says.
+fn is_right(outcome: Outcome) -> bool {
+    if !outcome.answer_right {
+        return false;
+    }
+    if !outcome.line_right {
+        return false;
+    }
+    if !outcome.source_back.right {
+        return false;
+    }
+    if !outcome.target_back.right {
+        return false;
+    }
+    outcome.rooms_right
+}
+
+// A check that differs.
+fn print_outcome(ordinal: usize, header: &[u8], outcome: Outcome) {
+    print_differing(ordinal, header, outcome.answer);
+    print_unless(outcome.line_right, b"another line\n");
+    print_unless(outcome.rooms_right, b"a room changed\n");
+    print_unless(outcome.source_back.right, b"another source written\n");
+    print_unless(outcome.target_back.right, b"another target written\n");
+}
+
+// The check of the data that begins at a place.
+pub(crate) fn run_check(data: &[u8], at: usize, ordinal: usize) -> Ran {
+    let vector = check_vector(data, at);
+    let header = between(data, at, vector.header_end);
+    let outcome = outcome_of(
+        between(data, vector.source, vector.target),
+        between(data, vector.target, vector.matching),
+        between(data, vector.matching, vector.line),
+        header,
+        between(data, vector.line, vector.end),
+    );
+    let answer = outcome.answer;
+    let source_back = outcome.source_back;
+    let target_back = outcome.target_back;
+    let right = is_right(outcome);
+    if !right {
+        print_outcome(ordinal, header, outcome);
+    }
+    Ran {
+        answer,
+        right,
+        back: and_more(count_of(source_back), count_of(target_back)),
+        end: vector.end,
     }
 }

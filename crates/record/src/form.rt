@@ -1,0 +1,43 @@
+// The forms of a trace text, told by its line 1. A line's reader, its print and the limit depend on the form, and nothing else does.
+ghost use mathlib.Core.Path.{_≡_};
+ghost use Rattle.record.specs.Form.{coded, limitOf, loses};
+use event::Word;
+use text::line::TEXT_LIMIT;
+
+pub enum Form {
+    One,
+    Two,
+}
+
+// The most bytes of a text of form 2.
+pub const CODED_LIMIT: usize = 37200;
+
+// Whether an event's line ends with a code line.
+pub fn is_coded(form: Form) -> bool
+    ensures { λ r. ⌜ r ≡ coded form ⌝ }
+{
+    match form {
+        Form::One => false,
+        Form::Two => true,
+    }
+}
+
+// Whether a code line would be lost.
+pub fn does_lose(form: Form, code: Word) -> bool
+    ensures { λ r. ⌜ r ≡ loses form code ⌝ }
+{
+    match form {
+        Form::One => code != 0,
+        Form::Two => false,
+    }
+}
+
+// The most bytes of a text.
+pub fn limit_of(form: Form) -> usize
+    ensures { λ r. ⌜ r ≡ limitOf form ⌝ }
+{
+    match form {
+        Form::One => TEXT_LIMIT,
+        Form::Two => CODED_LIMIT,
+    }
+}

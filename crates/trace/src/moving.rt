@@ -1,0 +1,172 @@
+// A trace text moved from one form to the other. It is judged, then counted, then stored, each in a walk over the text: no room of events is lent
+// or kept.
+ghost use mathlib.Core.Path.{_≡_};
+ghost use mathlib.Core.List.{map};
+ghost use Prim.Native.Nat.{_+_, _<_};
+ghost use lib.ListN.{length};
+ghost use Rattle.record.specs.Layout.{eventLine};
+ghost use Rattle.trace.specs.Moving.{moveHead, moveSurvey, moveOf, movedOut};
+ghost use Rattle.trace.specs.Put.{Put, Small};
+ghost use Rattle.trace.specs.Reading.{eventsOn, eventsOf};
+ghost use Rattle.trace.specs.Writing.{lost, textOf, traceText};
+use crate::form::form_of;
+use crate::form::is_of;
+use crate::reading::TraceRead;
+use crate::reading::refusal;
+use crate::reading::survey;
+use crate::writing::put_event;
+use crate::writing::put_start;
+use event::Answer;
+use event::memory::Memory;
+use record::Record;
+use record::form::Form;
+use record::form::does_lose;
+use record::form::limit_of;
+use record::record_of;
+use text::line::line_end;
+use text::line::line_two;
+
+// 19 of a line's event, which has the number k if it is one.
+fn loss_on(to: Form, line: Record, k: usize) -> Answer
+    ensures { λ r. ⌜ r ≡ lost to 1 k (eventsOn line) ⌝ }
+{
+    match line {
+        Record::AnEvent(e) => {
+            if does_lose(to, e.code) {
+                return Answer::new(19, 1, k);
+            }
+            Answer::new(0, 0, 0)
+        }
+        Record::Init { place: _, value: _ } => Answer::new(0, 0, 0),
+        Record::Refused => Answer::new(0, 0, 0),
+    }
+}
+
+// The number of events with a line's.
+fn count_with(n: usize, line: Record) -> usize
+    requires { ⌜ n < 18446744073709551615 ⌝ }
+    ensures { λ r. ⌜ r ≡ n + length (eventsOn line) ⌝ }
+{
+    match line {
+        Record::AnEvent(_) => n + 1,
+        Record::Init { place: _, value: _ } => n,
+        Record::Refused => n,
+    }
+}
+
+// 19: the first event of a text whose code line a form would lose.
+fn loss_in(to: Form, text: &[u8]) -> Answer
+    ensures { λ r. ⌜ r ≡ lost to 1 1 (eventsOf (now (text .entry))) ⌝ }
+{
+    let form = form_of(text);
+    let mut at = line_two(text);
+    let mut n: usize = 0;
+    while at < text.len() {
+        let end = line_end(text, at);
+        let line = record_of(form, &text[at..end]);
+        let found = loss_on(to, line, n + 1);
+        if found.number != 0 {
+            return found;
+        }
+        n = count_with(n, line);
+        at = end + 1;
+    }
+    Answer::new(0, 0, 0)
+}
+
+// 1; and 2 at line 1 for a text that is of the form already.
+fn move_head(to: Form, text: &[u8]) -> Answer
+    ensures { λ r. ⌜ r ≡ moveHead to (now (text .entry)) ⌝ }
+{
+    if limit_of(form_of(text)) < text.len() {
+        return Answer::new(1, 1, 0);
+    }
+    if is_of(to, text) {
+        return Answer::new(2, 1, 1);
+    }
+    Answer::new(0, 0, 0)
+}
+
+// The refusals of a move but 17, and else the starting memory.
+fn survey_to(to: Form, text: &[u8]) -> TraceRead
+    ensures { λ r. ⌜ r ≡ moveSurvey to (now (text .entry)) ⌝ }
+{
+    let head = move_head(to, text);
+    if head.number != 0 {
+        return refusal(head);
+    }
+    let surveyed = survey(text, 1);
+    let found = surveyed.answer;
+    if found.number != 0 {
+        return surveyed;
+    }
+    let loss = loss_in(to, text);
+    if loss.number != 0 {
+        return refusal(loss);
+    }
+    surveyed
+}
+
+// The line of a record's event, with its LF; nothing for a record that is none.
+fn put_line(to: Form, out: &mut [u8], at: usize, line: Record) -> usize
+    requires { ⌜ Small at (textOf (map (eventLine to) (eventsOn line))) ⌝ }
+    ensures { λ r. ⌜ Put (now (out .entry)) at (textOf (map (eventLine to) (eventsOn line))) (now (out .exit)) r ⌝ }
+{
+    match line {
+        Record::AnEvent(e) => put_event(to, out, at, e),
+        Record::Init { place: _, value: _ } => at,
+        Record::Refused => at,
+    }
+}
+
+// The lines of the events of a text.
+fn put_lines(to: Form, out: &mut [u8], at: usize, text: &[u8]) -> usize
+    requires { ⌜ Small at (textOf (map (eventLine to) (eventsOf (now text)))) ⌝ }
+    ensures { λ r. ⌜ Put (now (out .entry)) at (textOf (map (eventLine to) (eventsOf (now (text .entry))))) (now (out .exit)) r ⌝ }
+{
+    let form = form_of(text);
+    let mut next = at;
+    let mut from = line_two(text);
+    while from < text.len() {
+        let end = line_end(text, from);
+        next = put_line(to, out, next, record_of(form, &text[from..end]));
+        from = end + 1;
+    }
+    next
+}
+
+// The whole text in a form, with the starting memory at hand.
+fn put_moved(to: Form, out: &mut [u8], memory: Memory, text: &[u8]) -> usize
+    requires { ⌜ Small 0 (traceText to memory (eventsOf (now text))) ⌝ }
+    ensures { λ r. ⌜ Put (now (out .entry)) 0 (traceText to memory (eventsOf (now (text .entry)))) (now (out .exit)) r ⌝ }
+{
+    let after_start = put_start(to, out, memory);
+    put_lines(to, out, after_start, text)
+}
+
+// How many bytes it has.
+fn moved_size(to: Form, memory: Memory, text: &[u8]) -> usize
+    requires { ⌜ Small 0 (traceText to memory (eventsOf (now text))) ⌝ }
+    ensures { λ r. ⌜ r ≡ length (traceText to memory (eventsOf (now (text .entry)))) ⌝ }
+{
+    let mut none: [u8; 0] = [];
+    put_moved(to, &mut none, memory, text)
+}
+
+// A text of the other form, moved to a form, at the front of the lent bytes; a refusal changes nothing.
+pub fn move_to(to: Form, text: &[u8], out: &mut [u8]) -> Answer
+    ensures { λ r. ⌜ (r ≡ moveOf to (now (text .entry)) (now (out .entry))) × (now (out .exit) ≡ movedOut to (now (text .entry)) (now (out .entry))) ⌝ }
+{
+    let surveyed = survey_to(to, text);
+    let fault = surveyed.answer;
+    if fault.number != 0 {
+        return fault;
+    }
+    let memory = surveyed.memory;
+    let size = moved_size(to, memory, text);
+    if out.len() < size {
+        return Answer::new(17, 0, size);
+    }
+    put_moved(to, out, memory, text);
+    Answer::new(0, 0, size)
+}
