@@ -51,7 +51,7 @@ fn unpack(state: u64) -> Vec<u8> {
 }
 
 fn load(place: u8, first: u32, order: u8) -> Event {
-    Event { kind: Kind::Load, place, order, first, second: 0 }
+    Event { kind: Kind::Load, place, order, first, second: 0, code: 0 }
 }
 
 fn event_of(code: u8, source: &[Event]) -> Event {
@@ -260,7 +260,7 @@ impl<'a> Bench<'a> {
 struct Shape(Event);
 
 fn shape(kind: Kind, place: u8, order: u8, first: u32, second: u32) -> Shape {
-    Shape(Event { kind, place, order, first, second })
+    Shape(Event { kind, place, order, first, second, code: 0 })
 }
 
 impl Shape {

@@ -1,9 +1,9 @@
 //! Cases with answers worked out by hand: the runs of the requirement, and the
-//! limits of every number, count, line and room.
+//! limits of every number, count, line and room. `forms.rs` has those of form 2.
 
 pub type Triple = (u32, u32, u32);
 
-const ALL: usize = 800;
+pub const ALL: usize = 800;
 
 /// What a check is handed; the rooms as events, events and entries.
 #[derive(Clone)]
@@ -21,19 +21,20 @@ impl Case {
 }
 
 /// A case with the answer that it must get.
+#[derive(Clone)]
 pub struct Known {
     pub name: String,
     pub case: Case,
     pub answer: Triple,
 }
 
-const DONE: Triple = (0, 0, 0);
-const TRACE: &str = "trace\t1\n";
-const MATCH: &str = "match\t1\n";
+pub const DONE: Triple = (0, 0, 0);
+pub const TRACE: &str = "trace\t1\n";
+pub const MATCH: &str = "match\t1\n";
 
 /// The text of lines written as in the requirement: fields parted by a blank,
 /// lines by `;`.
-fn text(head: &str, lines: &str) -> Vec<u8> {
+pub fn text(head: &str, lines: &str) -> Vec<u8> {
     let mut text = head.to_string();
     for line in lines.split(';').map(str::trim).filter(|line| !line.is_empty()) {
         text += &line.replace(' ', "\t");
@@ -59,16 +60,17 @@ pub fn keep_all(count: usize) -> Vec<u8> {
     text.into_bytes()
 }
 
-fn raw(head: &str, rest: &[u8]) -> Vec<u8> {
+pub fn raw(head: &str, rest: &[u8]) -> Vec<u8> {
     [head.as_bytes(), rest].concat()
 }
 
-struct List {
-    known: Vec<Known>,
+/// Cases being listed.
+pub struct List {
+    pub known: Vec<Known>,
 }
 
 impl List {
-    fn add(&mut self, name: &str, source: Vec<u8>, target: Vec<u8>, matching: Vec<u8>, rooms: [usize; 3], answer: Triple) {
+    pub fn add(&mut self, name: &str, source: Vec<u8>, target: Vec<u8>, matching: Vec<u8>, rooms: [usize; 3], answer: Triple) {
         let case = Case { source, target, matching, rooms };
         self.known.push(Known { name: name.to_string(), case, answer });
     }
@@ -79,17 +81,17 @@ impl List {
     }
 
     /// A source text that is refused, and the same text as a target.
-    fn bad_trace(&mut self, name: &str, text: Vec<u8>, number: u32, place: u32) {
+    pub fn bad_trace(&mut self, name: &str, text: Vec<u8>, number: u32, place: u32) {
         self.add(&format!("{name}, source"), text.clone(), trace(""), matching(""), [ALL; 3], (number, 1, place));
         self.add(&format!("{name}, target"), trace(""), text, matching(""), [ALL; 3], (number, 2, place));
     }
 
-    fn bad_matching(&mut self, name: &str, text: Vec<u8>, number: u32, place: u32) {
+    pub fn bad_matching(&mut self, name: &str, text: Vec<u8>, number: u32, place: u32) {
         self.add(name, trace(""), trace(""), text, [ALL; 3], (number, 3, place));
     }
 
     /// A lawful trace of so many events, kept as it is.
-    fn good_trace(&mut self, name: &str, text: Vec<u8>, events: usize) {
+    pub fn good_trace(&mut self, name: &str, text: Vec<u8>, events: usize) {
         self.add(name, text.clone(), text, keep_all(events), [ALL; 3], DONE);
     }
 
@@ -231,7 +233,7 @@ fn layouts(list: &mut List) {
         list.bad_line(line);
     }
     let bad_heads: &[&[u8]] = &[
-        b"", b"\n", b"\n\n", b"trace\t1", b"trace", b"t", b"trace\t2\n", b"trace\t1\t\n", b"trace\t01\n", b"trace 1\n",
+        b"", b"\n", b"\n\n", b"trace\t1", b"trace", b"t", b"trace\t3\n", b"trace\t1\t\n", b"trace\t01\n", b"trace 1\n",
         b"Trace\t1\n", b"trace\t1\r\n", b"\ntrace\t1\n", b"trace\t1\0\n", b"\xef\xbb\xbftrace\t1\n", b"match\t1\n",
         b"trace\t1 \n", b"trace\t10\n", b"trace\n1\n", b"trace\t\n", b"\0", b"\xff", b"\r\n",
     ];
@@ -415,7 +417,7 @@ fn rooms(list: &mut List) {
 
 /// A text of `length` bytes that begins with its first line; the rest is one
 /// lawful line again and again, cut off where the length is reached.
-fn filled(head: &str, line: &str, length: usize) -> Vec<u8> {
+pub fn filled(head: &str, line: &str, length: usize) -> Vec<u8> {
     let mut text = head.as_bytes().to_vec();
     text.extend(line.as_bytes().iter().cycle().take(length - head.len()));
     text
@@ -451,7 +453,7 @@ fn counts(list: &mut List) {
     list.add("800 stores, none kept", trace(&stores), trace(""), matching(&"gone;".repeat(800)), [ALL; 3], (14, 1, 545));
 }
 
-/// All cases that are known by hand.
+/// All cases of document 01 that are known by hand.
 pub fn all() -> Vec<Known> {
     let mut list = List { known: runs() };
     for part in [numbers, orders, layouts, inits, values, matchings, judgements, rooms, lengths, counts] {

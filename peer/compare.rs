@@ -2,14 +2,18 @@
 //! `compare COUNT [SEED]`.
 //!
 //! First all cases known by hand, then COUNT random ones, long and short, valid
-//! and damaged, with rooms of every size, each filled with random words before.
-//! Both get the same texts and rooms; everything that comes back is compared:
-//! answers, counts, memories, every word of every room, the offending line; and
-//! the same for a reading alone, for writing, and for reading back. The first
-//! difference is printed whole, and ends the program with status 1.
+//! and damaged, of traces of either form, with rooms of every size, each filled
+//! with random words before. Both get the same texts and rooms; everything that
+//! comes back is compared: answers, counts, memories, every word of every room,
+//! the offending line; and the same for a reading alone, for writing in either
+//! form, for reading back, and for moves between the forms. The first difference
+//! is printed whole, and ends the program with status 1.
 
 #[allow(dead_code)]
 mod cases;
+#[allow(dead_code)]
+mod forms;
+#[allow(dead_code)]
 mod generate;
 #[allow(dead_code)]
 mod ours;
@@ -20,7 +24,8 @@ mod rules;
 mod texts;
 
 use cases::Case;
-use peer::{Answer, Memory, CELLS, EVENT_WORDS, MAX_EVENTS, MAX_TEXT};
+use forms::{KnownWriting, Move};
+use peer::{form_of, Answer, Form, Memory, CELLS, EVENT_WORDS, MAX_EVENTS, MAX_TEXT};
 use random::Random;
 use std::collections::BTreeMap;
 use std::fmt::Debug;
@@ -85,6 +90,15 @@ struct Tally {
     counts: BTreeMap<(&'static str, u32, u32), usize>,
     lines: usize,
     read_back: usize,
+    moved_back: usize,
+}
+
+/// One of two, by a form.
+fn by_form<T>(form: Form, one: T, two: T) -> T {
+    match form {
+        Form::One => one,
+        Form::Two => two,
+    }
 }
 
 impl Tally {
@@ -107,7 +121,14 @@ fn compare_check(given: &Given, tally: &mut Tally) -> Same {
         let what = format!("check: {}", ROOM_NAMES[room]);
         same_room(&what, &rooms[room], &ours_rooms[room], &peer_rooms[room], stored[room])?;
     }
-    tally.add("check", ours.answer);
+    let coded = [&case.source, &case.target].map(|text| form_of(text) == Form::Two);
+    let who = match coded {
+        [false, false] => "check 1 1",
+        [false, true] => "check 1 2",
+        [true, false] => "check 2 1",
+        [true, true] => "check 2 2",
+    };
+    tally.add(who, ours.answer);
     compare_line(case, ours.answer, tally)
 }
 
@@ -129,7 +150,7 @@ fn compare_line(case: &Case, answer: Answer, tally: &mut Tally) -> Same {
 
 /// Any three numbers get a part of a text.
 fn try_any_answer(random: &mut Random, case: &Case) -> Same {
-    let [number, side] = [20, 5].map(|limit| random.below(limit) as u32);
+    let [number, side] = [21, 5].map(|limit| random.below(limit) as u32);
     let place = match random.below(8) {
         0 => random.next() as u32,
         _ => random.below(30) as u32,
@@ -148,9 +169,10 @@ fn compare_trace(text: &[u8], room: &[u32], tally: &mut Tally) -> Result<Option<
     let ours = ours::read_trace(text, &mut ours_room);
     let peer = peer::read_trace(text, &mut peer_room);
     same("reading a trace", &ours, &peer)?;
+    same("form of a trace", &ours::trace_form(text), &by_form(form_of(text), 1, 2))?;
     let stored = ours.events * EVENT_WORDS;
     same_room("reading a trace: room", room, &ours_room, &peer_room, stored)?;
-    tally.add("trace", ours.answer);
+    tally.add(by_form(form_of(text), "trace 1", "trace 2"), ours.answer);
     ours_room.truncate(stored);
     Ok((ours.answer.number == 0).then_some((ours.memory, ours_room)))
 }
@@ -165,24 +187,54 @@ fn compare_matching(text: &[u8], room: &[u32], tally: &mut Tally) -> Same {
     Ok(())
 }
 
-/// A trace written into so many bytes, and read back.
-fn compare_writing(random: &mut Random, memory: &Memory, words: &[u32], bytes: usize, tally: &mut Tally) -> Same {
+/// A call that writes into so many bytes: its answer, and the text if it is done.
+fn compare_bytes(
+    random: &mut Random,
+    what: &str,
+    bytes: usize,
+    ours: impl Fn(&mut [u8]) -> Answer,
+    peer: impl Fn(&mut [u8]) -> Answer,
+) -> Result<(Answer, Option<Vec<u8>>), Difference> {
     let before: Vec<u8> = (0..bytes).map(|_| random.next() as u8).collect();
     let [mut ours_out, mut peer_out] = [before.clone(), before.clone()];
-    let ours = ours::write_trace(memory, words, &mut ours_out);
-    let peer = peer::write_trace(memory, words, &mut peer_out);
-    same("writing: answer", &ours, &peer)?;
-    same("writing: bytes", &ours_out, &peer_out)?;
+    let [ours, peer] = [ours(&mut ours_out), peer(&mut peer_out)];
+    same(&format!("{what}: answer"), &ours, &peer)?;
+    same(&format!("{what}: bytes"), &ours_out, &peer_out)?;
     let written = if ours.number == 0 { ours.place as usize } else { 0 };
-    same("writing: the other bytes", &&ours_out[written..], &&before[written..])?;
-    tally.add("writer", ours);
-    if ours.number == 0 && written <= MAX_TEXT {
+    same(&format!("{what}: the other bytes"), &&ours_out[written..], &&before[written..])?;
+    ours_out.truncate(written);
+    Ok((ours, (ours.number == 0).then_some(ours_out)))
+}
+
+/// A trace written into so many bytes, and read back.
+fn compare_writing(random: &mut Random, form: Form, memory: &Memory, words: &[u32], bytes: usize, tally: &mut Tally) -> Same {
+    let ours = |out: &mut [u8]| ours::write_trace(form, memory, words, out);
+    let peer = |out: &mut [u8]| peer::write_trace(form, memory, words, out);
+    let (answer, written) = compare_bytes(random, "writing", bytes, ours, peer)?;
+    tally.add(by_form(form, "writer 1", "writer 2"), answer);
+    if let Some(text) = written {
         let mut room = random_words(random, words.len());
-        let read = ours::read_trace(&ours_out[..written], &mut room);
+        let read = ours::read_trace(&text, &mut room);
         same("reading back: answer", &read.answer, &Answer { number: 0, side: 0, place: 0 })?;
         same("reading back: memory", &read.memory, memory)?;
         same("reading back: words", &room.as_slice(), &words)?;
         tally.read_back += 1;
+    }
+    Ok(())
+}
+
+/// A text moved to a form, and back.
+fn compare_move(random: &mut Random, Move { to, text, bytes }: &Move, tally: &mut Tally) -> Same {
+    let ours = |out: &mut [u8]| ours::move_to(*to, text, out);
+    let peer = |out: &mut [u8]| peer::move_to(*to, text, out);
+    let (answer, moved) = compare_bytes(random, "move", *bytes, ours, peer)?;
+    tally.add(by_form(*to, "move to 1", "move to 2"), answer);
+    if let Some(moved) = moved {
+        let mut back = vec![0; text.len()];
+        let answer = ours::move_to(form_of(text), &moved, &mut back);
+        same("moving back: answer", &answer, &Answer { number: 0, side: 0, place: text.len() as u32 })?;
+        same("moving back: bytes", &back, text)?;
+        tally.moved_back += 1;
     }
     Ok(())
 }
@@ -202,7 +254,7 @@ fn changed_memory(random: &mut Random, memory: &Memory) -> Memory {
 fn changed_words(random: &mut Random, words: &[u32]) -> Vec<u32> {
     let mut words = words.to_vec();
     let at = random.below(words.len().max(1));
-    match random.below(10) {
+    match random.below(14) {
         0 if at < words.len() => words[at] = random.next() as u32,
         1 if at < words.len() => words[at] = random.below(12) as u32,
         2 => words.truncate(at),
@@ -212,6 +264,14 @@ fn changed_words(random: &mut Random, words: &[u32]) -> Vec<u32> {
             let longer = (MAX_EVENTS - 3) * EVENT_WORDS + random.below(6 * EVENT_WORDS);
             words = words.iter().copied().cycle().take(longer).collect();
         }
+        6 => words.chunks_exact_mut(EVENT_WORDS).for_each(|event| event[EVENT_WORDS - 1] = random.below(65_536) as u32),
+        7 => words.chunks_exact_mut(EVENT_WORDS).for_each(|event| event[EVENT_WORDS - 1] = 0),
+        8 if words.len() >= EVENT_WORDS => {
+            let event = at / EVENT_WORDS * EVENT_WORDS;
+            if let Some(code) = words.get_mut(event + EVENT_WORDS - 1) {
+                *code = random.pick(&[0, 1, 65_535, 65_536, 65_537, 131_072, u32::MAX]);
+            }
+        }
         _ => {}
     }
     words
@@ -220,19 +280,10 @@ fn changed_words(random: &mut Random, words: &[u32]) -> Vec<u32> {
 fn try_writing(random: &mut Random, memory: &Memory, words: &[u32], tally: &mut Tally) -> Same {
     let memory = changed_memory(random, memory);
     let words = changed_words(random, words);
-    // The bytes that are needed, to lend about as many.
-    let needed = match peer::write_trace(&memory, &words, &mut []) {
-        Answer { number: 17, place, .. } => place as usize,
-        _ => 100,
-    };
-    let bytes = match random.below(8) {
-        0 => random.below(needed + 1),
-        1 => needed - 1,
-        2 => random.below(MAX_TEXT + 10),
-        3 => needed + random.below(40),
-        _ => needed,
-    };
-    compare_writing(random, &memory, &words, bytes, tally)
+    let form = random.pick(&[Form::One, Form::Two]);
+    let needed = generate::bytes_needed(peer::write_trace(form, &memory, &words, &mut []));
+    let bytes = generate::bytes_for(random, needed);
+    compare_writing(random, form, &memory, &words, bytes, tally)
 }
 
 fn compare(random: &mut Random, given: &Given, tally: &mut Tally) -> Same {
@@ -242,6 +293,8 @@ fn compare(random: &mut Random, given: &Given, tally: &mut Tally) -> Same {
         if let Some((memory, words)) = compare_trace(text, room, tally)? {
             try_writing(random, &memory, &words, tally)?;
         }
+        let handed = generate::move_of(random, text);
+        compare_move(random, &handed, tally)?;
     }
     compare_matching(&given.case.matching, &given.rooms[2], tally)
 }
@@ -253,6 +306,11 @@ fn long_case(random: &mut Random) -> Case {
         _ => 20 + random.below(MAX_EVENTS - 20),
     };
     let mut case = generate::lawful_case(random, events);
+    for text in [&mut case.source, &mut case.target] {
+        if random.once_in(2) {
+            generate::add_codes(random, text);
+        }
+    }
     let text = random.pick(&[0, 1, 2]);
     let text = [&mut case.source, &mut case.target, &mut case.matching].into_iter().nth(text).expect("a text");
     match random.below(6) {
@@ -266,11 +324,13 @@ fn long_case(random: &mut Random) -> Case {
 
 /// Lines said again and again, up to about the most events or the most bytes.
 fn lengthen(random: &mut Random, text: &mut Vec<u8>) {
-    let line: &[u8] = if text.starts_with(b"match") { b"gone\n" } else { b"lock\t0\n" };
+    let form = form_of(text);
+    let line: &[u8] = if text.starts_with(b"match") { b"gone\n" } else { by_form(form, b"lock\t0\n".as_slice(), b"lock\t0\t77\n") };
     let lines = text.iter().filter(|&&byte| byte == b'\n').count();
+    let limit = random.pick(&[form.limit(), form.limit(), MAX_TEXT]);
     let more = match random.below(2) {
         0 => (MAX_EVENTS + random.below(5)).saturating_sub(lines) * line.len(),
-        _ => (MAX_TEXT + random.below(5)).saturating_sub(text.len() + 2),
+        _ => (limit + random.below(5)).saturating_sub(text.len() + 2),
     };
     text.extend(line.iter().copied().cycle().take(more));
 }
@@ -278,16 +338,17 @@ fn lengthen(random: &mut Random, text: &mut Vec<u8>) {
 /// Bytes that are hardly a text.
 fn noise(random: &mut Random) -> Vec<u8> {
     const ALPHABET: [u8; 24] = *b"\t\n\t\n01259aceilmnorstu\0\xff ";
-    (0..random.below(60)).map(|_| random.pick(&ALPHABET)).collect()
+    let head: &[u8] = random.pick(&[b"", b"", b"trace\t1\n", b"trace\t2\n"]);
+    head.iter().copied().chain((0..random.below(60)).map(|_| random.pick(&ALPHABET))).collect()
 }
 
 fn random_case(random: &mut Random) -> Case {
     match random.below(64) {
         0 => long_case(random),
-        1 => Case { source: noise(random), ..generate::case(random) },
-        2 => Case { target: noise(random), ..generate::case(random) },
-        3 => Case { matching: noise(random), ..generate::case(random) },
-        _ => generate::case(random),
+        1 => Case { source: noise(random), ..generate::mixed_case(random) },
+        2 => Case { target: noise(random), ..generate::mixed_case(random) },
+        3 => Case { matching: noise(random), ..generate::mixed_case(random) },
+        _ => generate::mixed_case(random),
     }
 }
 
@@ -304,20 +365,38 @@ fn tell(given: &Given, difference: &Difference) {
 
 fn print_tally(tally: &Tally) {
     for ((who, number, side), count) in &tally.counts {
-        println!("{who:8} answer {number:2} side {side}: {count:8}");
+        println!("{who:9} answer {number:2} side {side}: {count:8}");
     }
-    println!("{} offending lines, {} texts read back", tally.lines, tally.read_back);
+    println!("{} offending lines, {} texts read back, {} moved back", tally.lines, tally.read_back, tally.moved_back);
+}
+
+/// The moves and the writings that are known by hand.
+fn compare_known(random: &mut Random, tally: &mut Tally) -> Same {
+    let told = |name: &str, same: Same| same.map_err(|Difference(told)| Difference(format!("{name}: {told}")));
+    for known in forms::moves() {
+        told(&known.name, compare_move(random, &known.handed, tally))?;
+    }
+    for KnownWriting { name, handed, .. } in forms::writings() {
+        let (memory, words) = handed.read();
+        told(&name, compare_writing(random, handed.form, &memory, &words, handed.bytes, tally))?;
+    }
+    Ok(())
 }
 
 fn main() {
     let mut arguments = std::env::args().skip(1).map(|word| word.parse::<u64>().expect("a number"));
     let count = arguments.next().expect("compare COUNT [SEED]");
     let seed = arguments.next().unwrap_or(1);
-    let known: Vec<Case> = cases::all().into_iter().map(|known| known.case).collect();
+    let known = [cases::all(), forms::checks()].concat();
+    let known: Vec<Case> = known.into_iter().map(|known| known.case).collect();
     let by_hand = known.len();
     println!("seed {seed}, {count} cases, after {by_hand} known by hand");
     let mut seeds = Random::new(seed);
     let mut tally = Tally::default();
+    if let Err(difference) = compare_known(&mut seeds, &mut tally) {
+        println!("DIFFERENCE in {}", difference.0);
+        std::process::exit(1);
+    }
     let known = known.into_iter().map(Some);
     for (index, known) in known.chain((0..count).map(|_| None)).enumerate() {
         let mut random = Random::new(seeds.next());

@@ -1,10 +1,12 @@
 //! Random triples of texts. A random source is changed by lawful removals,
 //! swaps and insertions to a target, and the matching is kept along; then in
 //! most a fault is planted, in the moves, the events, the matching, the rooms
-//! or the bytes.
+//! or the bytes. Traces of form 2 are made from those of form 1 by code lines at
+//! will; from them come moves between the forms, and writings in both.
 
 use crate::cases::Case;
-use crate::peer::{order, Event, Kind, Memory, CELLS, MAX_EVENTS};
+use crate::forms::{Move, Writing, PLENTY};
+use crate::peer::{self, order, Answer, Event, Form, Kind, Memory, CELLS, EVENT_WORDS, MAX_EVENTS};
 use crate::random::Random;
 use crate::{rules, texts};
 
@@ -64,9 +66,9 @@ impl World {
         let place = random.pick(&self.plain);
         if random.once_in(2) {
             let mark = random.pick(&[order::USED, order::USED, order::UNUSED]);
-            Event { kind: Kind::Load, place, order: mark, first: memory[usize::from(place)], second: 0 }
+            Event { kind: Kind::Load, place, order: mark, first: memory[usize::from(place)], second: 0, code: 0 }
         } else {
-            Event { kind: Kind::Store, place, order: order::NONE, first: random.pick(&self.values), second: 0 }
+            Event { kind: Kind::Store, place, order: order::NONE, first: random.pick(&self.values), second: 0, code: 0 }
         }
     }
 
@@ -84,7 +86,7 @@ impl World {
             Kind::Fence => (0, &RMW_ORDERS[1..], 0, 0),
             _ => (random.pick(&self.mutexes), &[order::NONE], 0, 0),
         };
-        Event { kind, place, order: random.pick(orders), first, second }
+        Event { kind, place, order: random.pick(orders), first, second, code: 0 }
     }
 }
 
@@ -159,7 +161,7 @@ impl Draft {
         if self.target.len() < MAX_EVENTS {
             if let Some(first) = rules::insertable_value(&self.target, at, place) {
                 let mark = random.pick(&[order::USED, order::UNUSED]);
-                self.insert(at, Event { kind: Kind::Load, place, order: mark, first, second: 0 });
+                self.insert(at, Event { kind: Kind::Load, place, order: mark, first, second: 0, code: 0 });
             }
         }
     }
@@ -313,6 +315,47 @@ pub fn disorder(random: &mut Random, text: &mut Vec<u8>) {
     *text = lines.concat();
 }
 
+/// Code lines of one to five digits, often the one that form 1 does not lose.
+fn code(random: &mut Random) -> u32 {
+    random.pick(&[0, 0, 0, 0, 1, 7, 9, 10, 99, 100, 999, 1_000, 9_999, 10_000, 65_534, 65_535])
+}
+
+/// A trace of form 1 turned to form 2, with code lines at will or all 0.
+pub fn add_codes(random: &mut Random, text: &mut Vec<u8>) {
+    let zeros = random.once_in(3);
+    *text = texts::with_codes(text, || if zeros { 0 } else { code(random) });
+}
+
+/// The code line of one event changed to what is none, or left out.
+pub fn damage_code(random: &mut Random, text: &mut Vec<u8>) {
+    const NO_CODES: [&str; 12] =
+        ["\t65536", "\t65537", "\t99999", "\t100000", "\t4294967296", "\t00", "\t07", "\t", "\t-1", "\t1\t", "\t1\r", ""];
+    let starts = line_starts(text);
+    let from = starts.get(random.below(starts.len().max(1))).copied().unwrap_or(0);
+    let Some(length) = text[from..].iter().position(|&byte| byte == b'\n') else {
+        return;
+    };
+    if let Some(tab) = text[from..from + length].iter().rposition(|&byte| byte == b'\t') {
+        text.splice(from + tab..from + length, random.pick(&NO_CODES).bytes());
+    }
+}
+
+/// A triple of any sort, each of its traces in one of the forms.
+pub fn mixed_case(random: &mut Random) -> Case {
+    let mut case = case(random);
+    for text in [&mut case.source, &mut case.target] {
+        if random.once_in(2) {
+            add_codes(random, text);
+            match random.below(24) {
+                0 | 1 => damage_code(random, text),
+                2 => damage(random, text),
+                _ => {}
+            }
+        }
+    }
+    case
+}
+
 /// Mostly short traces, and some in which event numbers have two digits.
 fn size(random: &mut Random) -> usize {
     match random.below(8) {
@@ -369,8 +412,55 @@ pub fn faulty_case(random: &mut Random) -> Case {
     case
 }
 
-/// A triple of any sort.
-#[allow(dead_code)]
+/// Bytes for a text that needs so many: mostly that many, or about as many.
+pub fn bytes_for(random: &mut Random, needed: usize) -> usize {
+    match random.below(8) {
+        0 => random.below(needed + 1),
+        1 => needed - 1,
+        2 => random.below(PLENTY + 1),
+        3 => needed + random.below(40),
+        _ => needed,
+    }
+}
+
+/// What a call needs that is lent no bytes; anything for one that is refused.
+pub fn bytes_needed(refused: Answer) -> usize {
+    match refused {
+        Answer { number: peer::number::ROOM_TOO_SHORT, place, .. } => place as usize,
+        _ => 100,
+    }
+}
+
+/// A move of a text, mostly to the form that it has not.
+pub fn move_of(random: &mut Random, text: &[u8]) -> Move {
+    let to = match (peer::form_of(text), random.once_in(8)) {
+        (Form::One, false) | (Form::Two, true) => Form::Two,
+        _ => Form::One,
+    };
+    let needed = bytes_needed(peer::move_to(to, text, &mut []));
+    Move { to, text: text.to_vec(), bytes: bytes_for(random, needed) }
+}
+
+/// A writing of a lawful trace in one of the forms, often with one word changed.
+pub fn writing_of(random: &mut Random, text: &[u8], events: usize) -> Writing {
+    let form = random.pick(&[Form::One, Form::Two]);
+    let words = match random.below(12) {
+        0 => random.below(events * EVENT_WORDS + EVENT_WORDS),
+        _ => events * EVENT_WORDS,
+    };
+    let change = (words > 0 && random.once_in(2)).then(|| {
+        let code = words.min(EVENT_WORDS * (1 + random.below(events.max(1)))) - 1;
+        let at = if random.once_in(2) { code } else { random.below(words) };
+        (at, random.pick(&[0, 1, 2, 7, 9, 255, 256, 65_535, 65_536, u32::MAX]))
+    });
+    let mut writing = Writing { form, text: text.to_vec(), words, change, bytes: 0 };
+    let (memory, words) = writing.read();
+    let needed = bytes_needed(peer::write_trace(form, &memory, &words, &mut []));
+    writing.bytes = bytes_for(random, needed);
+    writing
+}
+
+/// A triple of any sort, of traces of form 1.
 pub fn case(random: &mut Random) -> Case {
     if random.once_in(8) {
         let events = size(random);

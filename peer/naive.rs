@@ -1,7 +1,7 @@
 //! The same check as slowly and literally as the requirement states it: fields
 //! as strings, quadratic searches, one list of tests after another. It exists
 //! to be compared with the fast one and shares no code with it. It stays at
-//! document 01: no later request is in it, and cases of those are not put to it.
+//! document 01: no later request is in it. `slow.rs` puts traces of form 2 to it.
 
 pub type Triple = (u32, u32, u32);
 
@@ -38,10 +38,9 @@ pub struct Trace {
     pub rows: Vec<Row>,
 }
 
-/// All that a check is to leave behind.
+/// The answer of a check and what it is to leave behind.
 pub struct Outcome {
     pub answer: Triple,
-    pub line: Vec<u8>,
     /// What is stored, unless a reading was refused.
     pub stored: Option<(Trace, Trace, Vec<u32>)>,
 }
@@ -106,7 +105,7 @@ fn lines(text: &[u8]) -> Vec<(String, bool)> {
         .collect()
 }
 
-fn read_trace(text: &[u8], side: u32, room: usize) -> Result<Trace, Triple> {
+pub fn read_trace(text: &[u8], side: u32, room: usize) -> Result<Trace, Triple> {
     if text.len() > 32400 {
         return Err((1, side, 0));
     }
@@ -288,7 +287,7 @@ fn judge_source_event(rows: &[Row], target: &[Row], entries: &[u32], at: usize) 
     (is_closing(rows, entries, at) && !has_witness(rows, entries, at)).then_some(14)
 }
 
-fn offending_line(source: &[u8], target: &[u8], (number, side, place): Triple) -> Vec<u8> {
+pub fn offending_line(source: &[u8], target: &[u8], (number, side, place): Triple) -> Vec<u8> {
     let text = match side {
         1 => source,
         2 => target,
@@ -318,6 +317,5 @@ pub fn check(texts: [&[u8]; 3], rooms: [usize; 3]) -> Outcome {
         Ok(read) => (judge(&read.0, &read.1, &read.2), Some(read)),
         Err(answer) => (answer, None),
     };
-    let line = offending_line(texts[0], texts[1], answer);
-    Outcome { answer, line, stored }
+    Outcome { answer, stored }
 }

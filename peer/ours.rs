@@ -1,7 +1,7 @@
 //! The proved library, linked in as `libexport.a` and called through its C
 //! functions, with the results of `peer.rs`.
 
-use crate::peer::{Answer, Checked, MatchingRead, Memory, TraceRead, CELLS};
+use crate::peer::{Answer, Checked, Form, MatchingRead, Memory, TraceRead, CELLS};
 
 #[path = "../door/laprunto.rs"]
 mod door;
@@ -67,10 +67,33 @@ pub fn read_matching(text: &[u8], room: &mut [u32]) -> MatchingRead {
     MatchingRead { answer: answer(number, side, place), entries }
 }
 
-pub fn write_trace(memory: &Memory, room: &[u32], out: &mut [u8]) -> Answer {
+/// What a form is called in a call.
+fn form_number(form: Form) -> u32 {
+    match form {
+        Form::One => 1,
+        Form::Two => 2,
+    }
+}
+
+/// The form as its number.
+pub fn trace_form(text: &[u8]) -> u32 {
+    unsafe { door::laprunto_trace_form(text.as_ptr(), text.len()) }
+}
+
+pub fn write_trace(form: Form, memory: &Memory, room: &[u32], out: &mut [u8]) -> Answer {
     let mut result = [STALE; 3];
     unsafe {
-        door::laprunto_write_trace(memory, room.as_ptr(), room.len(), out.as_mut_ptr(), out.len(), &mut result);
+        let form = form_number(form);
+        door::laprunto_write_trace(form, memory, room.as_ptr(), room.len(), out.as_mut_ptr(), out.len(), &mut result);
+    }
+    let [number, side, place] = result;
+    answer(number, side, place)
+}
+
+pub fn move_to(to: Form, text: &[u8], out: &mut [u8]) -> Answer {
+    let mut result = [STALE; 3];
+    unsafe {
+        door::laprunto_move_trace(form_number(to), text.as_ptr(), text.len(), out.as_mut_ptr(), out.len(), &mut result);
     }
     let [number, side, place] = result;
     answer(number, side, place)

@@ -10,8 +10,10 @@
 
 // ---------------------------------------------------------------- constants
 
-/// The longest text that is read, in bytes.
+/// The longest matching, and the longest trace of form 1, in bytes.
 pub const MAX_TEXT: usize = 32_400;
+/// The longest trace of form 2, in bytes.
+pub const MAX_CODED_TEXT: usize = 37_200;
 /// The most events of a trace, and the most entries of a matching.
 pub const MAX_EVENTS: usize = 800;
 /// Locations are numbered 0 to 255, and so are mutexes.
@@ -21,19 +23,20 @@ pub const EVENT_WORDS: usize = 6;
 
 /// The highest location or mutex.
 const MAX_PLACE: u32 = 255;
+/// The highest code line.
+const MAX_CODE: u32 = 65_535;
 /// Ten digits are enough for every lawful number; more are always too many.
 const MAX_DIGITS: usize = 10;
 /// `lock`, tab, one digit, LF: bounds the events that a text can hold.
 const SHORTEST_EVENT_LINE: usize = 7;
 /// `gone`, LF: bounds the entries that a text can hold.
 const SHORTEST_ENTRY_LINE: usize = 5;
-/// No line that the writer makes is longer (an `rmw` with all fields full has 34).
+/// No line that the writer makes is longer: an `rmw` of form 2 with all fields full.
 const LONGEST_LINE: usize = 40;
 
 const TAB: u8 = b'\t';
 const LF: u8 = b'\n';
 
-const TRACE_HEADER: &[u8] = b"trace\t1\n";
 const MATCHING_HEADER: &[u8] = b"match\t1\n";
 
 /// The number of an answer.
@@ -57,6 +60,7 @@ pub mod number {
     pub const NOTHING_NEAR: u32 = 16;
     pub const ROOM_TOO_SHORT: u32 = 17;
     pub const BAD_FIELDS: u32 = 18;
+    pub const CODE_LOST: u32 = 19;
 }
 
 /// The side of an answer.
@@ -81,6 +85,46 @@ pub mod order {
 }
 
 // -------------------------------------------------------------------- types
+
+/// The form of a trace text. An event line of form 2 ends with its code line.
+#[derive(Clone, Copy, Debug, PartialEq, Eq)]
+pub enum Form {
+    One,
+    Two,
+}
+
+impl Form {
+    const fn header(self) -> &'static [u8] {
+        match self {
+            Form::One => b"trace\t1\n",
+            Form::Two => b"trace\t2\n",
+        }
+    }
+
+    pub const fn limit(self) -> usize {
+        match self {
+            Form::One => MAX_TEXT,
+            Form::Two => MAX_CODED_TEXT,
+        }
+    }
+
+    /// What closes the field of an event line that is the last in form 1.
+    const fn close(self) -> u8 {
+        match self {
+            Form::One => LF,
+            Form::Two => TAB,
+        }
+    }
+}
+
+/// Form 2 exactly where the text begins with its first line, LF included.
+pub fn form_of(text: &[u8]) -> Form {
+    if text.starts_with(Form::Two.header()) {
+        Form::Two
+    } else {
+        Form::One
+    }
+}
 
 /// The value of every location.
 pub type Memory = [u32; CELLS];
@@ -217,8 +261,8 @@ impl Kind {
     }
 }
 
-/// An event, in half the bytes that it takes in a room. Fields that the kind
-/// does not have are 0.
+/// An event, in fewer bytes than it takes in a room. Fields that the kind does
+/// not have are 0, and so is the code line in form 1.
 #[derive(Clone, Copy, Debug, PartialEq, Eq)]
 pub struct Event {
     pub kind: Kind,
@@ -230,12 +274,14 @@ pub struct Event {
     pub first: u32,
     /// `rmw`'s new value, `add`'s operand.
     pub second: u32,
+    /// The code line.
+    pub code: u16,
 }
 
 impl Event {
-    /// The six words of the event in a room. The sixth, the code, is 0.
+    /// The six words of the event in a room.
     pub fn words(self) -> [u32; EVENT_WORDS] {
-        [self.kind as u32, self.place.into(), self.order.into(), self.first, self.second, 0]
+        [self.kind as u32, self.place.into(), self.order.into(), self.first, self.second, self.code.into()]
     }
 
     /// The event of six words, if they are of the layout.
@@ -246,16 +292,16 @@ impl Event {
         let kind = *KINDS.get((kind as usize).checked_sub(1)?)?;
         let place = u8::try_from(place).ok()?;
         let order = u8::try_from(order).ok().filter(|&order| order <= order::UNUSED)?;
+        let code = u16::try_from(code).ok()?;
         let lawful = kind.suits(order)
             && (kind.has_place() || place == 0)
             && (kind.values() >= 1 || first == 0)
-            && (kind.values() == 2 || second == 0)
-            && code == 0;
-        lawful.then_some(Event { kind, place, order, first, second })
+            && (kind.values() == 2 || second == 0);
+        lawful.then_some(Event { kind, place, order, first, second, code })
     }
 
-    /// Equality, the marks of loads apart.
-    fn same_but_for_mark(self, other: Event) -> bool {
+    /// Equality, the marks of loads and the code lines apart.
+    fn is_kept_as(self, other: Event) -> bool {
         self.kind == other.kind
             && self.place == other.place
             && self.first == other.first
@@ -271,6 +317,8 @@ impl Event {
 /// line is then not of the layout and nothing after it matters.
 struct Cursor<'a> {
     rest: &'a [u8],
+    /// The form of a trace; a matching has none and goes as form 1.
+    form: Form,
 }
 
 /// One line of a trace after the first.
@@ -334,16 +382,26 @@ impl Cursor<'_> {
         (*close == end && kind.suits(order)).then_some(order)
     }
 
-    /// The mark of a load, and the end of its line.
+    /// The mark of a load, and the byte that closes its field.
     #[inline]
-    fn mark(&mut self) -> Option<u8> {
-        let (mark, rest) = match self.rest {
-            [b'u', b's', b'e', b'd', LF, rest @ ..] => (order::USED, rest),
-            [b'u', b'n', b'u', b's', b'e', b'd', LF, rest @ ..] => (order::UNUSED, rest),
+    fn mark(&mut self, end: u8) -> Option<u8> {
+        let (mark, close, rest) = match self.rest {
+            [b'u', b's', b'e', b'd', close, rest @ ..] => (order::USED, close, rest),
+            [b'u', b'n', b'u', b's', b'e', b'd', close, rest @ ..] => (order::UNUSED, close, rest),
             _ => return None,
         };
         self.rest = rest;
-        Some(mark)
+        (*close == end).then_some(mark)
+    }
+
+    /// The event of these fields, after which form 2 has the code line.
+    #[inline]
+    fn event(&mut self, kind: Kind, place: u8, order: u8, first: u32, second: u32) -> Option<Record> {
+        let code = match self.form {
+            Form::One => 0,
+            Form::Two => self.number(MAX_CODE, LF)? as u16,
+        };
+        Some(Record::Event(Event { kind, place, order, first, second, code }))
     }
 
     /// A whole trace line with its LF.
@@ -375,23 +433,23 @@ impl<'a> Cursor<'a> {
     fn load(&mut self) -> Option<Record> {
         let place = self.place(TAB)?;
         let first = self.value(TAB)?;
-        let order = self.mark()?;
-        Some(Record::Event(Event { kind: Kind::Load, place, order, first, second: 0 }))
+        let order = self.mark(self.form.close())?;
+        self.event(Kind::Load, place, order, first, 0)
     }
 
     #[inline]
     fn store(&mut self) -> Option<Record> {
         let place = self.place(TAB)?;
-        let first = self.value(LF)?;
-        Some(Record::Event(Event { kind: Kind::Store, place, order: order::NONE, first, second: 0 }))
+        let first = self.value(self.form.close())?;
+        self.event(Kind::Store, place, order::NONE, first, 0)
     }
 
     #[inline]
     fn atomic(&mut self, kind: Kind) -> Option<Record> {
         let place = self.place(TAB)?;
         let order = self.order(kind, TAB)?;
-        let first = self.value(LF)?;
-        Some(Record::Event(Event { kind, place, order, first, second: 0 }))
+        let first = self.value(self.form.close())?;
+        self.event(kind, place, order, first, 0)
     }
 
     #[inline]
@@ -399,20 +457,20 @@ impl<'a> Cursor<'a> {
         let place = self.place(TAB)?;
         let order = self.order(kind, TAB)?;
         let first = self.value(TAB)?;
-        let second = self.value(LF)?;
-        Some(Record::Event(Event { kind, place, order, first, second }))
+        let second = self.value(self.form.close())?;
+        self.event(kind, place, order, first, second)
     }
 
     #[inline]
     fn fence(&mut self) -> Option<Record> {
-        let order = self.order(Kind::Fence, LF)?;
-        Some(Record::Event(Event { kind: Kind::Fence, place: 0, order, first: 0, second: 0 }))
+        let order = self.order(Kind::Fence, self.form.close())?;
+        self.event(Kind::Fence, 0, order, 0, 0)
     }
 
     #[inline]
     fn mutex(&mut self, kind: Kind) -> Option<Record> {
-        let place = self.place(LF)?;
-        Some(Record::Event(Event { kind, place, order: order::NONE, first: 0, second: 0 }))
+        let place = self.place(self.form.close())?;
+        self.event(kind, place, order::NONE, 0, 0)
     }
 
     /// An `init` line. A value of 0 is not of the layout.
@@ -441,20 +499,27 @@ impl<'a> Cursor<'a> {
     }
 }
 
-/// The text after its first line, or the refusal of its length or first line.
-fn body<'a>(text: &'a [u8], header: &[u8], side: u32) -> Result<Cursor<'a>, Answer> {
-    if text.len() > MAX_TEXT {
+/// Answer 1.
+fn within(limit: usize, text: &[u8], side: u32) -> Result<(), Answer> {
+    if text.len() > limit {
         return Err(Answer::new(number::TEXT_TOO_LONG, side, 0));
     }
+    Ok(())
+}
+
+/// The text after its first line, or the refusal of that line.
+fn body<'a>(text: &'a [u8], header: &[u8], form: Form, side: u32) -> Result<Cursor<'a>, Answer> {
     match text.strip_prefix(header) {
-        Some(rest) => Ok(Cursor { rest }),
+        Some(rest) => Ok(Cursor { rest, form }),
         None => Err(Answer::new(number::BAD_LINE, side, 1)),
     }
 }
 
 /// Answers 1 to 4 of a trace. Fills the starting memory, which is all 0 before.
 fn parse_lines(text: &[u8], side: u32, memory: &mut Memory) -> Result<Vec<Event>, Answer> {
-    let mut cursor = body(text, TRACE_HEADER, side)?;
+    let form = form_of(text);
+    within(form.limit(), text, side)?;
+    let mut cursor = body(text, form.header(), form, side)?;
     let mut events = Vec::with_capacity((text.len() / SHORTEST_EVENT_LINE).min(MAX_EVENTS));
     let mut line = 1;
     let mut next_location = 0;
@@ -511,10 +576,16 @@ fn replay(start: &Memory, events: &[Event], side: u32) -> Result<(), Answer> {
     Ok(())
 }
 
-/// Answers 1 to 6 and 17 of a trace, for a room of `room` words.
-fn parse_trace(text: &[u8], side: u32, room: usize, memory: &mut Memory) -> Result<Vec<Event>, Answer> {
+/// Answers 1 to 6 of a trace.
+fn parse(text: &[u8], side: u32, memory: &mut Memory) -> Result<Vec<Event>, Answer> {
     let events = parse_lines(text, side, memory)?;
     replay(memory, &events, side)?;
+    Ok(events)
+}
+
+/// Answers 1 to 6 and 17 of a trace, for a room of `room` words.
+fn parse_trace(text: &[u8], side: u32, room: usize, memory: &mut Memory) -> Result<Vec<Event>, Answer> {
+    let events = parse(text, side, memory)?;
     if room / EVENT_WORDS < events.len() {
         return Err(Answer::new(number::ROOM_TOO_SHORT, side, events.len()));
     }
@@ -523,7 +594,8 @@ fn parse_trace(text: &[u8], side: u32, room: usize, memory: &mut Memory) -> Resu
 
 /// Answers 1 to 3 and 17 of a matching, for a room of `room` entries.
 fn parse_matching(text: &[u8], room: usize) -> Result<Vec<u16>, Answer> {
-    let mut cursor = body(text, MATCHING_HEADER, side::MATCHING)?;
+    within(MAX_TEXT, text, side::MATCHING)?;
+    let mut cursor = body(text, MATCHING_HEADER, Form::One, side::MATCHING)?;
     let mut entries = Vec::with_capacity((text.len() / SHORTEST_ENTRY_LINE).min(MAX_EVENTS));
     let mut line = 1;
     while !cursor.rest.is_empty() {
@@ -615,7 +687,7 @@ fn push_order_field(text: &mut Vec<u8>, order: u8) {
     text.extend_from_slice(name);
 }
 
-fn push_event(text: &mut Vec<u8>, event: Event) {
+fn push_event(text: &mut Vec<u8>, form: Form, event: Event) {
     text.extend_from_slice(event.kind.name());
     if event.kind.has_place() {
         push_number_field(text, event.place.into());
@@ -633,6 +705,9 @@ fn push_event(text: &mut Vec<u8>, event: Event) {
             push_number_field(text, event.second);
         }
     }
+    if form == Form::Two {
+        push_number_field(text, event.code.into());
+    }
     text.push(LF);
 }
 
@@ -644,18 +719,43 @@ fn push_init(text: &mut Vec<u8>, location: usize, value: u32) {
 }
 
 /// The text of a lawful trace.
-fn render(memory: &Memory, events: &[Event]) -> Vec<u8> {
-    let mut text = Vec::with_capacity(TRACE_HEADER.len() + events.len() * LONGEST_LINE);
-    text.extend_from_slice(TRACE_HEADER);
+fn render(form: Form, memory: &Memory, events: &[Event]) -> Vec<u8> {
+    let mut text = Vec::with_capacity(form.header().len() + events.len() * LONGEST_LINE);
+    text.extend_from_slice(form.header());
     for (location, &value) in memory.iter().enumerate() {
         if value != 0 {
             push_init(&mut text, location, value);
         }
     }
     for &event in events {
-        push_event(&mut text, event);
+        push_event(&mut text, form, event);
     }
     text
+}
+
+/// Answer 19: form 1 would lose a code line that is not 0.
+fn keep_codes(form: Form, events: &[Event], side: u32) -> Result<(), Answer> {
+    let lost = events.iter().position(|event| form == Form::One && event.code != 0);
+    lost.map_or(Ok(()), |index| Err(Answer::new(number::CODE_LOST, side, index + 1)))
+}
+
+/// Puts a text at the front of bytes that are long enough; else 17.
+fn put(text: &[u8], out: &mut [u8]) -> Result<usize, Answer> {
+    match out.get_mut(..text.len()) {
+        Some(front) => {
+            front.copy_from_slice(text);
+            Ok(text.len())
+        }
+        None => Err(Answer::new(number::ROOM_TOO_SHORT, side::NONE, text.len())),
+    }
+}
+
+/// The answer to a writing or a move: the bytes written, or the refusal.
+fn wrote(written: Result<usize, Answer>) -> Answer {
+    match written {
+        Ok(bytes) => Answer::new(number::DONE, side::NONE, bytes),
+        Err(answer) => answer,
+    }
 }
 
 /// Answers 3 and 18 of the writer. An event cut short at the end of the part
@@ -674,22 +774,30 @@ fn unpack(room: &[u32]) -> Result<Vec<Event>, Answer> {
 
 /// Writes the text of the events in a part of a room, with `init` lines made
 /// from the starting memory.
-pub fn write_trace(memory: &Memory, room: &[u32], out: &mut [u8]) -> Answer {
-    let written = unpack(room).and_then(|events| {
+pub fn write_trace(form: Form, memory: &Memory, room: &[u32], out: &mut [u8]) -> Answer {
+    wrote(unpack(room).and_then(|events| {
         replay(memory, &events, side::NONE)?;
-        let text = render(memory, &events);
-        match out.get_mut(..text.len()) {
-            Some(front) => {
-                front.copy_from_slice(&text);
-                Ok(text.len())
-            }
-            None => Err(Answer::new(number::ROOM_TOO_SHORT, side::NONE, text.len())),
+        keep_codes(form, &events, side::NONE)?;
+        put(&render(form, memory, &events), out)
+    }))
+}
+
+// ------------------------------------------------------------------- moving
+
+/// Writes the text of a trace in the other form. A text that has the wanted
+/// form already has not the first line that the move wants.
+pub fn move_to(to: Form, text: &[u8], out: &mut [u8]) -> Answer {
+    let mut memory = ZERO_MEMORY;
+    let form = form_of(text);
+    let moved = within(form.limit(), text, side::SOURCE).and_then(|()| {
+        if form == to {
+            return Err(Answer::new(number::BAD_LINE, side::SOURCE, 1));
         }
+        let events = parse(text, side::SOURCE, &mut memory)?;
+        keep_codes(to, &events, side::SOURCE)?;
+        put(&render(to, &memory, &events), out)
     });
-    match written {
-        Ok(bytes) => Answer::new(number::DONE, side::NONE, bytes),
-        Err(answer) => answer,
-    }
+    wrote(moved)
 }
 
 // ----------------------------------------------------------------- checking
@@ -802,7 +910,7 @@ struct SourceJudge<'a> {
 
 impl SourceJudge<'_> {
     fn keep_sync(&mut self, event: Event, entry: u16) -> Result<(), u32> {
-        if !event.same_but_for_mark(self.target[usize::from(entry) - 1]) {
+        if !event.is_kept_as(self.target[usize::from(entry) - 1]) {
             return Err(number::KEPT_DIFFERS);
         }
         // A synchronising event stays behind everything before it.
@@ -816,7 +924,7 @@ impl SourceJudge<'_> {
     }
 
     fn keep_plain(&mut self, event: Event, entry: u16) -> Result<(), u32> {
-        if !event.same_but_for_mark(self.target[usize::from(entry) - 1]) {
+        if !event.is_kept_as(self.target[usize::from(entry) - 1]) {
             return Err(number::KEPT_DIFFERS);
         }
         let spot = &mut self.spots[usize::from(event.place)];

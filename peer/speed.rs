@@ -6,6 +6,8 @@
 #[allow(dead_code)]
 mod cases;
 #[allow(dead_code)]
+mod forms;
+#[allow(dead_code)]
 mod generate;
 #[allow(dead_code)]
 mod ours;
@@ -17,7 +19,7 @@ mod rules;
 mod texts;
 
 use cases::Case;
-use peer::{Memory, CELLS, EVENT_WORDS, MAX_EVENTS, MAX_TEXT};
+use peer::{Form, Memory, CELLS, EVENT_WORDS, MAX_CODED_TEXT, MAX_EVENTS};
 use random::Random;
 use std::arch::asm;
 use std::hint::black_box;
@@ -43,7 +45,7 @@ impl Rooms {
     fn new() -> Rooms {
         let events = vec![0; MAX_EVENTS * EVENT_WORDS];
         let memories = [[0; CELLS]; 2];
-        Rooms { source: events.clone(), target: events, entries: vec![0; MAX_EVENTS], bytes: vec![0; MAX_TEXT], memories }
+        Rooms { source: events.clone(), target: events, entries: vec![0; MAX_EVENTS], bytes: vec![0; MAX_CODED_TEXT], memories }
     }
 }
 
@@ -77,8 +79,7 @@ fn typical(events: usize) -> Vec<Input> {
 
 /// The longest lawful texts of so many events, all kept.
 fn longest(events: usize) -> Vec<Input> {
-    let inits: String = (0..256).map(|location| format!("init {location} 4294967295;")).collect();
-    let text = cases::trace(&(inits + &"rmw 255 rlx 4294967295 4294967295;".repeat(events)));
+    let text = forms::fullest(Form::One, events, "");
     let case = Case { source: text.clone(), target: text, matching: cases::keep_all(events), rooms: [MAX_EVENTS; 3] };
     vec![Input::new(case)]
 }
@@ -109,8 +110,14 @@ const READ_MATCHING: Work = Work {
 
 const WRITE: Work = Work {
     name: "writing a trace",
-    ours: |input, rooms| black_box(ours::write_trace(&input.memory, black_box(&input.words), &mut rooms.bytes)).number,
-    peer: |input, rooms| black_box(peer::write_trace(&input.memory, black_box(&input.words), &mut rooms.bytes)).number,
+    ours: |input, rooms| black_box(ours::write_trace(Form::One, &input.memory, black_box(&input.words), &mut rooms.bytes)).number,
+    peer: |input, rooms| black_box(peer::write_trace(Form::One, &input.memory, black_box(&input.words), &mut rooms.bytes)).number,
+};
+
+const MOVE: Work = Work {
+    name: "moving a trace to form 2",
+    ours: |input, rooms| black_box(ours::move_to(Form::Two, black_box(&input.case.source), &mut rooms.bytes)).number,
+    peer: |input, rooms| black_box(peer::move_to(Form::Two, black_box(&input.case.source), &mut rooms.bytes)).number,
 };
 
 const CHECK: Work = Work {
@@ -218,7 +225,7 @@ fn main() {
     println!("| ours / Rust | texts | {} |", SIZES.map(|size| size.to_string()).join(" | "));
     println!("|---|---|{}", "---|".repeat(SIZES.len()));
     let mut growth = vec![];
-    for work in [READ_TRACE, READ_MATCHING, WRITE, CHECK] {
+    for work in [READ_TRACE, READ_MATCHING, WRITE, MOVE, CHECK] {
         for (texts, inputs) in &inputs {
             let times = best(&work, inputs);
             row(work.name, texts, &times.iter().map(|[ours, peer]| ours / peer).collect::<Vec<_>>());
@@ -230,7 +237,7 @@ fn main() {
         row(name, texts, &cells);
     }
     println!("\n| stack in bytes, 800 events | texts | ours | Rust |\n|---|---|---|---|");
-    for work in [READ_TRACE, READ_MATCHING, WRITE, CHECK] {
+    for work in [READ_TRACE, READ_MATCHING, WRITE, MOVE, CHECK] {
         for (texts, inputs) in &inputs {
             let [ours, peer] = [work.ours, work.peer].map(|call| stack(call, &inputs[4]));
             println!("| {} | {texts} | {ours} | {peer} |", work.name);

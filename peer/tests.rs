@@ -1,25 +1,34 @@
 //! Tests of the checker: the runs of the requirement and the limits, each with
-//! an answer worked out by hand; rooms, counts and memories; the writer; and
-//! random triples against the slow checker.
+//! an answer worked out by hand, in both forms; rooms, counts and memories; the
+//! writer; moves; and random triples against the slow checker.
 
 mod cases;
+mod forms;
+#[allow(dead_code)]
 mod generate;
 mod naive;
 mod peer;
 #[allow(dead_code)]
 mod random;
 mod rules;
+mod slow;
 mod texts;
 
 use cases::{Case, Triple};
-use peer::{number, side, Answer, Checked, Memory, CELLS, EVENT_WORDS, MAX_EVENTS};
+use forms::{KnownMove, KnownWriting};
+use peer::{form_of, number, side, Answer, Checked, Form, Memory, CELLS, EVENT_WORDS, MAX_EVENTS};
 use random::Random;
 
 /// What the rooms hold before a call: no lawful word of an event or entry.
 const MARKER: u32 = 0xdead_beef;
 /// Words beyond the last whole event of a room. They make room for nothing.
 const SPARE_WORDS: usize = EVENT_WORDS - 1;
+/// What bytes hold before a call.
+const GUARD: u8 = 0xaa;
 const ZERO: Memory = [0; CELLS];
+const FORMS: [Form; 2] = [Form::One, Form::Two];
+/// The answers are numbered from 0.
+const ANSWERS: usize = 20;
 /// How many lawful changes of longer traces are tried.
 const LAWFUL: usize = 6_000;
 
@@ -47,21 +56,17 @@ fn assert_front(room: &[u32], front: &[u32], what: &str) {
     assert!(room[front.len()..].iter().all(|&word| word == MARKER), "{what}: rest of the room");
 }
 
-fn row_words(rows: &[naive::Row]) -> Vec<u32> {
-    rows.iter().flat_map(|row| row.words()).collect()
-}
-
 /// Everything that a check leaves behind, against the slow checker.
 fn compare(case: &Case, what: &str) -> Triple {
     let (checked, rooms) = check(case);
-    let outcome = naive::check(case.texts(), case.rooms);
+    let outcome = slow::check(case.texts(), case.rooms);
     assert_eq!(triple(checked.answer), outcome.answer, "{what}: answer");
     let line = peer::offending_line(&case.source, &case.target, checked.answer);
     assert_eq!(line, outcome.line, "{what}: offending line");
     let (source, target, entries) = match outcome.stored {
         Some((source, target, entries)) => {
             assert_eq!((checked.source_memory, checked.target_memory), (source.start, target.start), "{what}: memories");
-            (row_words(&source.rows), row_words(&target.rows), entries)
+            (source.words, target.words, entries)
         }
         None => {
             assert_eq!((checked.source_memory, checked.target_memory), (ZERO, ZERO), "{what}: memories");
@@ -93,6 +98,7 @@ fn compare_readings(case: &Case, what: &str) {
         if lawful {
             write_back(&read, &room, text, what);
         }
+        compare_moves(text, what);
     }
     let mut room = vec![MARKER; case.rooms[2]];
     let read = peer::read_matching(&case.matching, &mut room);
@@ -105,26 +111,47 @@ fn compare_readings(case: &Case, what: &str) {
     assert_eq!(room, rooms.entries, "{what}: room of a matching alone");
 }
 
+/// What is lent and what comes back of a call that writes a text: the bytes that
+/// it says stand at the front, and nothing else is changed.
+fn written(what: &str, bytes: usize, write: impl Fn(&mut [u8]) -> Answer) -> (Triple, Vec<u8>) {
+    let mut out = vec![GUARD; bytes];
+    let answer = triple(write(&mut out));
+    let count = if answer.0 == number::DONE { answer.2 as usize } else { 0 };
+    assert!(out[count..].iter().all(|&byte| byte == GUARD), "{what}: beyond the text");
+    out.truncate(count);
+    (answer, out)
+}
+
 /// The writer gives back the very text that was read.
 fn write_back(read: &peer::TraceRead, room: &[u32], text: &[u8], what: &str) {
-    const GUARD: u8 = 0xaa;
     let part = &room[..read.events * EVENT_WORDS];
-    let mut out = vec![GUARD; text.len() + 3];
-    let answer = peer::write_trace(&read.memory, part, &mut out);
-    assert_eq!(triple(answer), (0, 0, text.len() as u32), "{what}: writer");
-    assert_eq!(&out[..text.len()], text, "{what}: text written");
-    assert!(out[text.len()..].iter().all(|&byte| byte == GUARD), "{what}: beyond the text");
-    let mut exact = vec![GUARD; text.len()];
-    assert_eq!(peer::write_trace(&read.memory, part, &mut exact), answer, "{what}: writer, exact room");
-    assert_eq!(exact, text, "{what}: writer, exact room");
-    let mut short = vec![GUARD; text.len() - 1];
-    let refusal = (number::ROOM_TOO_SHORT, side::NONE, text.len() as u32);
-    assert_eq!(triple(peer::write_trace(&read.memory, part, &mut short)), refusal, "{what}: writer, short room");
-    assert!(short.iter().all(|&byte| byte == GUARD), "{what}: writer stores nothing");
+    let write = |bytes| written(what, bytes, |out| peer::write_trace(form_of(text), &read.memory, part, out));
+    let size = text.len() as u32;
+    for spare in [0, 3] {
+        assert_eq!(write(text.len() + spare), ((0, 0, size), text.to_vec()), "{what}: written back");
+    }
+    assert_eq!(write(text.len() - 1).0, (number::ROOM_TOO_SHORT, side::NONE, size), "{what}: writer, short room");
+}
+
+fn move_to(to: Form, text: &[u8], bytes: usize, what: &str) -> (Triple, Vec<u8>) {
+    let moved = written(what, bytes, |out| peer::move_to(to, text, out));
+    assert_eq!(moved, slow::moved(to == Form::Two, text, bytes), "{what}: move to {to:?}");
+    moved
+}
+
+/// The moves of a text against the slow ones, and back again.
+fn compare_moves(text: &[u8], what: &str) {
+    for to in FORMS {
+        let (answer, moved) = move_to(to, text, Form::Two.limit(), what);
+        if answer.0 == number::DONE {
+            assert_eq!(move_to(form_of(text), &moved, text.len(), what).1, text, "{what}: there and back");
+            move_to(to, text, moved.len() - 1, what);
+        }
+    }
 }
 
 fn known_cases() -> usize {
-    let known = cases::all();
+    let known = [cases::all(), forms::checks()].concat();
     for known in &known {
         assert_eq!(compare(&known.case, &known.name), known.answer, "{}: answer by hand", known.name);
     }
@@ -152,28 +179,53 @@ fn parts_of_texts() {
     assert!(line(2, 1, 0).is_empty() && line(2, 2, 99).is_empty() && line(16, 2, 99).is_empty());
 }
 
+fn known_moves() -> usize {
+    let moves = forms::moves();
+    for KnownMove { name, handed, answer, moved } in &moves {
+        let what = format!("move: {name}");
+        assert_eq!(move_to(handed.to, &handed.text, handed.bytes, &what), (*answer, moved.clone()), "{what}");
+    }
+    moves.len()
+}
+
+/// The writings that are known by hand; what is written is read back.
+fn known_writings() -> usize {
+    let writings = forms::writings();
+    for KnownWriting { name, handed, answer: by_hand } in &writings {
+        let what = format!("writing: {name}");
+        let (memory, words) = handed.read();
+        let (answer, text) = written(&what, handed.bytes, |out| peer::write_trace(handed.form, &memory, &words, out));
+        assert_eq!(answer, *by_hand, "{what}");
+        if answer.0 == number::DONE {
+            let mut room = vec![MARKER; words.len()];
+            let read = peer::read_trace(&text, &mut room);
+            assert_eq!((triple(read.answer), read.memory, room), ((0, 0, 0), memory, words), "{what}: read back");
+            assert_eq!(form_of(&text), handed.form, "{what}: form");
+        }
+    }
+    writings.len()
+}
+
 /// The refusals of the writer, with words that no reader makes.
 fn writer_cases() -> usize {
     let lock = [8, 0, 0, 0, 0, 0];
     let bad: &[[u32; 6]] = &[
         [0, 0, 0, 0, 0, 0], [10, 0, 0, 0, 0, 0], [u32::MAX, 0, 0, 0, 0, 0], [257, 0, 0, 0, 0, 0],
-        [1, 0, 0, 0, 0, 0], [1, 0, 5, 0, 0, 0], [1, 0, 8, 0, 0, 0], [1, 256, 6, 0, 0, 0], [1, 0, 6, 0, 1, 0], [1, 0, 6, 0, 0, 1],
+        [1, 0, 0, 0, 0, 0], [1, 0, 5, 0, 0, 0], [1, 0, 8, 0, 0, 0], [1, 256, 6, 0, 0, 0], [1, 0, 6, 0, 1, 0], [1, 0, 6, 0, 0, 65_536],
         [2, 0, 1, 0, 0, 0], [2, 0, 6, 0, 0, 0], [2, 256, 0, 0, 0, 0], [2, 0, 0, 0, 7, 0], [2, 0, 256, 0, 0, 0],
         [3, 0, 0, 0, 0, 0], [3, 0, 3, 0, 0, 0], [3, 0, 4, 0, 0, 0], [3, 0, 1, 0, 1, 0], [3, 0, 257, 0, 0, 0],
         [4, 0, 2, 0, 0, 0], [4, 0, 4, 0, 0, 0], [4, 0, 1, 0, 1, 0], [5, 0, 0, 0, 0, 0], [5, 0, 6, 0, 0, 0], [5, 300, 1, 0, 0, 0],
-        [5, 0, 1, 0, 0, 9], [6, 0, 7, 0, 0, 0], [6, 0, u32::MAX, 0, 0, 0], [7, 0, 1, 0, 0, 0], [7, 1, 2, 0, 0, 0],
+        [5, 0, 1, 0, 0, 99_999], [6, 0, 7, 0, 0, 0], [6, 0, u32::MAX, 0, 0, 0], [7, 0, 1, 0, 0, 0], [7, 1, 2, 0, 0, 0],
         [7, 0, 2, 1, 0, 0], [7, 0, 2, 0, 1, 0], [7, 0, 0, 0, 0, 0], [8, 256, 0, 0, 0, 0], [8, 0, 1, 0, 0, 0], [8, 0, 0, 1, 0, 0],
-        [9, 0, 0, 0, 1, 0], [9, 0, 0, 0, 0, 1], [9, 0, 5, 0, 0, 0],
+        [9, 0, 0, 0, 1, 0], [9, 0, 0, 0, 0, u32::MAX], [9, 0, 5, 0, 0, 0],
     ];
-    let write = |memory: &Memory, room: &[u32]| {
-        let mut out = [0; 100];
-        let answer = triple(peer::write_trace(memory, room, &mut out));
-        assert!(answer.0 == 0 || out == [0; 100], "a refused writer stores nothing");
-        answer
-    };
+    let write_in = |form, memory: &Memory, room: &[u32]| written("writer", 100, |out| peer::write_trace(form, memory, room, out)).0;
+    let write = |memory: &Memory, room: &[u32]| write_in(Form::One, memory, room);
     for words in bad {
-        assert_eq!(write(&ZERO, words), (number::BAD_FIELDS, 0, 1), "{words:?}");
-        assert_eq!(write(&ZERO, &[lock, *words, lock].concat()), (number::BAD_FIELDS, 0, 2), "{words:?}");
+        for form in FORMS {
+            assert_eq!(write_in(form, &ZERO, words), (number::BAD_FIELDS, 0, 1), "{words:?}");
+            assert_eq!(write_in(form, &ZERO, &[lock, *words, lock].concat()), (number::BAD_FIELDS, 0, 2), "{words:?}");
+        }
     }
     for cut in 1..EVENT_WORDS {
         assert_eq!(write(&ZERO, &lock[..cut]), (number::BAD_FIELDS, 0, 1));
@@ -194,11 +246,12 @@ fn writer_cases() -> usize {
     bad.len()
 }
 
-fn random_cases(seed: u64, count: usize) -> [usize; 19] {
+/// Random triples, every other of traces of both forms.
+fn random_cases(seed: u64, count: usize) -> [usize; ANSWERS] {
     let mut random = Random::new(seed);
-    let mut answers = [0; 19];
+    let mut answers = [0; ANSWERS];
     for index in 0..count {
-        let case = generate::case(&mut random);
+        let case = if index % 2 == 0 { generate::case(&mut random) } else { generate::mixed_case(&mut random) };
         let answer = compare(&case, &format!("random case {index} of seed {seed}"));
         answers[answer.0 as usize] += 1;
     }
@@ -209,7 +262,11 @@ fn random_cases(seed: u64, count: usize) -> [usize; 19] {
 fn lawful_cases(seed: u64, count: usize) {
     let mut random = Random::new(seed);
     for index in 0..count {
-        let case = generate::lawful_case(&mut random, index % 120);
+        let mut case = generate::lawful_case(&mut random, index % 120);
+        if index % 2 == 0 {
+            generate::add_codes(&mut random, &mut case.source);
+            generate::add_codes(&mut random, &mut case.target);
+        }
         assert_eq!(compare(&case, &format!("lawful case {index} of seed {seed}")), (0, 0, 0));
     }
 }
@@ -223,6 +280,7 @@ fn main() {
     printed_lines();
     parts_of_texts();
     println!("{} bad events for the writer, and its other answers: ok", writer_cases());
+    println!("{} moves and {} writings known by hand: ok", known_moves(), known_writings());
     lawful_cases(seed, LAWFUL);
     println!("{LAWFUL} lawful changes of up to 119 events: accepted");
     let answers = random_cases(seed, count);

@@ -39,6 +39,25 @@ pub fn trace_text(start: &Memory, events: &[Event]) -> Vec<u8> {
     text.into_bytes()
 }
 
+/// A trace of form 1 as one of form 2: each event line ends with a code line.
+/// Where a line is bad, it stays so.
+pub fn with_codes(text: &[u8], mut code: impl FnMut() -> u32) -> Vec<u8> {
+    let Some(rest) = text.strip_prefix(b"trace\t1\n") else {
+        return text.to_vec();
+    };
+    let mut coded = b"trace\t2\n".to_vec();
+    for line in rest.split_inclusive(|&byte| byte == b'\n') {
+        match line.strip_suffix(b"\n") {
+            Some(event) if !event.starts_with(b"init\t") => {
+                coded.extend_from_slice(event);
+                coded.extend_from_slice(format!("\t{}\n", code()).as_bytes());
+            }
+            _ => coded.extend_from_slice(line),
+        }
+    }
+    coded
+}
+
 pub fn entry_line(entry: u16) -> String {
     match entry {
         0 => String::from("gone\n"),

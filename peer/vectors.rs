@@ -1,22 +1,47 @@
-//! Writes a file of test vectors: `vectors FILE [seed]`.
+//! Writes the files of test vectors: `vectors FOLDER [seed]`.
 //!
-//! A vector is a header, raw bytes, and LF. The header is ten decimal numbers
-//! and a name, parted by single blanks and ended by LF:
+//! A vector is a header, raw bytes, and LF. The header is decimal numbers and a
+//! name, parted by single blanks and ended by LF; the name may have blanks but
+//! no LF. The vectors end where the file ends.
+//!
+//! `vectors` and `forms` hold checks, `forms` those with a trace of form 2:
 //!
 //!   source length, target length, matching length (bytes),
 //!   source room, target room, entry room (words: six an event, one an entry;
 //!   at most 4,800, 4,800 and 800),
 //!   answer number, side, place, length of the offending line (bytes),
-//!   the name, which may have blanks but no LF.
+//!   the name.
 //!
 //! The raw bytes are the source, the target, the matching and the offending
-//! line, one directly after the other. The vectors end where the file ends.
+//! line, one directly after the other.
+//!
+//! `moves` holds moves between the forms:
+//!
+//!   the wanted form (1 or 2), length of the text, 0, 0, 0 (numbers that only a
+//!   writing has), bytes lent (at most 37,200),
+//!   answer number, side, place, length of the moved text (0 if refused),
+//!   the name.
+//!
+//! The raw bytes are the text and the moved text.
+//!
+//! `writes` holds writings. The writer is handed the starting memory of a lawful
+//! trace and the front of a room of 4,806 words, all 0 before the trace is read
+//! into it, in which one word was changed after:
+//!
+//!   the form to write (1 or 2), length of the trace (bytes), words handed,
+//!   where the changed word stands in the room (4,806 for none), the word, bytes
+//!   lent (at most 37,200),
+//!   answer number, side, place, length of the written text (0 if refused),
+//!   the name.
+//!
+//! The raw bytes are the trace and the written text.
 //!
 //! The cases known by hand come first, then random ones until every answer has
-//! its share on every side. Each answer is given by the fast checker and the
-//! slow one alike, or the program stops.
+//! its share. Each answer to a check or a move is given by the fast checker and
+//! the slow one alike, or the program stops.
 
 mod cases;
+mod forms;
 mod generate;
 #[allow(dead_code)]
 mod naive;
@@ -25,26 +50,55 @@ mod peer;
 #[allow(dead_code)]
 mod random;
 mod rules;
+#[allow(dead_code)]
+mod slow;
 mod texts;
 
-use cases::{Case, Triple};
+use cases::{Case, Known, Triple};
+use forms::{KnownMove, KnownWriting, Move, Writing};
+use peer::{form_of, Answer, Form};
 use random::Random;
 use std::collections::BTreeMap;
+use std::path::Path;
 
-/// The program that runs the file has room for no more.
+/// The program that runs a file has room for no more.
 const MAX_BYTES: usize = 1_800_000;
 /// Long cases known by hand that are left to the tests: a shorter one, or one
 /// as long, is like them.
-const LEFT_OUT: [&str; 4] = ["target of 0xff, over", "800 entries for 799", "800 backwards", "first of 800 gone"];
+const LEFT_OUT: [&str; 21] = [
+    "target of 0xff, over",
+    "800 entries for 799",
+    "800 backwards",
+    "first of 800 gone",
+    "run: 800 events, source of form 2",
+    "run: 800 events, target of form 2",
+    "run: 801 events, 3, source, target of form 2",
+    "run: 801 events, 3, source, both of form 2",
+    "run: 801 events, 3, target, source of form 2",
+    "run: 801 events, 3, target, both of form 2",
+    "801st event of form 2 bad, target",
+    "801 events of form 2, source",
+    "801 events of form 2, target",
+    "target of form 2 over its limit",
+    "over form 1's limit, not quite form 2, trace\\t1\\n",
+    "over form 1's limit, not quite form 2, Trace\\t2\\n",
+    "over form 1's limit, not quite form 2, \\ntrace\\t2\\n",
+    "already, over its limit, to One",
+    "already, at its limit, to Two",
+    "over form 1's limit, not quite form 2, to One",
+    "longest text of form 2, to One",
+];
 /// Give up on a share that has not been filled by then.
 const MAX_TRIES: usize = 5_000_000;
 /// Lawful triples, and some that are longer than the rest.
 const LAWFUL: usize = 400;
 const LONG_LAWFUL: [usize; 4] = [50, 100, 200, 800];
 
-/// How many random vectors each answer gets on each side. 1 and 3 need long
-/// texts and come from the cases known by hand.
-const SHARES: [((u32, u32), usize); 23] = [
+/// How many random vectors each answer gets, by its number and side. 1 and 3
+/// need long texts and come from the cases known by hand.
+type Shares = [((u32, u32), usize)];
+
+const CHECK_SHARES: [((u32, u32), usize); 23] = [
     ((2, 1), 100),
     ((2, 2), 100),
     ((2, 3), 100),
@@ -71,11 +125,14 @@ const SHARES: [((u32, u32), usize); 23] = [
     ((0, 0), 100),
 ];
 
-struct File {
-    bytes: Vec<u8>,
-    counts: BTreeMap<(u32, u32), usize>,
-    vectors: usize,
-}
+/// A form 2 check has a fraction of each share of a check.
+const FORM_SHARE: usize = 8;
+
+const MOVE_SHARES: [((u32, u32), usize); 7] =
+    [((0, 0), 80), ((2, 1), 60), ((4, 1), 20), ((5, 1), 20), ((6, 1), 40), ((17, 0), 40), ((19, 1), 60)];
+
+const WRITING_SHARES: [((u32, u32), usize); 6] =
+    [((0, 0), 80), ((5, 0), 10), ((6, 0), 20), ((17, 0), 40), ((18, 0), 60), ((19, 0), 60)];
 
 /// The words of the rooms of a case: six for each event, one for each entry;
 /// in every third vector some words to spare, too few for one more event.
@@ -85,68 +142,72 @@ fn room_words(case: &Case, vector: usize) -> [usize; 3] {
     [words(case.rooms[0]), words(case.rooms[1]), case.rooms[2]]
 }
 
-/// The answer to a case, on which both checkers must agree, and its line.
-fn answer(case: &Case, words: [usize; 3]) -> (Triple, Vec<u8>) {
-    let [mut source, mut target, mut entries] = words.map(|words| vec![0; words]);
-    let given = peer::check(&case.source, &case.target, &case.matching, &mut source, &mut target, &mut entries).answer;
-    let line = peer::offending_line(&case.source, &case.target, given).to_vec();
-    let outcome = naive::check(case.texts(), case.rooms);
-    let given = (given.number, given.side, given.place);
-    assert_eq!((given, &line), (outcome.answer, &outcome.line), "the checkers differ");
-    (given, line)
+fn triple(answer: Answer) -> Triple {
+    (answer.number, answer.side, answer.place)
+}
+
+/// What a form is called in a header.
+fn form_number(form: Form) -> usize {
+    match form {
+        Form::One => 1,
+        Form::Two => 2,
+    }
+}
+
+/// What a vector says: the numbers of its header up to the answer, the raw bytes
+/// that are handed over, the answer, and the raw bytes that come back.
+struct Vector<'a> {
+    numbers: Vec<usize>,
+    handed: Vec<&'a [u8]>,
+    answer: Triple,
+    given: Vec<u8>,
+}
+
+#[derive(Default)]
+struct File {
+    bytes: Vec<u8>,
+    counts: BTreeMap<(u32, u32), usize>,
+    vectors: usize,
 }
 
 impl File {
-    /// The answer to a case in the rooms of the next vector.
-    fn answer(&self, case: &Case) -> (Triple, Vec<u8>) {
-        answer(case, room_words(case, self.vectors + 1))
-    }
-
-    fn add(&mut self, name: &str, case: &Case, (number, side, place): Triple, line: &[u8]) {
+    fn add(&mut self, name: &str, vector: &Vector) {
         assert!(!name.contains('\n'), "{name:?}: a name is one line");
         self.vectors += 1;
-        let [source, target, matching] = case.texts();
-        let [source_room, target_room, entry_room] = room_words(case, self.vectors);
-        let header = format!(
-            "{} {} {} {source_room} {target_room} {entry_room} {number} {side} {place} {} {name}\n",
-            source.len(),
-            target.len(),
-            matching.len(),
-            line.len()
-        );
-        for part in [header.as_bytes(), source, target, matching, line, b"\n"] {
+        let (number, side, place) = vector.answer;
+        let answer = [number, side, place].map(|number| number as usize);
+        for number in vector.numbers.iter().chain(&answer).chain(&[vector.given.len()]) {
+            self.bytes.extend_from_slice(format!("{number} ").as_bytes());
+        }
+        self.bytes.extend_from_slice(format!("{name}\n").as_bytes());
+        for part in vector.handed.iter().chain(&[vector.given.as_slice(), b"\n"]) {
             self.bytes.extend_from_slice(part);
         }
         *self.counts.entry((number, side)).or_default() += 1;
     }
 
-    fn add_known(&mut self) {
-        for known in cases::all().iter().filter(|known| !LEFT_OUT.contains(&known.name.as_str())) {
-            let (given, line) = self.answer(&known.case);
-            assert_eq!(given, known.answer, "{}: the answer by hand differs", known.name);
-            self.add(&known.name, &known.case, given, &line);
+    /// A vector known by hand, unless it is left out.
+    fn add_known(&mut self, name: &str, vector: &Vector, by_hand: Triple) {
+        assert_eq!(vector.answer, by_hand, "{name}: the answer by hand differs");
+        if !LEFT_OUT.contains(&name) {
+            self.add(name, vector);
         }
     }
 
-    fn add_lawful(&mut self, random: &mut Random, events: usize, name: &str) {
-        let case = generate::lawful_case(random, events);
-        let (given, line) = self.answer(&case);
-        assert_eq!(given, (0, 0, 0), "what the rules allow is refused");
-        self.add(name, &case, given, &line);
-    }
-
-    fn add_faulty(&mut self, random: &mut Random) {
-        let mut open: BTreeMap<(u32, u32), usize> = SHARES.into_iter().collect();
+    /// Random vectors, each with a random thing that `draw` makes, until every share is filled.
+    fn add_random<T>(&mut self, shares: &Shares, mut draw: impl FnMut() -> T, vector: impl Fn(&T, usize) -> Vector<'_>) {
+        let mut open: BTreeMap<(u32, u32), usize> = shares.iter().copied().collect();
         let mut added = 0;
         for _ in 0..MAX_TRIES {
-            let case = generate::faulty_case(random);
-            let (given, line) = self.answer(&case);
-            if let Some(left) = open.get_mut(&(given.0, given.1)) {
+            let drawn = draw();
+            let vector = vector(&drawn, self.vectors + 1);
+            let (number, side, _) = vector.answer;
+            if let Some(left) = open.get_mut(&(number, side)) {
                 added += 1;
-                self.add(&format!("random {added}"), &case, given, &line);
+                self.add(&format!("random {added}"), &vector);
                 *left -= 1;
                 if *left == 0 {
-                    open.remove(&(given.0, given.1));
+                    open.remove(&(number, side));
                 }
             }
             if open.is_empty() {
@@ -156,29 +217,141 @@ impl File {
         panic!("shares left open: {open:?}");
     }
 
-    fn print(&self) {
-        println!("{} vectors, {} bytes", self.vectors, self.bytes.len());
+    fn write(&self, folder: &Path, name: &str) {
+        println!("{name}: {} vectors, {} bytes", self.vectors, self.bytes.len());
         for ((number, side), count) in &self.counts {
             println!("answer {number:2} side {side}: {count}");
         }
+        assert!(self.bytes.len() <= MAX_BYTES, "the file has grown too long");
+        std::fs::write(folder.join(name), &self.bytes).expect("the file can be written");
     }
+}
+
+/// A check, as the vector of a number has it; both checkers must agree on its
+/// answer and its line.
+fn check_vector(case: &Case, vector: usize) -> Vector<'_> {
+    let words = room_words(case, vector);
+    let [mut source, mut target, mut entries] = words.map(|words| vec![0; words]);
+    let answer = peer::check(&case.source, &case.target, &case.matching, &mut source, &mut target, &mut entries).answer;
+    let given = peer::offending_line(&case.source, &case.target, answer).to_vec();
+    let answer = triple(answer);
+    let outcome = slow::check(case.texts(), case.rooms);
+    assert_eq!((answer, &given), (outcome.answer, &outcome.line), "the checkers differ");
+    let lengths = case.texts().map(<[u8]>::len);
+    Vector { numbers: [lengths, words].concat(), handed: case.texts().to_vec(), answer, given }
+}
+
+/// The text at the front of bytes that a call was lent, if it was done.
+fn front(out: &[u8], answer: Answer) -> Vec<u8> {
+    let bytes = if answer.number == peer::number::DONE { answer.place as usize } else { 0 };
+    out[..bytes].to_vec()
+}
+
+/// A move, on which both checkers must agree.
+fn move_vector(Move { to, text, bytes }: &Move, _: usize) -> Vector<'_> {
+    let mut out = vec![0; *bytes];
+    let answer = peer::move_to(*to, text, &mut out);
+    let given = front(&out, answer);
+    let answer = triple(answer);
+    assert_eq!((answer, given.clone()), slow::moved(*to == Form::Two, text, *bytes), "the moves differ");
+    Vector { numbers: vec![form_number(*to), text.len(), 0, 0, 0, *bytes], handed: vec![text], answer, given }
+}
+
+fn writing_vector(writing: &Writing, _: usize) -> Vector<'_> {
+    let (memory, words) = writing.read();
+    let mut out = vec![0; writing.bytes];
+    let answer = peer::write_trace(writing.form, &memory, &words, &mut out);
+    let given = front(&out, answer);
+    let (at, word) = writing.change.unwrap_or((forms::WRITING_WORDS, 0));
+    Vector {
+        numbers: vec![form_number(writing.form), writing.text.len(), writing.words, at, word as usize, writing.bytes],
+        handed: vec![&writing.text],
+        answer: triple(answer),
+        given,
+    }
+}
+
+fn add_known_checks(file: &mut File, known: &[Known]) {
+    for Known { name, case, answer } in known {
+        let vector = check_vector(case, file.vectors + 1);
+        file.add_known(name, &vector, *answer);
+    }
+}
+
+/// Checks of traces of form 1.
+fn checks(random: &mut Random) -> File {
+    let mut file = File::default();
+    add_known_checks(&mut file, &cases::all());
+    let mut lawful = |random: &mut Random, events: usize, name: &str| {
+        let case = generate::lawful_case(random, events);
+        let vector = check_vector(&case, file.vectors + 1);
+        assert_eq!(vector.answer, (0, 0, 0), "what the rules allow is refused");
+        file.add(name, &vector);
+    };
+    for events in LONG_LAWFUL {
+        lawful(random, events, &format!("lawful change of {events} events"));
+    }
+    for index in 0..LAWFUL {
+        lawful(random, index % 15, &format!("lawful {}", index + 1));
+    }
+    file.add_random(&CHECK_SHARES, || generate::faulty_case(random), check_vector);
+    file
+}
+
+/// Checks with a trace of form 2.
+fn form_checks(random: &mut Random) -> File {
+    let mut file = File::default();
+    add_known_checks(&mut file, &forms::checks());
+    let is_coded = |case: &Case| [&case.source, &case.target].into_iter().any(|text| form_of(text) == Form::Two);
+    let draw = || loop {
+        let case = generate::mixed_case(random);
+        if is_coded(&case) {
+            return case;
+        }
+    };
+    file.add_random(&CHECK_SHARES.map(|(answer, share)| (answer, share / FORM_SHARE)), draw, check_vector);
+    file
+}
+
+fn moves(random: &mut Random) -> File {
+    let mut file = File::default();
+    for KnownMove { name, handed, answer, moved } in &forms::moves() {
+        let vector = move_vector(handed, 0);
+        assert_eq!(vector.given, *moved, "{name}: the text by hand differs");
+        file.add_known(name, &vector, *answer);
+    }
+    let draw = || {
+        let text = generate::mixed_case(random).source;
+        generate::move_of(random, &text)
+    };
+    file.add_random(&MOVE_SHARES, draw, move_vector);
+    file
+}
+
+fn writings(random: &mut Random) -> File {
+    let mut file = File::default();
+    for KnownWriting { name, handed, answer } in &forms::writings() {
+        file.add_known(name, &writing_vector(handed, 0), *answer);
+    }
+    let draw = || loop {
+        let text = generate::mixed_case(random).source;
+        let read = peer::read_trace(&text, &mut [0; peer::MAX_EVENTS * peer::EVENT_WORDS]);
+        if read.answer.number == peer::number::DONE {
+            return generate::writing_of(random, &text, read.events);
+        }
+    };
+    file.add_random(&WRITING_SHARES, draw, writing_vector);
+    file
 }
 
 fn main() {
     let mut arguments = std::env::args().skip(1);
-    let path = arguments.next().expect("the name of the file to write");
+    let folder = arguments.next().expect("the folder to write the files in");
+    let folder = Path::new(&folder);
     let seed = arguments.next().map_or(1, |seed| seed.parse().expect("the seed is a number"));
-    let mut random = Random::new(seed);
-    let mut file = File { bytes: vec![], counts: BTreeMap::new(), vectors: 0 };
-    file.add_known();
-    for events in LONG_LAWFUL {
-        file.add_lawful(&mut random, events, &format!("lawful change of {events} events"));
+    let files: [(&str, fn(&mut Random) -> File); 4] =
+        [("vectors", checks), ("forms", form_checks), ("moves", moves), ("writes", writings)];
+    for (name, make) in files {
+        make(&mut Random::new(seed)).write(folder, name);
     }
-    for index in 0..LAWFUL {
-        file.add_lawful(&mut random, index % 15, &format!("lawful {}", index + 1));
-    }
-    file.add_faulty(&mut random);
-    file.print();
-    assert!(file.bytes.len() <= MAX_BYTES, "the file has grown too long");
-    std::fs::write(path, &file.bytes).expect("the file can be written");
 }
