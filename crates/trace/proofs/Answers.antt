@@ -8,9 +8,10 @@ use mathlib.Core.Path.{_≡_, refl}
 use native.Mathlib.Omega.{arith}
 use lib.Dec.{eqb, leb, ltb}
 use lib.ListN.{length}
+use borrow.Author.Tests.{eq-eqb}
 use Rattle.laws.proofs.Cases.{by-cond, cases}
 use Rattle.laws.proofs.Lists.{every}
-use Rattle.event.specs.Kind.{has, lawful}
+use Rattle.event.specs.Kind.{has}
 use Rattle.event.specs.Answer.{answer, done, first, InTable}
 use Rattle.event.specs.Memory.{stepped}
 use Rattle.event.specs.declared.Answer.{Answer}
@@ -20,7 +21,7 @@ use Rattle.event.proofs.Answers.{Among, Given, none, one, among-first, among-mo
 use Rattle.text.specs.Line.{split, body}
 use Rattle.frame.specs.Reading.{headed, headFault, linesFault, textFault}
 use Rattle.frame.proofs.Answers.{lines-given, head-among, head-in}
-use Rattle.record.specs.Form.{header, limitOf, loses}
+use Rattle.record.specs.Form.{header, limitOf}
 use Rattle.record.specs.Record.{recordOf}
 use Rattle.record.specs.declared.form.Form.{Form}
 use Rattle.record.specs.declared.Record.{Record}
@@ -28,7 +29,7 @@ use Rattle.record.specs.declared.Record.the-variants.{Init, AnEvent, Refused}
 use Rattle.trace.specs.Fault.{clashes, faultAt, eventFault}
 use Rattle.trace.specs.Reading.{SoFar, formOf, eventLimit, lineFault, traceLayout, startOf, eventsOf, faultOf, surveyOf, readOf}
 use Rattle.trace.specs.Moving.{movedText, moveHead, moveFault, moveOf}
-use Rattle.trace.specs.Writing.{countOf, roomEvents, layoutFault, lost, traceText, roomFault, inOut, writeFault, writeOf}
+use Rattle.trace.specs.Writing.{countOf, roomEvents, firstBad, layoutFault, lost, traceText, roomFault, inOut, writeFault, writeOf}
 use Rattle.trace.specs.declared.reading.TraceRead.{TraceRead}
 
 -- the numbers of a reading's refusals, and those of lines and of events
@@ -107,15 +108,11 @@ unfolding faultOf textFault
 fault-in t = refusal-in 1 t [] refl refl refl
 
 -- every answer of the writer is
-layout-given : (k : ℕ) (es : List Event) → 1 ≤ k → Given (18 ∷ []) 0 (layoutFault k es)
-unfolding layoutFault
-layout-given k [] h = none
-layout-given k (e ∷ es) h = given-cond _ 0 (lawful e) (layout-given (k + 1) es (omega arith)) (one refl h)
-
-lost-given : (f : Form) (side k : ℕ) (es : List Event) → 1 ≤ k → Given (19 ∷ []) side (lost f side k es)
-unfolding lost
-lost-given f side k [] h = none
-lost-given f side k (e ∷ es) h = given-cond _ side (loses f (e .code)) (one refl h) (lost-given f side (k + 1) es (omega arith))
+bad-given : (bad : Event → Bool) (number side k : ℕ) (es : List Event) → 1 ≤ k → Given (number ∷ []) side (firstBad bad number side k es)
+unfolding firstBad
+bad-given bad number side k [] h = none
+bad-given bad number side k (e ∷ es) h =
+    given-cond _ side (bad e) (one (rw (eq-eqb number number refl)) h) (bad-given bad number side (k + 1) es (omega arith))
 
 -- 17 is told alike of all texts that are handed back
 out-in : (n : ℕ) (out : List ℕ) → InTable (inOut n out)
@@ -129,9 +126,9 @@ written-in f m room out =
     in-first (writeFault f m room) (inOut (length (traceText f m (roomEvents room))) out)
     (in-first (roomFault m room) (lost f 0 1 (roomEvents room))
     (in-cond (ltb eventLimit (countOf room)) (answer 3 0 (eventLimit + 1)) (first l e) refl
-    (in-first l e (given-in _ 0 refl (layout-given 1 (roomEvents room) (omega arith)))
+    (in-first l e (given-in _ 0 refl (bad-given _ 18 0 1 (roomEvents room) (omega arith)))
     (given-in _ 0 refl (events-given 0 1 m [] (roomEvents room) (omega arith)))))
-    (given-in _ 0 refl (lost-given f 0 1 (roomEvents room) (omega arith))))
+    (given-in _ 0 refl (bad-given _ 19 0 1 (roomEvents room) (omega arith))))
     (out-in _ out)
 
 -- every answer of a move is
@@ -141,5 +138,5 @@ moved-in to t out =
     in-first (moveFault to t) (inOut (length (movedText to t)) out)
     (in-first (moveHead to t) (first (faultOf 1 t) (lost to 1 1 (eventsOf t)))
     (in-cond (ltb (limitOf (formOf t)) (length t)) (answer 1 1 0) _ refl (in-cond (headed (header to) (split t)) (answer 2 1 1) done refl refl))
-    (in-first (faultOf 1 t) (lost to 1 1 (eventsOf t)) (fault-in t) (given-in _ 1 refl (lost-given to 1 1 (eventsOf t) (omega arith)))))
+    (in-first (faultOf 1 t) (lost to 1 1 (eventsOf t)) (fault-in t) (given-in _ 1 refl (bad-given _ 19 1 1 (eventsOf t) (omega arith)))))
     (out-in _ out)

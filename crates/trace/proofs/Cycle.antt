@@ -1,7 +1,8 @@
 -- Rooms and texts in a cycle: what the writer makes of a room is read back into a room as the same events, and what a reading puts in a room
 -- is written as the same bytes. Both follow from one trace having one text, as six words are one event. Assumes nothing.
 use Prim.Native.Nat.{ℕ, zero, suc, _+_, _*_, _/_, _≤_}
-use mathlib.Core.Path.{_≡_, refl}
+use mathlib.Core.Bool.{false, not}
+use mathlib.Core.Path.{_≡_, refl, ap}
 use mathlib.Core.List.{List, [], _∷_, _++_}
 use native.Mathlib.Omega.{arith}
 use lib.Dec.{ltb}
@@ -9,8 +10,10 @@ use lib.ListN.{length, getD, take, drop}
 use lib.Seq.{take-at}
 use borrow.Author.Tests.{ltb-false, le-ltb, le-leb}
 use Rattle.laws.proofs.Cases.{not-first}
+use Rattle.laws.proofs.Lists.{each-imp}
 use Rattle.laws.specs.Each.{Each}
 use Rattle.event.specs.Answer.{answer, done}
+use Rattle.event.specs.Kind.{lawful}
 use Rattle.event.specs.Memory.{stepped}
 use Rattle.event.specs.Room.{flat}
 use Rattle.event.specs.declared.Answer.{Answer}
@@ -18,6 +21,7 @@ use Rattle.event.specs.declared.Event.{Event}
 use Rattle.event.specs.declared.memory.Memory.{Memory}
 use Rattle.event.proofs.Rooms.{flat-length, onward-flat}
 use Rattle.frame.proofs.Settled.{first-done}
+use Rattle.record.specs.Form.{loses}
 use Rattle.record.specs.Record.{Fit, lastValue}
 use Rattle.record.specs.declared.form.Form.{Form}
 use Rattle.trace.specs.Fault.{eventFault}
@@ -28,7 +32,7 @@ use Rattle.trace.proofs.OneText.{text-whole, written-read}
 use Rattle.trace.proofs.Range.{onward-length, room-fits}
 use Rattle.trace.proofs.ReadBack.{read-written}
 use Rattle.trace.proofs.Readings.{counts, read-done}
-use Rattle.trace.proofs.Judged.{fault-parts}
+use Rattle.trace.proofs.Judged.{bad-done, fault-parts}
 
 -- that no event is at fault does not hang on the side, nor on where the counting starts
 pub fault-none : (side side′ k k′ : ℕ) (m : Memory) (before es : List Event) → eventFault side k m before es .number ≡ 0
@@ -39,17 +43,12 @@ fault-none side side′ k k′ m before (e ∷ es) h =
     let f = fault-parts side k m before e es h in
     rw (f .0 .0, f .0 .1) (fault-none side side′ (k + 1) (k′ + 1) (stepped m e .memory) (e ∷ before) es (f .1))
 
--- 18 is not found where each event is lawful
+-- neither 18 nor 19 is found where each event has a line in the form
 layout-done : (f : Form) (k : ℕ) (es : List Event) → Each (Fit f) es → layoutFault k es ≡ done
-unfolding layoutFault
-layout-done f k [] h = refl
-layout-done f k (e ∷ es) h = rw (h .0 .law) (layout-done f (k + 1) es (h .1))
+layout-done f k es h = bad-done _ 18 0 k es (each-imp (Fit f) (λ e. not (lawful e) ≡ false) (λ e i. ap not (i .law)) es h)
 
--- nor 19 where each has a line in the form
 pub lost-done : (f : Form) (side k : ℕ) (es : List Event) → Each (Fit f) es → lost f side k es ≡ done
-unfolding lost
-lost-done f side k [] h = refl
-lost-done f side k (e ∷ es) h = rw (h .0 .kept) (lost-done f side (k + 1) es (h .1))
+lost-done f side k es h = bad-done _ 19 side k es (each-imp (Fit f) (λ e. loses f (e .code) ≡ false) (λ e i. i .kept) es h)
 
 -- each word of a room whose words are in range
 held-at : (l : List ℕ) (i : ℕ) → Valued l → getD l i 0 ≤ lastValue

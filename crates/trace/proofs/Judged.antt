@@ -1,25 +1,23 @@
--- The events of a room one by one: the first of those that are left, what 18 and 19 say of it, and what 5 and 6 say of it. Assumes nothing.
+-- The events of a room one by one: the first of those that are left, the first that is bad (18, 19), and what 5 and 6 say. Assumes nothing.
 use Prim.Native.Nat.{ℕ, suc, _+_, _-_, _≤_, _<_}
 use mathlib.Core.Bool.{Bool, true, false}
-use mathlib.Core.Path.{_≡_, refl, sym}
+use mathlib.Core.Path.{_≡_, refl, sym, _∙_, ap}
 use mathlib.Core.List.{List, [], _∷_, _++_}
 use native.Mathlib.Omega.{arith}
 use lib.Dec.{eqb}
 use lib.ListN.{length}
 use borrow.Author.Tests.{eqb-true}
 use Rattle.laws.proofs.Cases.{cases, either}
+use Rattle.laws.specs.Each.{Each}
 use Rattle.event.specs.Answer.{answer, done, first}
-use Rattle.event.specs.Kind.{lawful}
 use Rattle.event.specs.Memory.{stepped}
 use Rattle.event.specs.Room.{eventAt, onward}
 use Rattle.event.specs.declared.Answer.{Answer}
 use Rattle.event.specs.declared.Event.{Event}
 use Rattle.event.specs.declared.memory.Memory.{Memory}
 use Rattle.frame.proofs.Settled.{first-done}
-use Rattle.record.specs.Form.{loses}
-use Rattle.record.specs.declared.form.Form.{Form}
 use Rattle.trace.specs.Fault.{clashes, faultAt, eventFault}
-use Rattle.trace.specs.Writing.{layoutFault, lost}
+use Rattle.trace.specs.Writing.{firstBad}
 
 module _ (room : List ℕ) (i n : ℕ) where
   pub onward-next : i < n → onward room i (n - i) ≡ eventAt room i ∷ onward room (i + 1) (n - (i + 1))
@@ -36,53 +34,66 @@ module _ (room : List ℕ) (i n : ℕ) where
 pub onward-all : (room : List ℕ) (n : ℕ) → onward room 0 (n - 0) ≡ onward room 0 n
 onward-all room n = let k : n - 0 ≡ n = omega arith in rw k
 
-module _ (k : ℕ) (e : Event) (es : List Event) where
-  pub layout-go : lawful e ≡ true → layoutFault k (e ∷ es) ≡ layoutFault (k + 1) es
-  unfolding layoutFault
-  layout-go h = rw h
+-- the first event that is bad
+module _ (bad : Event → Bool) (number side : ℕ) where
+  module _ (k : ℕ) (e : Event) (es : List Event) where
+    pub bad-go : bad e ≡ false → firstBad bad number side k (e ∷ es) ≡ firstBad bad number side (k + 1) es
+    unfolding firstBad
+    bad-go h = rw h
 
-  pub layout-bad : lawful e ≡ false → layoutFault k (e ∷ es) ≡ answer 18 0 k
-  unfolding layoutFault
-  layout-bad h = rw h
+    pub bad-here : bad e ≡ true → firstBad bad number side k (e ∷ es) ≡ answer number side k
+    unfolding firstBad
+    bad-here h = rw h
 
-  -- no 18 there: the first event is lawful, and there is none in the others
-  pub layout-first : layoutFault k (e ∷ es) .number ≡ 0 → (lawful e ≡ true) × (layoutFault (k + 1) es .number ≡ 0)
-  layout-first h =
-      cases (either (lawful e)) (λ y. (y, rw (layout-go y) at h)) (λ y. let z : _≡_ {A = ℕ} 18 0 = rw (layout-bad y) at h in absurd (omega arith))
+    -- there is none: it is not the first, and there is none among the others
+    pub bad-none : (number ≡ 0 → ⊥) → firstBad bad number side k (e ∷ es) .number ≡ 0
+        → (bad e ≡ false) × (firstBad bad number side (k + 1) es .number ≡ 0)
+    bad-none n h =
+        cases (either (bad e)) (λ y. absurd (n (ap (λ (a : Answer). a .number) (sym (bad-here y)) ∙ h))) (λ y. (y, rw (bad-go y) at h))
 
--- what 19 says of it, likewise
-module _ (f : Form) (side k : ℕ) (e : Event) (es : List Event) where
-  pub lost-go : loses f (e .code) ≡ false → lost f side k (e ∷ es) ≡ lost f side (k + 1) es
-  unfolding lost
-  lost-go h = rw h
+  pub bad-end : (k : ℕ) → firstBad bad number side k [] ≡ done
+  unfolding firstBad
+  bad-end k = refl
 
-  pub lost-here : loses f (e .code) ≡ true → lost f side k (e ∷ es) ≡ answer 19 side k
-  unfolding lost
-  lost-here h = rw h
+  pub bad-done : (k : ℕ) (es : List Event) → Each (λ e. bad e ≡ false) es → firstBad bad number side k es ≡ done
+  unfolding firstBad
+  bad-done k [] h = refl
+  bad-done k (e ∷ es) h = rw (h .0) (bad-done (k + 1) es (h .1))
 
-  pub lost-first : lost f side k (e ∷ es) .number ≡ 0 → (loses f (e .code) ≡ false) × (lost f side (k + 1) es .number ≡ 0)
-  lost-first h =
-      cases (either (loses f (e .code))) (λ y. let z : _≡_ {A = ℕ} 19 0 = rw (lost-here y) at h in absurd (omega arith)) (λ y. (y, rw (lost-go y) at h))
+  -- of two lists one after the other, the first of what is found in each
+  module _ (z : eqb number 0 ≡ false) where
+    bad-append : (k : ℕ) (xs ys : List Event)
+        → firstBad bad number side k (xs ++ ys) ≡ first (firstBad bad number side k xs) (firstBad bad number side (k + length xs) ys)
+    unfolding firstBad
+    bad-append k [] ys = let o : k + 0 ≡ k = omega arith in rw o
+    bad-append k (e ∷ xs) ys =
+        let o : k + suc (length xs) ≡ k + 1 + length xs = omega arith in
+        cases (either (bad e)) (λ y. rw (y, z)) (λ y. rw (y, o) (bad-append (k + 1) xs ys))
 
--- of two lists one after the other, the first of what it says of each
-lost-append : (f : Form) (side k : ℕ) (xs ys : List Event) → lost f side k (xs ++ ys) ≡ first (lost f side k xs) (lost f side (k + length xs) ys)
-unfolding lost
-lost-append f side k [] ys = let z : k + 0 ≡ k = omega arith in rw z
-lost-append f side k (e ∷ xs) ys =
-    let z : k + suc (length xs) ≡ k + 1 + length xs = omega arith in
-    cases (either (loses f (e .code))) (λ y. rw y) (λ y. rw (y, z) (lost-append f side (k + 1) xs ys))
+    pub bad-parted : (k : ℕ) (xs ys : List Event) {zs : List Event} {a : Answer} → zs ≡ xs ++ ys → a ≡ firstBad bad number side k xs
+        → firstBad bad number side k zs ≡ first a (firstBad bad number side (k + length xs) ys)
+    bad-parted k xs ys p q = rw (p, q) (bad-append k xs ys)
 
-pub lost-parted : (f : Form) (side k : ℕ) (xs ys : List Event) {zs : List Event} {a : Answer} → zs ≡ xs ++ ys → a ≡ lost f side k xs
-    → lost f side k zs ≡ first a (lost f side (k + length xs) ys)
-lost-parted f side k xs ys p q = rw (p, q) (lost-append f side k xs ys)
+  -- in a room, event by event: none of those before the i-th is
+  pub record Sought (room : List ℕ) (n i : ℕ) : Type 0 where
+    pub few : i ≤ n
+    pub same : firstBad bad number side 1 (onward room 0 n) ≡ firstBad bad number side (i + 1) (onward room i (n - i))
 
-pub lost-end : (f : Form) (side k : ℕ) → lost f side k [] ≡ done
-unfolding lost
-lost-end f side k = refl
+  pub sought-start : (room : List ℕ) (n : ℕ) → Sought room n 0
+  sought-start room n = record { few = omega arith; same = rw (onward-all room n) }
 
-pub layout-end : (k : ℕ) → layoutFault k [] ≡ done
-unfolding layoutFault
-layout-end k = refl
+  module _ {room : List ℕ} {n i : ℕ} (s : Sought room n i) where
+    at-hand : i < n → firstBad bad number side 1 (onward room 0 n) ≡ firstBad bad number side (i + 1) (eventAt room i ∷ onward room (i + 1) (n - (i + 1)))
+    at-hand h = s .same ∙ rw (onward-next room i n h)
+
+    pub sought-next : i < n → bad (eventAt room i) ≡ false → Sought room n (i + 1)
+    sought-next h b = record { few = omega arith; same = at-hand h ∙ bad-go (i + 1) (eventAt room i) (onward room (i + 1) (n - (i + 1))) b }
+
+    pub sought-here : i < n → bad (eventAt room i) ≡ true → firstBad bad number side 1 (onward room 0 n) ≡ answer number side (i + 1)
+    sought-here h b = at-hand h ∙ bad-here (i + 1) (eventAt room i) (onward room (i + 1) (n - (i + 1))) b
+
+    pub sought-end : n ≤ i → firstBad bad number side 1 (onward room 0 n) ≡ done
+    sought-end h = s .same ∙ rw (onward-end room i n h) (bad-end (i + 1))
 
 -- what 5 and 6 say, by what they say of the first event
 module _ (side k : ℕ) (m : Memory) (before : List Event) (e : Event) (es : List Event) where

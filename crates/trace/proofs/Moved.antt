@@ -31,7 +31,7 @@ use Rattle.trace.specs.Text.{Fits, longestText}
 use Rattle.trace.specs.Writing.{initLines, lost, traceText}
 use Rattle.trace.specs.declared.reading.TraceRead.{TraceRead}
 use Rattle.trace.proofs.Cycle.{fault-none, lost-done}
-use Rattle.trace.proofs.Judged.{lost-first}
+use Rattle.trace.proofs.Judged.{bad-none}
 use Rattle.trace.proofs.OneText.{Sound, text-whole, line-one, memory-is, written-read}
 use Rattle.trace.proofs.ReadBack.{tail, some-lines, form-written, text-parts, read-written}
 use Rattle.trace.proofs.Range.{text-length, longest-short}
@@ -77,7 +77,7 @@ module _ (to : Form) (t : List ℕ) where
 refit : (f to : Form) (side k : ℕ) (es : List Event) → Each (Fit f) es → lost to side k es .number ≡ 0 → Each (Fit to) es
 refit f to side k [] h n = tt
 refit f to side k (e ∷ es) h n =
-    let l = lost-first to side k e es n in
+    let l = bad-none (λ x. loses to (x .code)) 19 side k e es (λ z. omega arith) n in
     let i = h .0 in
     (record { law = i .law; first = i .first; second = i .second; kept = l .0 }, refit f to side (k + 1) es (h .1) (l .1))
 

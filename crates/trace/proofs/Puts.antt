@@ -31,6 +31,14 @@ then {room} {v = v} {w} {at} p q = record {
   stored = q .stored ∙ rw (p .stored, p .counted, sets-append room at v w);
 }
 
+-- the place after each is small, as that after both is
+module _ (at : ℕ) (v w : List ℕ) (h : Small at (v ++ w)) where
+  pub small-first : Small at v
+  small-first = omega (arith, length-append v w, h)
+
+  pub small-then : {room room₁ : List ℕ} {at₁ : ℕ} → Put room at v room₁ at₁ → Small at₁ w
+  small-then p = omega (arith, length-append v w, h, p .counted)
+
 -- the room stays as long as it was
 pub put-length : {room room₁ v : List ℕ} {at at₁ : ℕ} → Put room at v room₁ at₁ → length room₁ ≡ length room
 put-length {room} {v = v} {at} p = ap length (p .stored) ∙ length-sets room at v

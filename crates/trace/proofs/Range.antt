@@ -1,18 +1,21 @@
 -- The text of a trace that has one is short, as no line of it is long. The events of a room that is not refused have a text, as its words are in
 -- range. Assumes nothing.
 use Prim.Native.Nat.{ℕ, zero, suc, _+_, _*_, _≤_, _<_}
+use mathlib.Core.Bool.{not}
 use mathlib.Core.Path.{_≡_, refl, ap}
 use mathlib.Core.List.{List, [], _∷_, _++_, map}
 use native.Mathlib.Nat.{mul-le-mul-right}
 use native.Mathlib.Omega.{arith}
 use lib.Dec.{eqb}
 use lib.ListN.{length, getD, length-append}
+use borrow.Author.Tests.{not-false}
 use Rattle.laws.proofs.Cases.{cases, either}
 use Rattle.laws.specs.Each.{Each}
+use Rattle.event.specs.Kind.{lawful}
 use Rattle.event.specs.Room.{inRoom, eventAt, onward}
 use Rattle.event.specs.declared.Event.{Event}
 use Rattle.event.specs.declared.memory.Memory.{Memory}
-use Rattle.record.specs.Form.{header, limitOf}
+use Rattle.record.specs.Form.{header, limitOf, loses}
 use Rattle.record.specs.Layout.{eventLine, initLine}
 use Rattle.record.specs.Record.{Fit, lastValue, longestEvent, longestInit}
 use Rattle.record.proofs.Prints.{event-length, init-length}
@@ -22,7 +25,7 @@ use Rattle.trace.specs.Reading.{eventLimit}
 use Rattle.trace.specs.Put.{Small}
 use Rattle.trace.specs.Writing.{layoutFault, lost, textOf, initLines, traceText}
 use Rattle.trace.specs.Text.{places, Valued, Fits, longestText}
-use Rattle.trace.proofs.Judged.{layout-first, lost-first}
+use Rattle.trace.proofs.Judged.{bad-none}
 
 -- each line has an LF after it
 events-length : (f : Form) (es : List Event) → Each (Fit f) es → length (textOf (map (eventLine f) es)) ≤ length es * suc (longestEvent f)
@@ -74,10 +77,10 @@ module _ (room : List ℕ) (held : (k : ℕ) → getD room k 0 ≤ lastValue) wh
   unfolding onward
   events-fit f k l i zero h g = tt
   events-fit f k l i (suc n) h g =
-      let a = layout-first k (eventAt room i) (onward room (i + 1) n) h in
-      let b = lost-first f 0 l (eventAt room i) (onward room (i + 1) n) g in
+      let a = bad-none (λ e. not (lawful e)) 18 0 k (eventAt room i) (onward room (i + 1) n) (λ z. omega arith) h in
+      let b = bad-none (λ e. loses f (e .code)) 19 0 l (eventAt room i) (onward room (i + 1) n) (λ z. omega arith) g in
       let v = values-in i in
-      (record { law = a .0; first = v .0; second = v .1; kept = b .0 }, events-fit f (k + 1) (l + 1) (i + 1) n (a .1) (b .1))
+      (record { law = not-false _ (a .0); first = v .0; second = v .1; kept = b .0 }, events-fit f (k + 1) (l + 1) (i + 1) n (a .1) (b .1))
 
   pub room-fits : (f : Form) (m : Memory) (n : ℕ) → length (m .cells) ≡ places → Valued (m .cells) → n ≤ eventLimit
       → layoutFault 1 (onward room 0 n) .number ≡ 0 → lost f 0 1 (onward room 0 n) .number ≡ 0 → Fits f m (onward room 0 n)

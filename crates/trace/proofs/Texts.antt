@@ -72,13 +72,9 @@ unfolding startText
 start-parts f m = text-cons (header f) (initLines 0 (m .cells)) ∙ rw (append-nil (textOf (initLines 0 (m .cells))))
 
 -- that, and the events' lines
-abbrev pub traceParts : Form → Memory → List Event → List (List ℕ)
-traceParts f m es = startText f m ∷ textOf (map (eventLine f) es) ∷ []
-
-pub trace-parts : (f : Form) (m : Memory) (es : List Event) → traceText f m es ≡ all (traceParts f m es)
+pub trace-parts : (f : Form) (m : Memory) (es : List Event) → traceText f m es ≡ startText f m ++ textOf (map (eventLine f) es)
 unfolding traceText startText
-trace-parts f m es =
-    text-append (header f ∷ initLines 0 (m .cells)) (map (eventLine f) es) ∙ rw (append-nil (textOf (map (eventLine f) es)))
+trace-parts f m es = text-append (header f ∷ initLines 0 (m .cells)) (map (eventLine f) es)
 
 -- the `init` lines from a location on
 pub init-cons : (l v : ℕ) (vs : List ℕ) → textOf (initLines l (v ∷ vs)) ≡ initPart l v ++ textOf (initLines (l + 1) vs)

@@ -1,6 +1,6 @@
 -- Document 01, "Lent room" and "The writer", and document 02, C-11: a starting memory and a room written as a text of a form. Assumes nothing.
 use Prim.Native.Nat.{ℕ, _+_, _/_}
-use mathlib.Core.Bool.{cond}
+use mathlib.Core.Bool.{Bool, cond, not}
 use mathlib.Core.List.{List, [], _∷_, _++_, map}
 use lib.Dec.{eqb, leb, ltb}
 use lib.ListN.{length, drop}
@@ -24,15 +24,18 @@ countOf room = (length room + 5) / 6
 abbrev pub roomEvents : List ℕ → List Event
 roomEvents room = onward room 0 (countOf room)
 
--- 18: the first event that is outside the layout, the first of the list having the number k.
-unfoldable pub layoutFault : ℕ → List Event → Answer
-layoutFault k [] = done
-layoutFault k (e ∷ es) = cond (lawful e) (layoutFault (k + 1) es) (answer 18 0 k)
+-- The first event of which a test says that it is bad, the first of the list having the number k; an answer of this number and side.
+unfoldable pub firstBad : (Event → Bool) → ℕ → ℕ → ℕ → List Event → Answer
+firstBad bad number side k [] = done
+firstBad bad number side k (e ∷ es) = cond (bad e) (answer number side k) (firstBad bad number side (k + 1) es)
 
--- 19: the first event whose code line a form would lose, likewise.
-unfoldable pub lost : Form → ℕ → ℕ → List Event → Answer
-lost f side k [] = done
-lost f side k (e ∷ es) = cond (loses f (e .code)) (answer 19 side k) (lost f side (k + 1) es)
+-- 18: the first event that is outside the layout.
+abbrev pub layoutFault : ℕ → List Event → Answer
+layoutFault k es = firstBad (λ e. not (lawful e)) 18 0 k es
+
+-- 19: the first event whose code line a form would lose.
+abbrev pub lost : Form → ℕ → ℕ → List Event → Answer
+lost f side k es = firstBad (λ e. loses f (e .code)) 19 side k es
 
 -- Each line with its LF.
 unfoldable pub textOf : List (List ℕ) → List ℕ

@@ -1,7 +1,7 @@
 -- The answer over all events is the answer over those of the lines from here on. Assumes nothing.
 use Prim.Native.Nat.{ℕ, _+_, _-_, _≤_, _<_}
 use mathlib.Core.List.{List, _++_}
-use mathlib.Core.Path.{_≡_, sym, _∙_, ap}
+use mathlib.Core.Path.{_≡_, refl, sym, _∙_, ap}
 use native.Mathlib.Omega.{arith}
 use borrow.Author.Needs.{needs}
 use borrow.Author.Tests.{ne-eqb}
@@ -13,7 +13,7 @@ use Rattle.text.proofs.Walk.{line-in}
 use Rattle.record.specs.declared.form.Form.{Form}
 use Rattle.trace.specs.Reading.{formOf, eventsOn, eventsOf}
 use Rattle.trace.specs.Writing.{lost}
-use Rattle.trace.proofs.Judged.{first-passes, lost-parted, lost-end}
+use Rattle.trace.proofs.Judged.{first-passes, bad-parted, bad-end}
 use Rattle.trace.proofs.Stores.{one-at-most}
 use Rattle.trace.proofs.Walks.{eventsFrom, events-start, events-line, events-none}
 use Rattle.trace.proofs.moving.loss_in.Statement.{statement}
@@ -67,12 +67,12 @@ module _ (c : tie.After-loss-on Inv-loop μ-loop) where
   whole : lost (begin e .args .to) 1 1 (eventsOf (text e)) ≡ first (c .loss-on .result) (lost (begin e .args .to) 1 (n e + 1 + length its) others)
   whole =
       e .before .before .loop .inv .same
-      ∙ lost-parted (begin e .args .to) 1 (n e + 1) its others parted (c .loss-on .ensures)
+      ∙ bad-parted _ 19 1 refl (n e + 1) its others parted (c .loss-on .ensures)
 
 loop-holds : tie.Need-loop-holds Inv-loop μ-loop
 loop-holds c =
     let t = c .before .before .before .args .text .now in
-    rw (c .line-two .ensures) (record { few = omega arith; same = ap (lost _ 1 1) (events-start t) })
+    rw (c .line-two .ensures) (record { few = omega arith; same = ap (lost (c .before .before .before .args .to) 1 1) (events-start t) })
 
 returns : tie.Need-returns Inv-loop μ-loop
 returns c = sym (whole (c .before .before) ∙ rw (ne-eqb _ _ (c .if1 .taken)))
@@ -90,7 +90,7 @@ returns-2 : tie.Need-returns-2 Inv-loop μ-loop
 returns-2 c =
     let l = c .before .before in
     let t = l .before .before .before .before .args .text .now in
-    c .new .ensures ∙ sym (l .loop .inv .same ∙ rw (events-none t (l .loop .at) (omega arith)) (lost-end _ _ _))
+    c .new .ensures ∙ sym (l .loop .inv .same ∙ rw (events-none t (l .loop .at) (omega arith)) (bad-end _ 19 1 _))
 
 -- the number of events is at most the place in the text
 small : (e : tie.After-line-end Inv-loop μ-loop) → n e + 1 < 18446744073709551615

@@ -1,12 +1,12 @@
 -- The answer over all events is the answer over those from here on, which are lawful; the array says how the events so far used each
 -- location. Assumes nothing.
 use Prim.Native.Nat.{ℕ, _+_, _-_, _≤_, _<_}
-use mathlib.Core.Bool.{Bool, true, false}
+use mathlib.Core.Bool.{Bool, true, false, not}
 use mathlib.Core.List.{List, [], _∷_}
 use mathlib.Core.Path.{_≡_, refl, sym, _∙_, ap}
 use native.Mathlib.Omega.{arith}
 use borrow.Author.Needs.{needs}
-use borrow.Author.Tests.{ne-eqb}
+use borrow.Author.Tests.{ne-eqb, not-false}
 use lib.Dec.{eqb}
 use lib.ListN.{length, length-set}
 use Rattle.event.specs.Answer.{done, first}
@@ -20,7 +20,7 @@ use Rattle.event.specs.declared.memory.Stepped.{Stepped}
 use Rattle.event.proofs.Lawful.{place-below}
 use Rattle.trace.specs.Fault.{clashes, faultAt, eventFault}
 use Rattle.trace.specs.Writing.{layoutFault}
-use Rattle.trace.proofs.Judged.{event-next, onward-end, onward-all, layout-first, fault-next, fault-end, fault-free}
+use Rattle.trace.proofs.Judged.{event-next, onward-end, onward-all, bad-none, fault-next, fault-end, fault-free}
 use Rattle.trace.proofs.Ways.{Marks, marks-start, marks-told, clash, marks-next}
 use Rattle.trace.proofs.writing.event_fault.Statement.{statement}
 use Rattle.trace.proofs.writing.event_fault.Tie as tie
@@ -77,7 +77,9 @@ module _ (c : tie.After-get Inv-loop μ-loop) where
   parts = event-next room i n (c .get .ensures) (omega arith)
 
   sound : (lawful e ≡ true) × (layoutFault (i + 1 + 1) others .number ≡ 0)
-  sound = layout-first (i + 1) e others (rw parts at (inv .sound))
+  sound =
+      let b = bad-none (λ x. not (lawful x)) 18 0 (i + 1) e others (λ z. omega arith) (rw parts at (inv .sound)) in
+      (not-false _ (b .0), b .1)
 
   inside : e .place < 256
   inside = place-below e (sound .0)

@@ -1,57 +1,44 @@
--- The answer over all events is the answer over those from here on. Assumes nothing.
-use Prim.Native.Nat.{ℕ, _+_, _-_, _≤_}
-use mathlib.Core.List.{List, _∷_}
-use mathlib.Core.Path.{_≡_, sym, _∙_}
+-- The events are looked at one by one; none of those before is outside the layout. Assumes nothing.
+use Prim.Native.Nat.{ℕ, _-_}
+use mathlib.Core.Bool.{Bool, not}
+use mathlib.Core.List.{List}
+use mathlib.Core.Path.{_≡_, sym, _∙_, ap}
 use native.Mathlib.Omega.{arith}
 use borrow.Author.Needs.{needs}
 use borrow.Author.Tests.{not-true, not-false}
 use Rattle.event.specs.Kind.{lawful}
-use Rattle.event.specs.Room.{eventAt, onward}
-use Rattle.event.specs.declared.Answer.{Answer}
-use Rattle.trace.specs.Writing.{layoutFault}
-use Rattle.trace.proofs.Judged.{onward-next, onward-end, onward-all, layout-go, layout-bad, layout-end}
+use Rattle.event.specs.Room.{eventAt}
+use Rattle.event.specs.declared.Event.{Event}
+use Rattle.trace.proofs.Judged.{Sought, sought-start, sought-next, sought-here, sought-end}
 use Rattle.trace.proofs.writing.layout_fault.Statement.{statement}
 use Rattle.trace.proofs.writing.layout_fault.Tie as tie
 
+abbrev unlawful : Event → Bool
+unlawful e = not (lawful e)
+
 abbrev Inv-loop : tie.InvT-loop
-Inv-loop room n i₀ i = (i ≤ n) × (layoutFault 1 (onward room 0 n) ≡ layoutFault (i + 1) (onward room i (n - i)))
+Inv-loop room n i₀ i = Sought unlawful 18 0 room n i
 
 abbrev μ-loop : tie.MeasureT-loop
 μ-loop room n i₀ i = n - i
 
--- the event at the loop's place
-module _ (c : tie.After-is-lawful Inv-loop μ-loop) where
-  abbrev room : List ℕ
-  room = c .before .before .before .before .before .args .room .now
-
-  abbrev n : ℕ
-  n = c .before .before .before .before .before .args .n
-
-  abbrev i : ℕ
-  i = c .before .before .before .loop .i
-
-  lawful-is : lawful (eventAt room i) ≡ c .is-lawful .result
-  lawful-is = sym (rw (c .before .get .ensures) at (c .is-lawful .ensures))
-
-  whole : {r : Answer} → layoutFault (i + 1) (eventAt room i ∷ onward room (i + 1) (n - (i + 1))) ≡ r → layoutFault 1 (onward room 0 n) ≡ r
-  whole e = c .before .before .before .loop .inv .1 ∙ rw (onward-next room i n (omega arith)) e
-
-loop-holds : tie.Need-loop-holds Inv-loop μ-loop
-loop-holds c = (omega arith, rw (onward-all (c .before .args .room .now) (c .before .args .n)))
+-- whether the event at hand is
+told : (c : tie.After-is-lawful Inv-loop μ-loop) → let l = c .before .before .before in
+    unlawful (eventAt (l .before .before .args .room .now) (l .loop .i)) ≡ not (c .is-lawful .result)
+told c = ap not (sym (rw (c .before .get .ensures) at (c .is-lawful .ensures)))
 
 returns : tie.Need-returns Inv-loop μ-loop
 returns c =
     let p = c .before .before in
-    c .new .ensures ∙ sym (whole p (layout-bad _ _ _ (lawful-is p ∙ not-true _ (c .before .if1 .taken))))
+    c .new .ensures ∙ sym (sought-here unlawful 18 0 (p .before .before .before .loop .inv) (omega arith) (told p ∙ c .before .if1 .taken))
 
 loop-again : tie.Need-loop-again Inv-loop μ-loop
-loop-again c = (omega arith, whole (c .before) (layout-go _ _ _ (lawful-is (c .before) ∙ not-false _ (c .if1 .left))))
+loop-again c =
+    let p = c .before in
+    sought-next unlawful 18 0 (p .before .before .before .loop .inv) (omega arith) (told p ∙ c .if1 .left)
 
 returns-2 : tie.Need-returns-2 Inv-loop μ-loop
-returns-2 c =
-    let l = c .before .before in
-    let a = l .before .before .args in
-    c .new2 .ensures ∙ sym (l .loop .inv .1 ∙ rw (onward-end (a .room .now) (l .loop .i) (a .n) (omega arith)) (layout-end _))
+returns-2 c = c .new2 .ensures ∙ sym (sought-end unlawful 18 0 (c .before .before .loop .inv) (omega arith))
 
 pub layout-fault-spec : {M : Type 1} → statement M
 layout-fault-spec =
@@ -59,7 +46,7 @@ layout-fault-spec =
     (tie.spec
     Inv-loop
     μ-loop
-    loop-holds
+    (λ c. sought-start unlawful 18 0 _ _)
     (search needs)
     (search needs)
     (λ c. omega arith)
