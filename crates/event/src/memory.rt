@@ -1,6 +1,8 @@
 // The memory of a trace: 256 cells, which take one event at a time.
 ghost use mathlib.Core.Path.{_≡_};
-ghost use Rattle.event.specs.Memory.{empty as emptyMemory, left, reads, stepped, wrapSum};
+ghost use mathlib.Core.Bool.{cond, true};
+ghost use lib.Dec.{eqb};
+ghost use Rattle.event.specs.Memory.{empty as emptyMemory, leaves, stepped, wrapSum};
 use crate::Event;
 use crate::Word;
 use crate::index_of;
@@ -32,25 +34,24 @@ fn sum_32(a: Word, b: Word) -> Word
     (sum_64(a as u64, b as u64) % 4294967296) as Word
 }
 
-// What an event leaves in its cell, which held `was`.
-fn left_by(e: Event, was: Word) -> Word
-    ensures { λ r. ⌜ r ≡ left was e ⌝ }
+// What is left in a cell that held `was`, by two values.
+fn left_by(sets: Sets, was: Word, first: Word, second: Word) -> Word
+    ensures { λ r. ⌜ r ≡ leaves sets was first second ⌝ }
 {
-    let sets = row_of(e.kind).sets;
     match sets {
         Sets::Nothing => was,
-        Sets::First => e.first,
-        Sets::Second => e.second,
-        Sets::Sum => sum_32(e.first, e.second),
+        Sets::First => first,
+        Sets::Second => second,
+        Sets::Sum => sum_32(first, second),
     }
 }
 
-// Whether the value that an event reads, if it reads one, is that of its cell.
-fn is_latest(e: Event, was: Word) -> bool
-    ensures { λ r. ⌜ r ≡ reads was e ⌝ }
+// Whether the value that is read, if one is, is that of its cell.
+fn is_latest(reads: bool, first: Word, was: Word) -> bool
+    ensures { λ r. ⌜ r ≡ cond reads (eqb first was) true ⌝ }
 {
-    if row_of(e.kind).reads {
-        return e.first == was;
+    if reads {
+        return first == was;
     }
     true
 }
@@ -73,8 +74,10 @@ impl Memory {
         }
         let at = index_of(e.place);
         let was = self.cells[at];
-        let right = is_latest(e, was);
-        let left = left_by(e, was);
+        let row = row_of(e.kind);
+        let right = is_latest(row.reads, e.first, was);
+        let sets = row.sets;
+        let left = left_by(sets, was, e.first, e.second);
         if left == was {
             return Stepped {
                 memory: self,

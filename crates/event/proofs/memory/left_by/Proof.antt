@@ -1,4 +1,4 @@
--- Each arm is a line of the definition, at what the row says. Assumes nothing.
+-- Each arm is a line of the definition. Assumes nothing.
 use borrow.Author.Needs.{needs}
 use Rattle.event.proofs.memory.left_by.Statement.{statement}
 use Rattle.event.proofs.memory.left_by.Tie as tie
@@ -6,14 +6,6 @@ use Rattle.event.proofs.memory.left_by.Tie as tie
 pub left-by-spec : {M : Type 1} → statement M
 left-by-spec =
     tie.close
-    (tie.spec
-    (search needs)
-    (search needs)
-    (search needs)
-    (search needs)
-    (search needs)
-    (search needs)
-    (λ c. rw (← c .before .before .row-of .ensures, c .enum-told .given .1))
-    (λ c. rw (← c .before .before .row-of .ensures, c .enum-told2 .given .1))
-    (λ c. rw (← c .before .before .row-of .ensures, c .enum-told3 .given .1))
-    (λ c. rw (← c .before .before .before .row-of .ensures, c .before .enum-told4 .given .1, c .sum-32 .ensures)))
+    (tie.spec (search needs) (search needs) (search needs) (search needs) (search needs) (λ c. rw (c .enum-told .given .1))
+    (λ c. rw (c .enum-told2 .given .1)) (λ c. rw (c .enum-told3 .given .1))
+    (λ c. rw (c .before .enum-told4 .given .1, c .sum-32 .ensures)))

@@ -26,39 +26,32 @@ element-copy-out-was : tie.Need-element-copy-out-was
 element-copy-out-was c = inside c
 
 element-write-self : tie.Need-element-write-self
-element-write-self c = inside (c .before .before .before .before)
+element-write-self c = inside (c .before .before .before .before .before)
 
 -- an event that leaves its cell as it was
 returns-2 : tie.Need-returns-2
 unfolding stepped latest after
 returns-2 c =
-    let i = c .before .before .before .before in
+    let r = c .before .before .before in
+    let i = r .before .before in
     rw (
       law i,
       c .before .before .is-latest .ensures,
+      r .row-of .ensures,
       i .index-of .ensures,
-      (rw (i .index-of .ensures) at (sym (c .before .left-by .ensures) ∙ c .if2 .taken)),
+      (rw (r .row-of .ensures, i .index-of .ensures) at (sym (c .before .left-by .ensures) ∙ c .if2 .taken)),
       set-getD (i .before .before .before .args .t1 .cells) (i .before .before .before .args .e .place) 0,
     )
 
 returns-3 : tie.Need-returns-3
 unfolding stepped latest after
 returns-3 c =
-    let i = c .before .before .before .before in
-    rw (law i, c .before .before .is-latest .ensures, c .before .left-by .ensures, i .index-of .ensures)
+    let r = c .before .before .before in
+    let i = r .before .before in
+    rw (law i, c .before .before .is-latest .ensures, c .before .left-by .ensures, r .row-of .ensures, i .index-of .ensures)
 
 pub step-spec : {M : Type 1} → statement M
 step-spec =
     tie.close
-    (tie.spec
-    (search needs)
-    returns
-    (search needs)
-    (search needs)
-    element-copy-out-was
-    (search needs)
-    (search needs)
-    returns-2
-    (search needs)
-    element-write-self
-    returns-3)
+    (tie.spec (search needs) returns (search needs) (search needs) element-copy-out-was (search needs) (search needs) (search needs) returns-2
+    (search needs) element-write-self returns-3)
