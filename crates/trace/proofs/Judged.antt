@@ -1,6 +1,6 @@
 -- The events of a room one by one: the first of those that are left, the first that is bad (18, 19), and what 5 and 6 say. Assumes nothing.
 use Prim.Native.Nat.{ℕ, suc, _+_, _-_, _≤_, _<_}
-use mathlib.Core.Bool.{Bool, true, false}
+use mathlib.Core.Bool.{Bool, true, false, _||_, not, false≢true}
 use mathlib.Core.Path.{_≡_, refl, sym, _∙_, ap}
 use mathlib.Core.List.{List, [], _∷_, _++_}
 use native.Mathlib.Omega.{arith}
@@ -137,6 +137,13 @@ first-same a b c h = cases (either (eqb (a .number) 0)) (λ e. rw e (h (eqb-true
 
 pub first-none : (a : Answer) → (a .number ≡ 0 → a ≡ done) → first a done ≡ a
 first-none a h = cases (either (eqb (a .number) 0)) (λ e. rw e (sym (h (eqb-true (a .number) 0 e)))) (λ e. rw e)
+
+-- an event that neither clashes nor has another value than the latest changes nothing of what was found before
+pub faultless : (a : Answer) → (a .number ≡ 0 → a ≡ done) → (side k : ℕ) (clash right : Bool) → (clash || not right) ≡ false
+    → a ≡ first a (faultAt side k clash right)
+faultless a h side k true right e = absurd (false≢true (sym e))
+faultless a h side k false false e = absurd (false≢true (sym e))
+faultless a h side k false true e = sym (first-none a h)
 
 -- what is no refusal is done, and stays so
 pub first-stays : (a : Answer) (side k : ℕ) (clash right : Bool) {r : Answer} → r ≡ first a (faultAt side k clash right) → r .number ≡ 0 → r ≡ done

@@ -1,5 +1,6 @@
 // Answers 5 and 6 of one event: how its location was used, and whether its value is the latest.
 ghost use mathlib.Core.Path.{_≡_};
+ghost use mathlib.Core.Bool.{_||_, not};
 ghost use Prim.Native.Nat.{_<_};
 ghost use Rattle.event.specs.Answer.{done, first};
 ghost use Rattle.trace.specs.Fault.{faultAt};
@@ -93,4 +94,14 @@ pub(crate) fn fault_at(found: Answer, clash: bool, right: bool, side: Number, k:
         return found;
     }
     first_of(found, Answer::new(6, side, k))
+}
+
+// Whether an event is at fault.
+pub(crate) fn is_at_fault(clash: bool, right: bool) -> bool
+    ensures { λ r. ⌜ r ≡ (clash || not right) ⌝ }
+{
+    if clash {
+        return true;
+    }
+    !right
 }

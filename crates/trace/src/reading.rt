@@ -11,6 +11,7 @@ ghost use Rattle.trace.specs.Survey.{surveyInits, surveyEvents};
 use crate::fault::UNTOUCHED;
 use crate::fault::Way;
 use crate::fault::fault_at;
+use crate::fault::is_at_fault;
 use crate::fault::use_place;
 use crate::form::form_of;
 use crate::form::head_fault_of;
@@ -93,7 +94,9 @@ fn survey_events(
         n += 1;
         let clash = use_place(&mut ways, e);
         last = last.memory.step(e);
-        found = fault_at(found, clash, last.right, side, n);
+        if is_at_fault(clash, last.right) {
+            found = fault_at(found, clash, last.right, side, n);
+        }
         k += 1;
         at = to + 1;
     }

@@ -8,6 +8,7 @@ use native.Mathlib.Omega.{arith}
 use borrow.Author.Needs.{needs}
 use borrow.Author.Tests.{ne-eqb}
 use lib.ListN.{length, take, drop, length-set, drop-of-length-le}
+use Rattle.laws.proofs.Cases.{cases}
 use Rattle.event.specs.Answer.{done, first}
 use Rattle.event.specs.declared.Answer.{Answer}
 use Rattle.event.specs.declared.Event.{Event}
@@ -26,7 +27,7 @@ use Rattle.trace.specs.Fault.{clashes, faultAt}
 use Rattle.trace.specs.Reading.{refused}
 use Rattle.trace.specs.Survey.{surveyEvents}
 use Rattle.trace.specs.declared.reading.TraceRead.{TraceRead}
-use Rattle.trace.proofs.Judged.{fault-free, first-stays}
+use Rattle.trace.proofs.Judged.{fault-free, faultless, first-stays}
 use Rattle.trace.proofs.Surveys.{surveyOn, on-start, on-open, on-found, on-end, on-bad, on-init, on-full, on-go}
 use Rattle.trace.proofs.Ways.{Marks, marks-start, marks-told, clash, marks-next}
 use Rattle.trace.proofs.reading.survey_events.Statement.{statement}
@@ -128,9 +129,12 @@ module _ (c : tie.After-e Inv-loop μ-loop) where
   inside = place-below _ (line-lawful _ _ _ its)
 
 -- which is judged
-module _ (c : tie.After-fault-at Inv-loop μ-loop) where
+module _ (c : tie.Joined2 Inv-loop μ-loop) where
+  abbrev stepped-on : tie.After-step Inv-loop μ-loop
+  stepped-on = c .before .before
+
   abbrev u : tie.After-use-place Inv-loop μ-loop
-  u = c .before .before
+  u = stepped-on .before
 
   abbrev v : tie.After-e Inv-loop μ-loop
   v = u .before .before .before .before
@@ -145,25 +149,36 @@ module _ (c : tie.After-fault-at Inv-loop μ-loop) where
   found = p .before .loop .found
 
   abbrev right-now : Bool
-  right-now = c .before .step .result .right
+  right-now = stepped-on .step .result .right
+
+  abbrev after : Answer
+  after = c .if2 .found
 
   clash-is : found .number ≡ 0 → u .use-place .result ≡ clashes (inv p .before) (event v)
   clash-is z = u .use-place .ensures .0 ∙ sym (clash ways (inv p .before) (event v) (inside v) (inv p .marks z))
 
-  goes-on : whole p ≡ surveyOn (begin p .args .form) (begin p .args .side) (p .before .loop .k + 1) (p .before .loop .n + 1) (c .before .step .result .memory)
-      (event v ∷ inv p .before) (c .fault-at .result) (begin p .args .start) (others (r v))
+  -- where the event is not at fault, what was found before stays
+  told : after ≡ first found (faultAt (begin p .args .side) (p .before .loop .n + 1) (u .use-place .result) right-now)
+  told =
+      cases (c .if2 .came) (λ t. t .2 ∙ t .1 .ensures)
+      (λ e. e .1
+      ∙ faultless found (inv p .none) (begin p .args .side) (p .before .loop .n + 1) (u .use-place .result) right-now
+      (sym (c .before .is-at-fault .ensures) ∙ e .0 .left))
+
+  goes-on : whole p ≡ surveyOn (begin p .args .form) (begin p .args .side) (p .before .loop .k + 1) (p .before .loop .n + 1) (stepped-on .step .result .memory)
+      (event v ∷ inv p .before) after (begin p .args .start) (others (r v))
   goes-on =
       by-line (r v)
       (on-go _ _ _ _ _ _ _ _ _ _ (line (t (r v)) .some) (event v) (its v) (u .before .before .if1 .left) (u .use-place .result) clash-is
-      ∙ on-told _ _ _ _ _ _ _ (u .use-place .result) found (c .before .step .ensures) (c .fault-at .ensures))
+      ∙ on-told _ _ _ _ _ _ _ (u .use-place .result) found (stepped-on .step .ensures) told)
 
-  none-after : c .fault-at .result .number ≡ 0 → c .fault-at .result ≡ done
+  none-after : after .number ≡ 0 → after ≡ done
   none-after z =
-      first-stays found (begin p .args .side) (p .before .loop .n + 1) (u .use-place .result) right-now (c .fault-at .ensures) z
+      first-stays found (begin p .args .side) (p .before .loop .n + 1) (u .use-place .result) right-now told z
 
-  marks-after : c .fault-at .result .number ≡ 0 → Marks (u .use-place .last .0) (event v ∷ inv p .before)
+  marks-after : after .number ≡ 0 → Marks (u .use-place .last .0) (event v ∷ inv p .before)
   marks-after z =
-      let f = first-done found _ (ap (λ (a : Answer). a .number) (sym (c .fault-at .ensures)) ∙ z) in
+      let f = first-done found _ (ap (λ (a : Answer). a .number) (sym told) ∙ z) in
       let free = sym (u .use-place .ensures .0) ∙ fault-free (begin p .args .side) (p .before .loop .n + 1) (u .use-place .result) right-now (f .1) .0 in
       marks-told (event v ∷ inv p .before) (u .use-place .ensures .1)
       (marks-next ways (inv p .before) (event v) (inside v) (inv p .marks (f .0)) (inv p .size) free)
@@ -223,20 +238,20 @@ module _ (c : tie.After-enum-told Inv-loop μ-loop) where
 returns-4 : tie.Need-returns-4 Inv-loop μ-loop
 returns-4 c =
     let q = c .before .before .before in
-    refuses (c .refusal4 .ensures) (c .before .new5 .ensures) (rest q (on-open _ _ _ _ _ _ _ _ _ (rest-some _ _ (c .before .before .if2 .taken))))
+    refuses (c .refusal4 .ensures) (c .before .new5 .ensures) (rest q (on-open _ _ _ _ _ _ _ _ _ (rest-some _ _ (c .before .before .if3 .taken))))
 
 returns-5 : tie.Need-returns-5 Inv-loop μ-loop
 returns-5 c =
     let h = c .before .before .before in
-    let z = drop-of-length-le (text (o (h .before))) (h .if2 .left) in
+    let z = drop-of-length-le (text (o (h .before))) (h .if3 .left) in
     refuses (c .refusal5 .ensures) refl
-    (rest (h .before) (on-found _ _ _ _ _ _ _ _ _ (rest-none _ _ (h .if2 .left)) z (ne-eqb _ _ (c .before .if3 .taken))))
+    (rest (h .before) (on-found _ _ _ _ _ _ _ _ _ (rest-none _ _ (h .if3 .left)) z (ne-eqb _ _ (c .before .if4 .taken))))
 
 returns-6 : tie.Need-returns-6 Inv-loop μ-loop
 returns-6 c =
     let h = c .before .before .before in
-    let z = drop-of-length-le (text (o (h .before))) (h .if2 .left) in
-    rw (c .new6 .ensures) (sym (rest (h .before) (on-end _ _ _ _ _ _ _ _ _ (rest-none _ _ (h .if2 .left)) z (c .before .if3 .left))))
+    let z = drop-of-length-le (text (o (h .before))) (h .if3 .left) in
+    rw (c .new6 .ensures) (sym (rest (h .before) (on-end _ _ _ _ _ _ _ _ _ (rest-none _ _ (h .if3 .left)) z (c .before .if4 .left))))
 
 pub survey-events-spec : {M : Type 1} → statement M
 survey-events-spec =
@@ -268,7 +283,8 @@ survey-events-spec =
     (λ c. omega arith)
     (λ c κs. inside (c .before .before .before))
     (search needs)
-    (λ c κs. inv (l (t (r (c .before .before .before .before .before)))) .none)
+    (search needs)
+    (λ c κs. inv (l (t (r (c .before .before .before .before .before .before .before)))) .none)
     (λ c. omega (arith, line (t (r (v c))), inv (p c), begin (p c) .good))
     (λ c. omega (arith, line (t (r (v c))), begin (p c) .good))
     (λ c. omega (arith, line (t (r (v c))), begin (p c) .good))
