@@ -1,0 +1,18 @@
+-- What is proved of the steps. Assumes nothing.
+
+-- tests, tags, and a step as a move
+pub mod May
+pub mod Tags
+pub mod Allow
+-- the fixed order is the next steps, within a bound
+pub mod Counts
+pub mod Remove
+pub mod Sort
+pub mod Insert
+pub mod Printed
+-- the next step in the request's words
+pub mod Words
+pub mod Rising
+pub mod Cases
+-- the same by index
+pub mod Seam

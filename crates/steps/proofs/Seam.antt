@@ -1,0 +1,117 @@
+-- For loops over a trace by index: a step at a place, and each search, seen from an index on. Assumes nothing.
+use mathlib.Core.Path.{_≡_, refl, sym, _∙_, ap}
+use mathlib.Core.Bool.{Bool, true, false, cond, _&&_}
+use mathlib.Core.Option.{Option, none, some, Option·none-ne-some}
+use mathlib.Core.List.{List, [], _∷_, _++_}
+use Prim.Native.Nat.{ℕ, zero, suc, _+_, _<_, _≤_}
+use native.Mathlib.Omega.{arith}
+use lib.Dec.{eqb}
+use lib.ListN.{length, getD, take, drop}
+use lib.Seq.{drop-cons}
+use Rattle.event.specs.declared.Event.{Event}
+use Rattle.rules.specs.View.{View}
+use Rattle.rules.specs.Run.{Traced, tagOf, viewed}
+use Rattle.steps.specs.Allowed.{mayRemove, mayInsert, maySwap}
+use Rattle.steps.specs.Step.{isSource, leaves, targetNumber, overtakes, against, missing, removal, removed, swapped, inserted, under, at, hereOrLater}
+
+-- what came before an index, nearest first, behind b
+abbrev pub behind : List Traced → List Traced → ℕ → List Traced
+behind b u zero = b
+behind b [] (suc i) = b
+behind b (x ∷ u) (suc i) = behind (x ∷ b) u i
+
+-- so a loop downward takes one event off
+pub behind-next : (d : Traced) (i : ℕ) (b u : List Traced) → i < length u → behind b u (suc i) ≡ getD u i d ∷ behind b u i
+behind-next d i b [] l = absurd (omega arith)
+behind-next d zero b (x ∷ u) l = refl
+behind-next d (suc i) b (x ∷ u) l = behind-next d i (x ∷ b) u (omega arith)
+
+fronted : List Traced → Option (List Traced) → Option (List Traced)
+fronted [] o = o
+fronted (x ∷ l) o = under x (fronted l o)
+
+fronted-if : (c : Bool) (l v : List Traced) → fronted l (cond c (some v) none) ≡ cond c (some (l ++ v)) none
+unfolding fronted
+fronted-if true [] v = refl
+fronted-if true (x ∷ l) v = ap (under x) (fronted-if true l v)
+fronted-if false [] v = refl
+fronted-if false (x ∷ l) v = ap (under x) (fronted-if false l v)
+
+at-seam : (f : List Traced → List Traced → Option (List Traced)) (i : ℕ) (b u : List Traced) → i ≤ length u
+    → at i f b u ≡ fronted (take i u) (f (behind b u i) (drop i u))
+unfolding fronted
+at-seam f zero b u l = refl
+at-seam f (suc i) b [] l = absurd (omega arith)
+at-seam f (suc i) b (x ∷ u) l = ap (under x) (at-seam f i (x ∷ b) u (omega arith))
+
+module _ (view : Event → View) where
+  -- ---- a step, by index
+
+  pub remove-seam : (d : Traced) (k i : ℕ) (u : List Traced) → i < length u
+      → at i (removed view k) [] u
+      ≡ cond (isSource k (tagOf (getD u i d)) && mayRemove (viewed view) (behind [] u i) (viewed view (getD u i d)) (drop (suc i) u))
+      (some (take i u ++ drop (suc i) u)) none
+  remove-seam d k i u l =
+      at-seam (removed view k) i [] u (omega arith)
+      ∙ rw (drop-cons u i d l)
+      (fronted-if (isSource k (tagOf (getD u i d)) && mayRemove (viewed view) (behind [] u i) (viewed view (getD u i d)) (drop (suc i) u)) (take i u) (drop (suc i) u))
+
+  pub swap-seam : (d : Traced) (i : ℕ) (u : List Traced) → suc i < length u
+      → at i (swapped view) [] u
+      ≡ cond (maySwap (viewed view) (getD u i d) (getD u (suc i) d)) (some (take i u ++ getD u (suc i) d ∷ getD u i d ∷ drop (suc (suc i)) u)) none
+  swap-seam d i u l =
+      at-seam (swapped view) i [] u (omega arith)
+      ∙ rw (drop-cons u i d (omega arith), drop-cons u (suc i) d l)
+      (fronted-if (maySwap (viewed view) (getD u i d) (getD u (suc i) d)) (take i u) (getD u (suc i) d ∷ getD u i d ∷ drop (suc (suc i)) u))
+
+  pub insert-seam : (x : Traced) (i : ℕ) (u : List Traced) → i ≤ length u
+      → at i (inserted view x) [] u ≡ cond (mayInsert (viewed view) (behind [] u i) (viewed view x)) (some (take i u ++ x ∷ drop i u)) none
+  insert-seam x i u l =
+      at-seam (inserted view x) i [] u l ∙ fronted-if (mayInsert (viewed view) (behind [] u i) (viewed view x)) (take i u) (x ∷ drop i u)
+
+  -- ---- the last removal: downward, with nothing found from the index on
+
+  abbrev pub Open : List ℕ → Traced → List Traced → ℕ → Bool
+  Open ns d u i = leaves ns (tagOf (getD u i d)) && mayRemove (viewed view) (behind [] u i) (viewed view (getD u i d)) (drop (suc i) u)
+
+  removal-from : (ns : List ℕ) (d : Traced) (i : ℕ) (u : List Traced) → i < length u → removal view ns (behind [] u (suc i)) (drop (suc i) u) ≡ none
+      → (c : Bool) → Open ns d u i ≡ c → removal view ns (behind [] u i) (drop i u) ≡ cond c (some zero) none
+  removal-from ns d i u l h true e = rw (drop-cons u i d l, ← behind-next d i [] u l, h, e)
+  removal-from ns d i u l h false e = rw (drop-cons u i d l, ← behind-next d i [] u l, h, e)
+
+  removal-later : (ns : List ℕ) (i j : ℕ) (b u : List Traced) → removal view ns (behind b u i) (drop i u) ≡ some j → removal view ns b u ≡ some (i + j)
+  removal-later ns zero j b u h = h ∙ ap some (sym (omega arith))
+  removal-later ns (suc i) j b [] h = absurd (Option·none-ne-some j h)
+  removal-later ns (suc i) j b (x ∷ u) h = rw (removal-later ns i j (x ∷ b) u h) (ap some (omega arith))
+
+  -- going on, and found
+  pub removal-on : (ns : List ℕ) (d : Traced) (i : ℕ) (u : List Traced) → i < length u → removal view ns (behind [] u (suc i)) (drop (suc i) u) ≡ none
+      → Open ns d u i ≡ false → removal view ns (behind [] u i) (drop i u) ≡ none
+  removal-on ns d i u l h e = removal-from ns d i u l h false e
+
+  pub removal-found : (ns : List ℕ) (d : Traced) (i : ℕ) (u : List Traced) → i < length u → removal view ns (behind [] u (suc i)) (drop (suc i) u) ≡ none
+      → Open ns d u i ≡ true → removal view ns [] u ≡ some i
+  removal-found ns d i u l h e = removal-later ns i 0 [] u (removal-from ns d i u l h true e) ∙ ap some (omega arith)
+
+-- ---- the first place against the order, and the first number that is missing: upward
+
+abbrev pub shifted : ℕ → Option ℕ → Option ℕ
+shifted i none = none
+shifted i (some j) = some (i + j)
+
+pub against-on : (ns : List ℕ) (d : Traced) (i : ℕ) (u : List Traced) → suc i < length u → against ns u ≡ shifted i (against ns (drop i u))
+    → overtakes ns (getD u i d) (getD u (suc i) d) ≡ false → against ns u ≡ shifted (suc i) (against ns (drop (suc i) u))
+against-on ns d i u l h e =
+    h ∙ rw (drop-cons u i d (omega arith), drop-cons u (suc i) d l, e) (go (against ns (getD u (suc i) d ∷ drop (suc (suc i)) u)))
+  where
+    go : (o : Option ℕ) → shifted i (hereOrLater false o) ≡ shifted (suc i) o
+    go none = refl
+    go (some j) = ap some (omega arith)
+
+pub against-found : (ns : List ℕ) (d : Traced) (i : ℕ) (u : List Traced) → suc i < length u → against ns u ≡ shifted i (against ns (drop i u))
+    → overtakes ns (getD u i d) (getD u (suc i) d) ≡ true → against ns u ≡ some i
+against-found ns d i u l h e = h ∙ rw (drop-cons u i d (omega arith), drop-cons u (suc i) d l, e) (ap some (omega arith))
+
+pub missing-on : (ns : List ℕ) (n : ℕ) (d : Traced) (i : ℕ) (u : List Traced) → i < length u → missing ns n 1 u ≡ missing ns n (suc i) (drop i u)
+    → eqb (targetNumber ns (tagOf (getD u i d))) (suc i) ≡ true → missing ns n 1 u ≡ missing ns n (suc (suc i)) (drop (suc i) u)
+missing-on ns n d i u l h e = h ∙ rw (drop-cons u i d l, e)

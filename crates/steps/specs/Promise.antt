@@ -1,0 +1,56 @@
+-- Request C-12, what is promised of the steps: "that the replay is allowed at every step, never stalls and ends at the target, marks apart".
+-- Assumes nothing.
+use mathlib.Core.Path.{_≡_}
+use mathlib.Core.Option.{some}
+use mathlib.Core.List.{List, []}
+use Prim.Native.Nat.{ℕ, zero, suc, _+_, _≤_}
+use lib.Dec.{T}
+use lib.ListN.{length}
+use Rattle.laws.specs.Each.{Each}
+use Rattle.event.specs.Answer.{done}
+use Rattle.event.specs.Kind.{lawful}
+use Rattle.event.specs.declared.Event.{Event}
+use Rattle.event.specs.declared.memory.Memory.{Memory}
+use Rattle.trace.specs.Reading.{eventLimit}
+use Rattle.rules.specs.View.{view}
+use Rattle.rules.specs.Moves.{Move, Run}
+use Rattle.rules.specs.Run.{Traced, number, changes, Ends}
+use Rattle.rules.specs.Verdict.{verdict}
+use Rattle.rules.specs.Demand.{Passed}
+use Rattle.steps.specs.Step.{Replays, applied, phase}
+use Rattle.steps.specs.declared.Step.{Step}
+
+-- The pairs among n events.
+abbrev pub pairs : ℕ → ℕ
+pairs zero = 0
+pairs (suc n) = n + pairs n
+
+-- A bound on the steps: every source event removed, every pair of them swapped, every target event inserted.
+abbrev pub bound : List Event → List Event → ℕ
+bound s t = length s + pairs (length s) + length t
+
+-- An accepted matching is replayed from the source: each next step is allowed on the trace as it stands, until there is none; the trace is then
+-- the target, marks and code lines apart, every kept event at its number. The steps are within the bound.
+abbrev pub Printed : Type 0
+Printed =
+    (m n : Memory) (s t : List Event) (ns : List ℕ) → Passed m n s t ns → length t ≤ eventLimit
+    → verdict view (m .cells) (n .cells) s t ns ≡ done
+    → (k : ℕ) × (u : List Traced) × Replays view ns t k (number 1 s) u × Ends ns 1 u t × (k ≤ bound s t)
+
+-- A step that is applied is a move of its phase by the rules, whatever the matching says.
+abbrev pub Allowed : Type 0
+Allowed =
+    (t : List Event) → Each (λ e. T (lawful e)) t → (st : Step) (u v : List Traced)
+    → applied view t st u ≡ some v → Move (changes view) (phase st) [] u v
+
+-- A replay is a run: removals, then swaps and insertions.
+abbrev pub ReplaysRun : Type 0
+ReplaysRun =
+    (ns : List ℕ) (t : List Event) → Each (λ e. T (lawful e)) t → (k : ℕ) (u w : List Traced)
+    → Replays view ns t k u w → Run (changes view) u w
+
+-- There is one replay.
+abbrev pub OneReplay : Type 0
+OneReplay =
+    (ns : List ℕ) (t : List Event) (k k′ : ℕ) (u w w′ : List Traced)
+    → Replays view ns t k u w → Replays view ns t k′ u w′ → (k ≡ k′) × (w ≡ w′)
