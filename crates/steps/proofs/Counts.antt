@@ -8,7 +8,7 @@ use lib.ListN.{length, getD}
 use Rattle.event.specs.declared.Event.{Event}
 use Rattle.rules.specs.View.{View}
 use Rattle.rules.specs.Moves.{one, Move, remove, swap, next}
-use Rattle.rules.specs.Run.{old, Traced, traced, number, changes}
+use Rattle.rules.specs.Run.{old, Traced, traced, tagOf, number, changes}
 use Rattle.rules.proofs.Entries.{From, from-here, from-next}
 use Rattle.steps.specs.Step.{overtakes}
 use Rattle.steps.specs.Promise.{pairs}
@@ -48,7 +48,7 @@ begins ns f g h z c q i (e ∷ r) (k ∷ ks) l p =
 
 module _ (ns : List ℕ) where
   abbrev pub below : Traced → Traced → ℕ
-  below x y = bit (overtakes ns x y)
+  below x y = bit (overtakes ns (tagOf x) (tagOf y))
 
   abbrev pub inverted : List Traced → ℕ
   inverted [] = 0
@@ -56,7 +56,7 @@ module _ (ns : List ℕ) where
 
   few-below : (x : Traced) (u : List Traced) → total (below x) u ≤ length u
   few-below x [] = omega arith
-  few-below x (y ∷ u) = let i = bit-le (overtakes ns x y) in let j = few-below x u in omega arith
+  few-below x (y ∷ u) = let i = bit-le (overtakes ns (tagOf x) (tagOf y)) in let j = few-below x u in omega arith
 
   pub few-inverted : (u : List Traced) → inverted u ≤ pairs (length u)
   few-inverted [] = omega arith

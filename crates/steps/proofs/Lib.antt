@@ -16,3 +16,9 @@ pub mod Rising
 pub mod Cases
 -- the same by index
 pub mod Seam
+pub mod Traces
+pub mod Numbers
+pub mod Shifts
+pub mod Outcomes
+pub mod Changes
+pub mod Near

@@ -127,7 +127,7 @@ module _ (ns : List ℕ) where
   rises x (y ∷ u) g a h =
       let m = targetNumber ns (tagOf x) in
       let n = targetNumber ns (tagOf y) in
-      let q = not-found (overtakes ns x y) (against ns (y ∷ u)) h in
+      let q = not-found (overtakes ns (tagOf x) (tagOf y)) (against ns (y ∷ u)) h in
       let c : ltb n m ≡ false = rw (g .1 .0) at (q .0) in
       let d = ltb-false n m c in
       let b = a m in

@@ -12,15 +12,10 @@ use Rattle.event.specs.declared.Event.{Event}
 use Rattle.rules.specs.View.{View}
 use Rattle.rules.specs.Run.{Traced, tagOf, viewed}
 use Rattle.steps.specs.Allowed.{mayRemove, mayInsert, maySwap}
-use Rattle.steps.specs.Step.{isSource, leaves, targetNumber, overtakes, against, missing, removal, removed, swapped, inserted, under, at, hereOrLater}
+use Rattle.steps.specs.Step.{isSource, leaves, targetNumber, overtakes, against, missing, removal, removed, swapped, inserted, under, at, hereOrLater, shifted}
+use Rattle.steps.specs.Tags.{behind}
 
--- what came before an index, nearest first, behind b
-abbrev pub behind : List Traced → List Traced → ℕ → List Traced
-behind b u zero = b
-behind b [] (suc i) = b
-behind b (x ∷ u) (suc i) = behind (x ∷ b) u i
-
--- so a loop downward takes one event off
+-- a loop downward takes one event off
 pub behind-next : (d : Traced) (i : ℕ) (b u : List Traced) → i < length u → behind b u (suc i) ≡ getD u i d ∷ behind b u i
 behind-next d i b [] l = absurd (omega arith)
 behind-next d zero b (x ∷ u) l = refl
@@ -93,25 +88,23 @@ module _ (view : Event → View) where
       → Open ns d u i ≡ true → removal view ns [] u ≡ some i
   removal-found ns d i u l h e = removal-later ns i 0 [] u (removal-from ns d i u l h true e) ∙ ap some (omega arith)
 
--- ---- the first place against the order, and the first number that is missing: upward
+-- ---- the first place against the order, from an index on: upward
 
-abbrev pub shifted : ℕ → Option ℕ → Option ℕ
-shifted i none = none
-shifted i (some j) = some (i + j)
+module _ (ns : List ℕ) (d : Traced) (i : ℕ) (u : List Traced) (l : suc i < length u) where
+  pub against-next : overtakes ns (tagOf (getD u i d)) (tagOf (getD u (suc i) d)) ≡ false
+      → shifted i (against ns (drop i u)) ≡ shifted (suc i) (against ns (drop (suc i) u))
+  against-next e = rw (drop-cons u i d (omega arith), drop-cons u (suc i) d l, e) (go (against ns (getD u (suc i) d ∷ drop (suc (suc i)) u)))
+    where
+      go : (o : Option ℕ) → shifted i (hereOrLater false o) ≡ shifted (suc i) o
+      go none = refl
+      go (some j) = ap some (omega arith)
 
-pub against-on : (ns : List ℕ) (d : Traced) (i : ℕ) (u : List Traced) → suc i < length u → against ns u ≡ shifted i (against ns (drop i u))
-    → overtakes ns (getD u i d) (getD u (suc i) d) ≡ false → against ns u ≡ shifted (suc i) (against ns (drop (suc i) u))
-against-on ns d i u l h e =
-    h ∙ rw (drop-cons u i d (omega arith), drop-cons u (suc i) d l, e) (go (against ns (getD u (suc i) d ∷ drop (suc (suc i)) u)))
-  where
-    go : (o : Option ℕ) → shifted i (hereOrLater false o) ≡ shifted (suc i) o
-    go none = refl
-    go (some j) = ap some (omega arith)
+  pub against-found : overtakes ns (tagOf (getD u i d)) (tagOf (getD u (suc i) d)) ≡ true → shifted i (against ns (drop i u)) ≡ some i
+  against-found e = rw (drop-cons u i d (omega arith), drop-cons u (suc i) d l, e) (ap some (omega arith))
 
-pub against-found : (ns : List ℕ) (d : Traced) (i : ℕ) (u : List Traced) → suc i < length u → against ns u ≡ shifted i (against ns (drop i u))
-    → overtakes ns (getD u i d) (getD u (suc i) d) ≡ true → against ns u ≡ some i
-against-found ns d i u l h e = h ∙ rw (drop-cons u i d (omega arith), drop-cons u (suc i) d l, e) (ap some (omega arith))
-
-pub missing-on : (ns : List ℕ) (n : ℕ) (d : Traced) (i : ℕ) (u : List Traced) → i < length u → missing ns n 1 u ≡ missing ns n (suc i) (drop i u)
-    → eqb (targetNumber ns (tagOf (getD u i d))) (suc i) ≡ true → missing ns n 1 u ≡ missing ns n (suc (suc i)) (drop (suc i) u)
-missing-on ns n d i u l h e = h ∙ rw (drop-cons u i d l, e)
+pub against-end : (ns : List ℕ) (i : ℕ) (u : List Traced) → length u ≤ suc i → against ns (drop i u) ≡ none
+against-end ns zero [] l = refl
+against-end ns zero (x ∷ []) l = refl
+against-end ns zero (x ∷ y ∷ u) l = absurd (omega arith)
+against-end ns (suc i) [] l = refl
+against-end ns (suc i) (x ∷ u) l = against-end ns i u (omega arith)

@@ -8,7 +8,7 @@ use lib.ListN.{length}
 use Rattle.laws.proofs.Lists.{Each}
 use Rattle.event.specs.declared.Event.{Event}
 use Rattle.rules.specs.View.{View}
-use Rattle.rules.specs.Run.{Traced, viewed, changes}
+use Rattle.rules.specs.Run.{Traced, tagOf, viewed, changes}
 use Rattle.rules.proofs.Fixed.{Low, Lows, low, after, calm, again, Orderly}
 use Rattle.rules.proofs.FixedRun.{orderly-low}
 use Rattle.rules.proofs.Sorting.{above-asym}
@@ -29,14 +29,14 @@ module _ (view : Event → View) (s t : List Event) (ns : List ℕ) where
   find : {u v : List Traced} (b : List Traced) → Low (Overtakes view s t ns) u v → Orderly (changes view) (Overtakes view s t ns) u → Found b u v
   find b (low {e = x} {f = y} h) o = record {
     place = zero;
-    found = rw (T-true (overtakes ns x y) (if-overtakes view s t ns x y .1 h));
+    found = rw (T-true (overtakes ns (tagOf x) (tagOf y)) (if-overtakes view s t ns x y .1 h));
     moved = rw (T-true (maySwap (viewed view) x y) (o .0 .0 h));
   }
   find b (after {e = x} {f = y} h q) o =
       let r = find (x ∷ b) q (o .1) in
       record {
         place = suc (r .place);
-        found = rw (not-so (overtakes ns x y) (λ k. h (if-overtakes view s t ns x y .0 k)), r .found);
+        found = rw (not-so (overtakes ns (tagOf x) (tagOf y)) (λ k. h (if-overtakes view s t ns x y .0 k)), r .found);
         moved = ap (under x) (r .moved);
       }
 
@@ -61,11 +61,11 @@ module _ (view : Event → View) (s t : List Event) (ns : List ℕ) where
   same-length (after h q) = ap suc (same-length q)
 
   below-one : (x y : Traced) → Overtakes view s t ns x y → below ns x y ≡ 1
-  below-one x y h = rw (T-true (overtakes ns x y) (if-overtakes view s t ns x y .1 h))
+  below-one x y h = rw (T-true (overtakes ns (tagOf x) (tagOf y)) (if-overtakes view s t ns x y .1 h))
 
   below-none : (x y : Traced) → Overtakes view s t ns x y → below ns y x ≡ 0
   below-none x y h =
-      rw (not-so (overtakes ns y x) (λ k. above-asym (image view s t ns x) (image view s t ns y) h (if-overtakes view s t ns y x .0 k)))
+      rw (not-so (overtakes ns (tagOf y) (tagOf x)) (λ k. above-asym (image view s t ns x) (image view s t ns y) h (if-overtakes view s t ns y x .0 k)))
 
   inverted-low : {u v : List Traced} → Low (Overtakes view s t ns) u v → inverted ns u ≡ suc (inverted ns v)
   inverted-low (low {e = x} {f = y} h) = let i = below-one x y h in let j = below-none x y h in omega arith

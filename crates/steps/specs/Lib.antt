@@ -1,4 +1,8 @@
--- The tests beside the rules' statements, the steps of a run, and what is promised of them. Assumes nothing.
+-- The tests beside the rules' statements, the steps of a run, what a run holds, and what is promised of them. Assumes nothing.
 pub mod Allowed
 pub mod Step
+pub mod Tags
+pub mod Play
 pub mod Promise
+-- inner pages
+pub mod Inner

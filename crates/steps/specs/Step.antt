@@ -4,9 +4,9 @@ use mathlib.Core.Path.{_≡_}
 use mathlib.Core.Bool.{Bool, true, false, not, cond, _&&_, _||_}
 use mathlib.Core.Option.{Option, none, some}
 use mathlib.Core.List.{List, [], _∷_}
-use Prim.Native.Nat.{ℕ, zero, suc}
+use Prim.Native.Nat.{ℕ, zero, suc, _+_}
 use lib.Dec.{eqb, ltb}
-use lib.ListN.{length, getD}
+use lib.ListN.{length, getD, drop}
 use Rattle.event.specs.Room.{noEvent}
 use Rattle.event.specs.declared.Event.{Event}
 use Rattle.trace.specs.Reading.{eventLimit}
@@ -44,8 +44,8 @@ anyGone ns [] = false
 anyGone ns (x ∷ u) = leaves ns (tagOf x) || anyGone ns u
 
 -- Both are kept, and the first has the greater target number.
-abbrev pub overtakes : List ℕ → Traced → Traced → Bool
-overtakes ns x y = not (leaves ns (tagOf y)) && ltb (targetNumber ns (tagOf y)) (targetNumber ns (tagOf x))
+abbrev pub overtakes : List ℕ → Tag → Tag → Bool
+overtakes ns g h = not (leaves ns h) && ltb (targetNumber ns h) (targetNumber ns g)
 
 -- ---- where
 
@@ -65,12 +65,17 @@ hereOrLater false (some i) = some (suc i)
 abbrev pub against : List ℕ → List Traced → Option ℕ
 against ns [] = none
 against ns (x ∷ []) = none
-against ns (x ∷ y ∷ u) = hereOrLater (overtakes ns x y) (against ns (y ∷ u))
+against ns (x ∷ y ∷ u) = hereOrLater (overtakes ns (tagOf x) (tagOf y)) (against ns (y ∷ u))
 
 -- The first of the numbers i to n that does not stand at its place.
 abbrev pub missing : List ℕ → ℕ → ℕ → List Traced → Step
 missing ns n i [] = cond (ltb n i) Done (Insert i)
 missing ns n i (x ∷ u) = cond (eqb (targetNumber ns (tagOf x)) i) (missing ns n (suc i) u) (Insert i)
+
+-- Some places, counted from an index on.
+abbrev pub shifted : ℕ → Option ℕ → Option ℕ
+shifted i none = none
+shifted i (some j) = some (i + j)
 
 -- The source number of the event at a place, from 0 on.
 abbrev pub numberAt : List Traced → ℕ → ℕ
@@ -85,6 +90,10 @@ removeStep u (some i) = Remove (suc i) (numberAt u i)
 abbrev pub swapStep : Option ℕ → Step → Step
 swapStep none other = other
 swapStep (some i) other = Swap (suc i)
+
+-- The swap at the first place against the order from the index i on, else the insertion of the first missing number of n.
+abbrev pub orderStep : List ℕ → ℕ → ℕ → List Traced → Step
+orderStep ns n i u = swapStep (shifted i (against ns (drop i u))) (missing ns n 1 u)
 
 -- ---- what a step makes of a trace
 

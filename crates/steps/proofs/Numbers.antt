@@ -1,0 +1,34 @@
+-- An event is gone exactly if its target number is 0: an inserted event has one. Assumes nothing.
+use mathlib.Core.Path.{_≡_, refl, sym}
+use mathlib.Core.Bool.{Bool, true, false, cond, false≢true}
+use Prim.Native.Nat.{ℕ, zero, suc, _-_, _<_}
+use mathlib.Core.List.{List}
+use lib.Dec.{eqb, ltb, eqb·suc-zero}
+use lib.ListN.{getD}
+use borrow.Author.Tests.{ltb-true}
+use Rattle.trace.specs.Reading.{eventLimit}
+use Rattle.rules.specs.Fault.{isGone}
+use Rattle.rules.specs.Run.{old, new}
+use Rattle.steps.specs.Step.{leaves, sourceNumber, targetNumber}
+use Rattle.steps.specs.Tags.{decoded}
+
+zero-gone : (n : ℕ) → isGone n ≡ eqb n 0
+zero-gone zero = refl
+zero-gone (suc n) = sym (eqb·suc-zero n)
+
+pub leaves-zero : (ns : List ℕ) (k : ℕ) → leaves ns (decoded k) ≡ eqb (targetNumber ns (decoded k)) 0
+leaves-zero ns k = go (ltb k eventLimit)
+  where
+    go : (c : Bool) → leaves ns (cond c (old (suc k)) (new (suc (k - eventLimit))))
+        ≡ eqb (targetNumber ns (cond c (old (suc k)) (new (suc (k - eventLimit))))) 0
+    go true = zero-gone (getD ns k 0)
+    go false = sym (eqb·suc-zero (k - eventLimit))
+
+-- a gone event is the source's
+pub leaving-old : (ns : List ℕ) (k : ℕ) → leaves ns (decoded k) ≡ true → (k < eventLimit) × (sourceNumber (decoded k) ≡ suc k)
+leaving-old ns k h = go (ltb k eventLimit) refl h
+  where
+    go : (c : Bool) → ltb k eventLimit ≡ c → leaves ns (cond c (old (suc k)) (new (suc (k - eventLimit)))) ≡ true
+        → (k < eventLimit) × (sourceNumber (cond c (old (suc k)) (new (suc (k - eventLimit)))) ≡ suc k)
+    go true e h = (ltb-true k eventLimit e, refl)
+    go false e h = absurd (false≢true h)

@@ -1,0 +1,210 @@
+// What the rules of change allow on the trace as it stands.
+ghost use mathlib.Core.Path.{_≡_};
+ghost use mathlib.Core.Bool.{true, cond};
+ghost use mathlib.Core.Option.{none, some};
+ghost use mathlib.Core.List.{[]};
+ghost use Prim.Native.Nat.{_+_, _-_, _≤_, _<_};
+ghost use lib.ListN.{length, take, drop};
+ghost use Rattle.event.specs.Room.{wholeEvents};
+ghost use Rattle.rules.specs.View.{view, apart};
+ghost use Rattle.rules.specs.Run.{viewed};
+ghost use Rattle.rules.specs.Moves.{near};
+ghost use Rattle.steps.specs.Allowed.{holds, stores, mayInsert};
+ghost use Rattle.steps.specs.Tags.{behind, trace};
+ghost use Rattle.steps.specs.Step.{applied};
+ghost use Rattle.steps.specs.Inner.{exchanged, removableAt, withNew, without};
+ghost use Rattle.steps.specs.declared.Step.the-variants.{Remove, Swap, Insert};
+use crate::tag::event_of;
+use crate::tag::is_source;
+use event::Event;
+use event::WORDS;
+use event::Word;
+use event::kind::USED;
+use event::room::get;
+use judge::view::is_load;
+use judge::view::is_wall;
+use trace::reading::EVENT_LIMIT;
+
+// Whether the near access to a location before an index has a value.
+fn holds_before(
+    tags: &[usize],
+    source: &[Word],
+    target: &[Word],
+    i: usize,
+    place: Word,
+    value: Word,
+) -> bool
+    requires { ⌜ i ≤ length (now tags) ⌝ }
+    ensures { λ r. ⌜ r ≡ holds value (near (viewed view) place
+        (behind [] (trace (wholeEvents (now (source .entry))) (wholeEvents (now (target .entry))) (now (tags .entry))) i)) ⌝ }
+{
+    let mut j = i;
+    while 0 < j {
+        j -= 1;
+        let e = event_of(source, target, tags[j]);
+        if is_wall(e) {
+            return false;
+        }
+        if e.place == place {
+            return e.first == value;
+        }
+    }
+    false
+}
+
+// Whether the near access to a location from an index on is a store.
+fn stores_after(tags: &[usize], source: &[Word], target: &[Word], i: usize, place: Word) -> bool
+    ensures { λ r. ⌜ r ≡ stores (near (viewed view) place
+        (drop i (trace (wholeEvents (now (source .entry))) (wholeEvents (now (target .entry))) (now (tags .entry))))) ⌝ }
+{
+    let mut j = i;
+    while j < tags.len() {
+        let e = event_of(source, target, tags[j]);
+        if is_wall(e) {
+            return false;
+        }
+        if e.place == place {
+            return !is_load(e);
+        }
+        j += 1;
+    }
+    false
+}
+
+// Whether the event at an index may be removed.
+pub(crate) fn may_remove(tags: &[usize], source: &[Word], target: &[Word], i: usize) -> bool
+    requires { ⌜ i < length (now tags) ⌝ }
+    ensures { λ r. ⌜ r ≡ removableAt (wholeEvents (now (source .entry))) (wholeEvents (now (target .entry))) (now (tags .entry)) i ⌝ }
+{
+    let e = event_of(source, target, tags[i]);
+    if is_wall(e) {
+        return false;
+    }
+    if is_load(e) {
+        if e.order == USED {
+            return holds_before(tags, source, target, i, e.place, e.first);
+        }
+        return true;
+    }
+    if holds_before(tags, source, target, i, e.place, e.first) {
+        return true;
+    }
+    stores_after(tags, source, target, i + 1, e.place)
+}
+
+// Whether an event may be inserted at an index.
+pub(crate) fn may_insert(
+    tags: &[usize],
+    source: &[Word],
+    target: &[Word],
+    i: usize,
+    e: Event,
+) -> bool
+    requires { ⌜ i ≤ length (now tags) ⌝ }
+    ensures { λ r. ⌜ r ≡ mayInsert (viewed view)
+        (behind [] (trace (wholeEvents (now (source .entry))) (wholeEvents (now (target .entry))) (now (tags .entry))) i) (view e) ⌝ }
+{
+    if is_load(e) {
+        return holds_before(tags, source, target, i, e.place, e.first);
+    }
+    false
+}
+
+// Whether two adjacent events may be swapped.
+pub(crate) fn may_swap(e: Event, f: Event) -> bool
+    ensures { λ r. ⌜ r ≡ apart (view e) (view f) ⌝ }
+{
+    if is_wall(e) {
+        return false;
+    }
+    if is_wall(f) {
+        return false;
+    }
+    e.place != f.place
+}
+
+// Whether the source event of a number may be removed from its place, of what stands at the front of the tags.
+pub(crate) fn can_remove(
+    tags: &[usize],
+    standing: usize,
+    source: &[Word],
+    target: &[Word],
+    place: usize,
+    number: usize,
+) -> bool
+    requires { ⌜ standing ≤ length (now tags) ⌝ }
+    ensures { λ r. ⌜ applied view (wholeEvents (now (target .entry))) (Remove place number)
+        (trace (wholeEvents (now (source .entry))) (wholeEvents (now (target .entry))) (take standing (now (tags .entry))))
+        ≡ cond r (some (trace (wholeEvents (now (source .entry))) (wholeEvents (now (target .entry)))
+        (without (place - 1) (take standing (now (tags .entry)))))) none ⌝ }
+    ensures { λ r. ⌜ (r ≡ true → (0 < place) × (place ≤ standing)) ⌝ }
+{
+    if place == 0 {
+        return false;
+    }
+    if standing < place {
+        return false;
+    }
+    let i = place - 1;
+    if is_source(number, tags[i]) {
+        return may_remove(&tags[0..standing], source, target, i);
+    }
+    false
+}
+
+// Whether the events at a place and the next may be swapped.
+pub(crate) fn can_swap(
+    tags: &[usize],
+    standing: usize,
+    source: &[Word],
+    target: &[Word],
+    place: usize,
+) -> bool
+    requires { ⌜ standing ≤ length (now tags) ⌝ }
+    ensures { λ r. ⌜ applied view (wholeEvents (now (target .entry))) (Swap place)
+        (trace (wholeEvents (now (source .entry))) (wholeEvents (now (target .entry))) (take standing (now (tags .entry))))
+        ≡ cond r (some (trace (wholeEvents (now (source .entry))) (wholeEvents (now (target .entry)))
+        (exchanged (place - 1) (take standing (now (tags .entry)))))) none ⌝ }
+    ensures { λ r. ⌜ (r ≡ true → (0 < place) × (place < standing)) ⌝ }
+{
+    if place == 0 {
+        return false;
+    }
+    if standing <= place {
+        return false;
+    }
+    let e = event_of(source, target, tags[place - 1]);
+    let f = event_of(source, target, tags[place]);
+    may_swap(e, f)
+}
+
+// Whether the target event of a number may be inserted at that place.
+pub(crate) fn can_insert(
+    tags: &[usize],
+    standing: usize,
+    source: &[Word],
+    target: &[Word],
+    place: usize,
+) -> bool
+    requires { ⌜ standing ≤ length (now tags) ⌝ }
+    ensures { λ r. ⌜ applied view (wholeEvents (now (target .entry))) (Insert place)
+        (trace (wholeEvents (now (source .entry))) (wholeEvents (now (target .entry))) (take standing (now (tags .entry))))
+        ≡ cond r (some (trace (wholeEvents (now (source .entry))) (wholeEvents (now (target .entry)))
+        (withNew (place - 1) (800 + (place - 1)) (take standing (now (tags .entry)))))) none ⌝ }
+    ensures { λ r. ⌜ (r ≡ true → (0 < place) × (place - 1 ≤ standing) × (standing < 800)) ⌝ }
+{
+    if place == 0 {
+        return false;
+    }
+    let i = place - 1;
+    if target.len() / WORDS <= i {
+        return false;
+    }
+    if EVENT_LIMIT <= standing {
+        return false;
+    }
+    if standing < i {
+        return false;
+    }
+    may_insert(&tags[0..standing], source, target, i, get(target, i))
+}
