@@ -42,7 +42,7 @@ module _ (view : Event → View) where
   abbrev pub Shift : Phase → List Traced → List Traced → List Traced → Type 0
   Shift φ b u v = Move (changes view) φ b u v
 
-  at-move : (φ : Phase) (f : List Traced → List Traced → Option (List Traced)) → ((b u v : List Traced) → f b u ≡ some v → Shift φ b u v)
+  pub at-move : (φ : Phase) (f : List Traced → List Traced → Option (List Traced)) → ((b u v : List Traced) → f b u ≡ some v → Shift φ b u v)
       → (i : ℕ) (b u v : List Traced) → at i f b u ≡ some v → Shift φ b u v
   at-move φ f g zero b u v h = g b u v h
   at-move φ f g (suc i) b [] v h = absurd (Option·none-ne-some v h)
@@ -60,7 +60,7 @@ module _ (view : Event → View) where
       let r = through (c && d) a v h in
       subst (λ z. Shift one b (x ∷ a) z) (r .1) (remove (if-removable (viewed view) b (viewed view x) a .0 (and-right c d (r .0))))
 
-  swapped-move : (φ : Phase) (b u v : List Traced) → swapped view b u ≡ some v → Shift φ b u v
+  pub swapped-move : (φ : Phase) (b u v : List Traced) → swapped view b u ≡ some v → Shift φ b u v
   swapped-move φ b [] v h = absurd (Option·none-ne-some v h)
   swapped-move φ b (x ∷ []) v h = absurd (Option·none-ne-some v h)
   swapped-move φ b (x ∷ y ∷ a) v h =

@@ -21,4 +21,8 @@ pub mod Numbers
 pub mod Shifts
 pub mod Outcomes
 pub mod Changes
+pub mod Kept
+pub mod Resume
+pub mod Plays
+pub mod Begun
 pub mod Near

@@ -11,6 +11,7 @@ use Rattle.event.specs.declared.Event.{Event}
 use Rattle.trace.specs.Reading.{eventLimit}
 use Rattle.rules.specs.View.{view}
 use Rattle.rules.specs.Run.{Traced}
+use Rattle.checker.specs.Check.{Checks, Lent, checkOf}
 use Rattle.checker.specs.declared.Checked.{Checked}
 use Rattle.steps.specs.Step.{applied, nextStep, orderStep}
 use Rattle.steps.specs.Tags.{codes, counted, trace}
@@ -34,11 +35,14 @@ front ks tags = ks ++ drop (length ks) tags
 abbrev pub beginning : Checked → Run
 beginning c = record { begun = eqb (c .answer .number) 0; standing = cond (eqb (c .answer .number) 0) (c .source .events) 0 }
 
-abbrev pub startedOf : Checked → Started
-startedOf c = record { checked = c; run = beginning c }
-
 abbrev pub tagsBegun : Checked → List ℕ → List ℕ
 tagsBegun c tags = cond (eqb (c .answer .number) 0) (front (counted 0 (c .source .events)) tags) tags
+
+-- What a beginning hands back, and what it leaves in the rooms and in the array.
+pub record Starts (l : Lent) (tags : List ℕ) (r : Started) (sourceRoom targetRoom entryRoom after : List ℕ) : Type 0 where
+  pub checks : Checks l (r .checked) sourceRoom targetRoom entryRoom
+  pub run : r .run ≡ beginning (checkOf l)
+  pub left : after ≡ tagsBegun (checkOf l) tags
 
 module _ (s t : List Event) where
   -- The trace as it stands.
@@ -60,6 +64,14 @@ appliedOf r (some u) = leaving (length u)
 abbrev pub tagsAfter : List ℕ → Option (List Traced) → List ℕ
 tagsAfter tags none = tags
 tagsAfter tags (some u) = front (codes u) tags
+
+-- The place of a swap; 0 of another step.
+abbrev pub swapPlace : Step → ℕ
+swapPlace (Remove i k) = 0
+swapPlace (Swap i) = i
+swapPlace (Insert i) = 0
+swapPlace Done = 0
+swapPlace Stuck = 0
 
 -- There is no next step.
 abbrev pub isDone : Step → Bool

@@ -8,6 +8,7 @@ ghost use Rattle.rules.specs.View.{view};
 ghost use Rattle.steps.specs.Inner.{withNew, without};
 ghost use Rattle.steps.specs.Play.{Applies, appliedOf, front, leaving, stands};
 ghost use Rattle.steps.specs.Step.{applied};
+ghost use Rattle.steps.specs.Tags.{counted};
 ghost use Rattle.steps.specs.declared.Step.the-variants.{Remove, Swap, Insert};
 use crate::Applied;
 use crate::Run;
@@ -16,6 +17,18 @@ use crate::allowed::can_remove;
 use crate::allowed::can_swap;
 use event::Word;
 use trace::reading::EVENT_LIMIT;
+
+// The numbers of the source's events.
+pub(crate) fn fill(tags: &mut [usize], events: usize)
+    requires { ⌜ events ≤ length (now tags) ⌝ }
+    ensures { λ _. ⌜ now (tags .exit) ≡ front (counted 0 events) (now (tags .entry)) ⌝ }
+{
+    let mut i: usize = 0;
+    while i < events {
+        tags[i] = i;
+        i += 1;
+    }
+}
 
 // The number at an index taken out of those up to `last`.
 fn shift_left(tags: &mut [usize], i: usize, last: usize)

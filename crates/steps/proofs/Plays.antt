@@ -1,0 +1,172 @@
+-- A replay step by step: what is left of it after a step that was applied, and where it stops. Assumes nothing.
+use mathlib.Core.Path.{_≡_, refl, sym, _∙_, ap, subst}
+use mathlib.Core.Bool.{Bool, true, false, cond, false≢true}
+use mathlib.Core.Option.{Option, none, some, Option·none-ne-some}
+use mathlib.Core.List.{List, [], _∷_, _++_}
+use Prim.Native.Nat.{ℕ, zero, suc, _+_, _-_, _≤_, _<_}
+use native.Mathlib.Omega.{arith}
+use lib.ListN.{length, take, drop, length-append, length-drop}
+use Rattle.event.specs.declared.Event.{Event}
+use Rattle.trace.specs.Reading.{eventLimit}
+use Rattle.rules.specs.View.{view}
+use Rattle.rules.specs.Run.{Traced}
+use Rattle.steps.specs.Play.{Applies, Played, Plays, front, isDone, isOpen, nextFrom, nextOf, oneMore, onward, outcome, play, stands, stopped, swapPlace}
+use Rattle.steps.specs.Step.{applied, nextStep}
+use Rattle.steps.specs.Tags.{codes}
+use Rattle.steps.specs.declared.Applied.{Applied}
+use Rattle.steps.specs.declared.Replayed.{Replayed}
+use Rattle.steps.specs.declared.Run.{Run}
+use Rattle.steps.specs.declared.Step.{Step}
+use Rattle.steps.specs.declared.Step.the-variants.{Done}
+use Rattle.steps.proofs.Changes.{fits}
+use Rattle.steps.proofs.Kept.{coded-applied, few-applied, length-codes, open-running, running, stands-front}
+use Rattle.steps.proofs.Resume.{resumed}
+use Rattle.steps.proofs.Traces.{length-trace}
+
+-- ---- what was applied, and what was not
+
+went-on : (r : Run) (A : List ℕ) (o : Option (List Traced)) (a : Applied) (B : List ℕ) → Applies r A o a B → a .allowed ≡ true
+    → (u : List Traced) × (o ≡ some u) × (a .run ≡ running u) × (B ≡ front (codes u) A)
+went-on r A none a B p h = absurd (false≢true (ap (λ (x : Applied). x .allowed) (sym (p .answer)) ∙ h))
+went-on r A (some u) a B p h = (u, refl, ap (λ (x : Applied). x .run) (p .answer), p .left)
+
+went-off : (r : Run) (A : List ℕ) (o : Option (List Traced)) (a : Applied) (B : List ℕ) → Applies r A o a B → a .allowed ≡ false → (o ≡ none) × (B ≡ A)
+went-off r A none a B p h = (refl, p .left)
+went-off r A (some u) a B p h = absurd (false≢true (sym h ∙ ap (λ (x : Applied). x .allowed) (p .answer)))
+
+take-few : (n : ℕ) (A : List ℕ) → length (take n A) ≤ n
+take-few zero A = omega arith
+take-few (suc n) [] = omega arith
+take-few (suc n) (a ∷ A) = let i = take-few n A in omega arith
+
+module _ (s t : List Event) (ns : List ℕ) where
+  -- a run that has begun
+  next-open : (k : ℕ) (r : Run) (A : List ℕ) (u : List Traced) → isOpen r ≡ true → stands s t r A ≡ u → nextOf s t ns k r A ≡ nextFrom s t ns k u
+  next-open k r A u h e = rw (h, e)
+
+  -- a step that was applied: the run has begun, and what stands is the trace after it
+  module _ (r : Run) (A : List ℕ) (st : Step) (u : List Traced) (h : outcome s t r A st ≡ some u) where
+    pub opened : (isOpen r ≡ true) × (applied view t st (stands s t r A) ≡ some u)
+    opened = go (isOpen r) refl h
+      where
+        go : (c : Bool) → isOpen r ≡ c → cond c (applied view t st (stands s t r A)) none ≡ some u
+            → (isOpen r ≡ true) × (applied view t st (stands s t r A) ≡ some u)
+        go true e h = (e, h)
+        go false e h = absurd (Option·none-ne-some u h)
+
+    pub stands-after : stands s t (running u) (front (codes u) A) ≡ u
+    stands-after = stands-front s t u A (coded-applied s t st (take (r .standing) A) u (opened .1))
+
+    pub few-after : length u ≤ eventLimit
+    few-after =
+        let f = fits s t r A (opened .0) in
+        let k = take-few (r .standing) A in
+        let m = length-trace s t (take (r .standing) A) in
+        few-applied t st (stands s t r A) u (opened .1) (omega arith)
+
+    open-after : isOpen (running u) ≡ true
+    open-after = open-running u few-after
+
+    size-after : length A ≡ eventLimit → length (front (codes u) A) ≡ eventLimit
+    size-after l =
+        let m = length-codes u in
+        let f = few-after in
+        length-append (codes u) (drop (length (codes u)) A) ∙ omega (arith, length-drop (length (codes u)) A)
+
+  -- the next step asked for from the last swap's place on
+  asked-on : (r : Run) (A : List ℕ) (u : List Traced) → outcome s t r A (nextOf s t ns 0 r A) ≡ some u
+      → nextOf s t ns (swapPlace (nextOf s t ns 0 r A)) (running u) (front (codes u) A) ≡ nextOf s t ns 0 (running u) (front (codes u) A)
+  asked-on r A u h =
+      let st = nextOf s t ns 0 r A in
+      let o = opened r A st u h in
+      let e : nextStep view ns (length t) (stands s t r A) ≡ st = sym (next-open 0 r A (stands s t r A) (o .0) refl) in
+      next-open (swapPlace st) (running u) (front (codes u) A) u (open-after r A st u h) (stands-after r A st u h)
+      ∙ (resumed s t ns st (stands s t r A) u e (o .1)
+      ∙ sym (next-open 0 (running u) (front (codes u) A) u (open-after r A st u h) (stands-after r A st u h)))
+
+  -- ---- what is left of a replay
+
+  play-on : (b : ℕ) (r : Run) (A : List ℕ) (u : List Traced) → outcome s t r A (nextOf s t ns 0 r A) ≡ some u
+      → play s t ns (suc b) r A ≡ oneMore (play s t ns b (running u) (front (codes u) A))
+  play-on b r A u h = ap (λ o. onward r A (nextOf s t ns 0 r A) o (play s t ns b)) h
+
+  play-off : (b : ℕ) (r : Run) (A : List ℕ) → outcome s t r A (nextOf s t ns 0 r A) ≡ none → play s t ns b r A ≡ stopped r A (nextOf s t ns 0 r A)
+  play-off zero r A h = refl
+  play-off (suc b) r A h = ap (λ o. onward r A (nextOf s t ns 0 r A) o (play s t ns b)) h
+
+-- so many steps more
+abbrev later : ℕ → Played → Played
+later k p = record { run = p .run; tags = p .tags; steps = k + p .steps; ended = p .ended }
+
+-- it stops
+stops-here : (p : Played) (r : Run) (A : List ℕ) (st : Step) (k : ℕ) → p ≡ later k (stopped r A st) → (result : Replayed)
+    → result ≡ record { run = r; steps = k; ended = isDone st } → Plays p result A
+stops-here p r A st k e result q = let z : k ≡ k + 0 = omega arith in rw e (record { answer = q ∙ rw (← z); left = refl })
+
+-- a replay of p is under way
+pub record Going (s t : List Event) (ns : List ℕ) (budget : ℕ) (p : Played) (A : List ℕ) (r : Run) (swapped steps : ℕ) : Type 0 where
+  pub size : length A ≡ eventLimit
+  pub bound : steps ≤ budget
+  pub asked : nextOf s t ns swapped r A ≡ nextOf s t ns 0 r A
+  pub same : p ≡ later steps (play s t ns (budget - steps) r A)
+
+pub going : (s t : List Event) (ns : List ℕ) (budget : ℕ) (A : List ℕ) (r : Run) → length A ≡ eventLimit
+    → Going s t ns budget (play s t ns budget r A) A r 0 0
+going s t ns budget A r l = record {
+  size = l;
+  bound = omega arith;
+  asked = refl;
+  same =
+      let e : budget ≡ budget - 0 = omega arith in
+      let z : (k : ℕ) → k ≡ 0 + k = λ k. omega arith in
+      ap (λ b. play s t ns b r A) e ∙ rw (← z (play s t ns (budget - 0) r A .steps));
+}
+
+going-as : (s t : List Event) (ns : List ℕ) (budget : ℕ) (p : Played) (B A : List ℕ) (q r : Run) (x y n k : ℕ) → B ≡ A → q ≡ r → x ≡ y → n ≡ k
+    → Going s t ns budget p A r y k → Going s t ns budget p B q x n
+going-as s t ns budget p B A q r x y n k e f g h w = rw (e, f, g, h) w
+
+module _ (s t : List Event) (ns : List ℕ) (budget : ℕ) (p : Played) (A : List ℕ) (r : Run) (swapped steps : ℕ) (g : Going s t ns budget p A r swapped steps)
+    (st : Step) (e : st ≡ nextOf s t ns swapped r A) where
+  -- it is the next step
+  is-next : st ≡ nextOf s t ns 0 r A
+  is-next = e ∙ g .asked
+
+  stepped : (u : List Traced) → outcome s t r A st ≡ some u → steps < budget
+      → Going s t ns budget p (front (codes u) A) (running u) (swapPlace st) (suc steps)
+  stepped u h l =
+      let o : outcome s t r A (nextOf s t ns 0 r A) ≡ some u = ap (outcome s t r A) (sym is-next) ∙ h in
+      let c : budget - steps ≡ suc (budget - suc steps) = omega arith in
+      let k : (i : ℕ) → steps + suc i ≡ suc steps + i = λ i. omega arith in
+      record {
+        size = size-after s t ns r A (nextOf s t ns 0 r A) u o (g .size);
+        bound = omega arith;
+        asked = ap (λ x. nextOf s t ns (swapPlace x) (running u) (front (codes u) A)) is-next ∙ asked-on s t ns r A u o;
+        same = g .same ∙ (ap (λ b. later steps (play s t ns b r A)) c
+            ∙ (ap (later steps) (play-on s t ns (budget - suc steps) r A u o)
+            ∙ rw (k (play s t ns (budget - suc steps) (running u) (front (codes u) A) .steps))));
+      }
+
+  pub goes-on : (a : Applied) (B : List ℕ) → Applies r A (outcome s t r A st) a B → steps < budget → a .allowed ≡ true → (place next : ℕ)
+      → place ≡ swapPlace st → next ≡ suc steps → Going s t ns budget p B (a .run) place next
+  goes-on a B w l h place next q n =
+      let d = went-on r A (outcome s t r A st) a B w h in
+      going-as s t ns budget p B (front (codes (d .0)) A) (a .run) (running (d .0)) place (swapPlace st) next (suc steps) (d .3) (d .2) q n (stepped (d .0) (d .1) l)
+
+  pub goes-off : (a : Applied) (B : List ℕ) → Applies r A (outcome s t r A st) a B → (result : Replayed) → a .allowed ≡ false
+      → result ≡ record { run = r; steps = steps; ended = isDone st } → Plays p result B
+  goes-off a B w result h q =
+      let d = went-off r A (outcome s t r A st) a B w h in
+      let o : outcome s t r A (nextOf s t ns 0 r A) ≡ none = ap (outcome s t r A) (sym is-next) ∙ d .0 in
+      let e : p ≡ later steps (stopped r A st) =
+      g .same ∙ (ap (later steps) (play-off s t ns (budget - steps) r A o) ∙ ap (λ x. later steps (stopped r A x)) (sym is-next)) in
+      subst (λ z. Plays p result z) (sym (d .1)) (stops-here p r A st steps e result q)
+
+  -- the budget is spent
+  pub spent : budget ≤ steps → (result : Replayed) → result ≡ record { run = r; steps = steps; ended = isDone st } → Plays p result A
+  spent l result q =
+      let b = g .bound in
+      let c : budget - steps ≡ 0 = omega arith in
+      let e : p ≡ later steps (stopped r A st) =
+      g .same ∙ (ap (λ z. later steps (play s t ns z r A)) c ∙ ap (λ x. later steps (stopped r A x)) (sym is-next)) in
+      stops-here p r A st steps e result q
