@@ -49,7 +49,7 @@ pub read-all : (l : Lent) → readingAnswer l .number ≡ 0 → (sourceRead l .a
 unfolding readingAnswer
 read-all l h = let p = first-done _ _ h in (p .0, first-done _ _ (p .1) .0)
 
-passes : (l : Lent) → Admitted l → Passed (sourceRead l .memory) (targetRead l .memory) (sourceOf l) (targetOf l) (entriesFor l)
+pub passes : (l : Lent) → Admitted l → Passed (sourceRead l .memory) (targetRead l .memory) (sourceOf l) (targetOf l) (entriesFor l)
 passes l a =
     let r = read-all l (a .reading) in
     record {
