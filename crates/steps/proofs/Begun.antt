@@ -5,17 +5,14 @@ use mathlib.Core.List.{List}
 use Prim.Native.Nat.{ℕ, _≤_}
 use native.Mathlib.Omega.{arith}
 use lib.Dec.{eqb}
-use lib.ListN.{length}
 use borrow.Author.Tests.{eqb-true, eq-eqb, ne-eqb}
-use Rattle.event.specs.declared.Answer.{Answer}
 use Rattle.trace.specs.Reading.{eventLimit, eventsOf, front as filledFront}
 use Rattle.checker.specs.Check.{Checks, Lent, checkOf, entriesRead, heldOf, readingAnswer, refused, sourceRead, targetRead, verdictOf}
 use Rattle.checker.specs.declared.Checked.{Checked}
 use Rattle.checker.proofs.Demand3.{read-all}
 use Rattle.checker.proofs.Filled.{filled}
-use Rattle.steps.specs.Play.{Starts, beginning, front, tagsBegun}
+use Rattle.steps.specs.Play.{Starts, front}
 use Rattle.steps.specs.Tags.{counted}
-use Rattle.steps.specs.declared.Run.{Run}
 
 few-read : (l : Lent) → readingAnswer l .number ≡ 0 → sourceRead l .events ≤ eventLimit
 few-read l h = filled 1 (l .source) (l .sourceRoom) (read-all l h .0) (sourceRead l) refl (filledFront (eventsOf (l .source)) (l .sourceRoom)) refl .few
@@ -37,12 +34,14 @@ module _ (l : Lent) (c : Checked) (tags : List ℕ) {sr tr er : List ℕ} (h : C
   accepts z f =
       let e = eq-eqb (checkOf l .answer .number) 0 (ap (λ (x : Checked). x .answer .number) (sym (h .result)) ∙ z) in
       record {
-        checks = h;
-        run = rw (e, ← h .result);
+        result = rw (e, ← h .result);
+        source = h .source;
+        target = h .target;
+        entries = h .entries;
         left = f ∙ rw (e, ← h .result);
       }
 
   pub refuses : (c .answer .number ≡ 0 → ⊥) → Starts l tags (record { checked = c; run = record { begun = false; standing = 0 } }) sr tr er tags
   refuses z =
       let e = ne-eqb (checkOf l .answer .number) 0 (λ q. z (ap (λ (x : Checked). x .answer .number) (h .result) ∙ q)) in
-      record { checks = h; run = rw e; left = rw e }
+      record { result = rw (e, ← h .result); source = h .source; target = h .target; entries = h .entries; left = rw e }

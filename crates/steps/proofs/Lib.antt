@@ -25,4 +25,6 @@ pub mod Kept
 pub mod Resume
 pub mod Plays
 pub mod Begun
+pub mod Texts
+pub mod Unique
 pub mod Near

@@ -2,7 +2,7 @@
 use mathlib.Core.Path.{_≡_, refl, sym, _∙_, ap, subst}
 use mathlib.Core.Bool.{Bool, true, false, cond, false≢true}
 use mathlib.Core.Option.{Option, none, some, Option·none-ne-some}
-use mathlib.Core.List.{List, [], _∷_, _++_}
+use mathlib.Core.List.{List, [], _∷_}
 use Prim.Native.Nat.{ℕ, zero, suc, _+_, _-_, _≤_, _<_}
 use native.Mathlib.Omega.{arith}
 use lib.ListN.{length, take, drop, length-append, length-drop}
@@ -17,7 +17,6 @@ use Rattle.steps.specs.declared.Applied.{Applied}
 use Rattle.steps.specs.declared.Replayed.{Replayed}
 use Rattle.steps.specs.declared.Run.{Run}
 use Rattle.steps.specs.declared.Step.{Step}
-use Rattle.steps.specs.declared.Step.the-variants.{Done}
 use Rattle.steps.proofs.Changes.{fits}
 use Rattle.steps.proofs.Kept.{coded-applied, few-applied, length-codes, open-running, running, stands-front}
 use Rattle.steps.proofs.Resume.{resumed}
@@ -41,7 +40,7 @@ take-few (suc n) (a ∷ A) = let i = take-few n A in omega arith
 
 module _ (s t : List Event) (ns : List ℕ) where
   -- a run that has begun
-  next-open : (k : ℕ) (r : Run) (A : List ℕ) (u : List Traced) → isOpen r ≡ true → stands s t r A ≡ u → nextOf s t ns k r A ≡ nextFrom s t ns k u
+  pub next-open : (k : ℕ) (r : Run) (A : List ℕ) (u : List Traced) → isOpen r ≡ true → stands s t r A ≡ u → nextOf s t ns k r A ≡ nextFrom s t ns k u
   next-open k r A u h e = rw (h, e)
 
   -- a step that was applied: the run has begun, and what stands is the trace after it
@@ -64,7 +63,7 @@ module _ (s t : List Event) (ns : List ℕ) where
         let m = length-trace s t (take (r .standing) A) in
         few-applied t st (stands s t r A) u (opened .1) (omega arith)
 
-    open-after : isOpen (running u) ≡ true
+    pub open-after : isOpen (running u) ≡ true
     open-after = open-running u few-after
 
     size-after : length A ≡ eventLimit → length (front (codes u) A) ≡ eventLimit
@@ -86,11 +85,11 @@ module _ (s t : List Event) (ns : List ℕ) where
 
   -- ---- what is left of a replay
 
-  play-on : (b : ℕ) (r : Run) (A : List ℕ) (u : List Traced) → outcome s t r A (nextOf s t ns 0 r A) ≡ some u
+  pub play-on : (b : ℕ) (r : Run) (A : List ℕ) (u : List Traced) → outcome s t r A (nextOf s t ns 0 r A) ≡ some u
       → play s t ns (suc b) r A ≡ oneMore (play s t ns b (running u) (front (codes u) A))
   play-on b r A u h = ap (λ o. onward r A (nextOf s t ns 0 r A) o (play s t ns b)) h
 
-  play-off : (b : ℕ) (r : Run) (A : List ℕ) → outcome s t r A (nextOf s t ns 0 r A) ≡ none → play s t ns b r A ≡ stopped r A (nextOf s t ns 0 r A)
+  pub play-off : (b : ℕ) (r : Run) (A : List ℕ) → outcome s t r A (nextOf s t ns 0 r A) ≡ none → play s t ns b r A ≡ stopped r A (nextOf s t ns 0 r A)
   play-off zero r A h = refl
   play-off (suc b) r A h = ap (λ o. onward r A (nextOf s t ns 0 r A) o (play s t ns b)) h
 

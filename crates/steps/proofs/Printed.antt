@@ -1,15 +1,15 @@
 -- An accepted matching is replayed by its next steps from the source: each is allowed, none is missing, and the last trace is the target, marks
 -- apart. Every removal takes an event away, every swap a pair against the order, and every insertion adds an event: so the steps are bounded.
 -- Assumes nothing.
-use mathlib.Core.Path.{_≡_, refl, subst}
-use mathlib.Core.List.{List, [], _∷_}
+use mathlib.Core.Path.{refl}
+use mathlib.Core.List.{List}
 use Prim.Native.Nat.{ℕ, _-_, _≤_}
 use native.Mathlib.Omega.{arith}
 use lib.ListN.{length}
 use Rattle.event.specs.declared.Event.{Event}
 use Rattle.trace.specs.Reading.{eventLimit}
 use Rattle.rules.specs.View.{View, view}
-use Rattle.rules.specs.Run.{Traced, number, changes, Ends}
+use Rattle.rules.specs.Run.{number, changes}
 use Rattle.rules.proofs.FixedRun.{orderly-lasts}
 use Rattle.rules.proofs.Realise.{FixedOrder}
 use Rattle.rules.proofs.Traced.{Leaves, Overtakes}
@@ -17,7 +17,7 @@ use Rattle.rules.proofs.Theorem.{in-fixed-order}
 use Rattle.steps.specs.Step.{Replays}
 use Rattle.steps.specs.Promise.{Printed, Allowed, ReplaysRun, bound}
 use Rattle.steps.proofs.Allow.{allowed as is-move, replays-run as is-run}
-use Rattle.steps.proofs.Counts.{inverted, few-inverted, pairs-more, length-number}
+use Rattle.steps.proofs.Counts.{few-inverted, pairs-more, length-number}
 use Rattle.steps.proofs.Tags.{Stands, stand}
 use Rattle.steps.proofs.Remove.{removing}
 use Rattle.steps.proofs.Sort.{sorting}

@@ -1,10 +1,10 @@
 -- After the next swap nothing is gone, and before the place next to it nothing stands against the order: so the next step is found from there on.
 -- Assumes nothing.
 use mathlib.Core.Path.{_≡_, refl, sym, _∙_, ap}
-use mathlib.Core.Bool.{Bool, true, false, cond, false≢true}
+use mathlib.Core.Bool.{Bool, true, false, cond}
 use mathlib.Core.Option.{Option, none, some, Option·some-injective, Option·none-ne-some}
 use mathlib.Core.List.{List, [], _∷_}
-use Prim.Native.Nat.{ℕ, zero, suc, _+_, _-_}
+use Prim.Native.Nat.{ℕ, zero, suc, _-_}
 use native.Mathlib.Omega.{arith}
 use lib.Dec.{eqb, ltb}
 use lib.ListN.{length, drop}
@@ -13,7 +13,7 @@ use Rattle.rules.specs.View.{view}
 use Rattle.rules.specs.Moves.{two}
 use Rattle.rules.specs.Run.{Traced, tagOf}
 use Rattle.steps.specs.Play.{nextFrom, swapPlace}
-use Rattle.steps.specs.Step.{against, anyGone, applied, at, hereOrLater, missing, nextStep, orderStep, overtakes, removal, removeStep, shifted, swapStep}
+use Rattle.steps.specs.Step.{against, anyGone, applied, at, hereOrLater, missing, nextStep, overtakes, removal, removeStep, shifted, swapStep}
 use Rattle.steps.specs.Step.{swapped, targetNumber, under}
 use Rattle.steps.specs.declared.Step.{Step}
 use Rattle.steps.specs.declared.Step.the-variants.{Remove, Swap, Insert, Done, Stuck}

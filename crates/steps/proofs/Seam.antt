@@ -5,14 +5,13 @@ use mathlib.Core.Option.{Option, none, some, Option·none-ne-some}
 use mathlib.Core.List.{List, [], _∷_, _++_}
 use Prim.Native.Nat.{ℕ, zero, suc, _+_, _<_, _≤_}
 use native.Mathlib.Omega.{arith}
-use lib.Dec.{eqb}
 use lib.ListN.{length, getD, take, drop}
 use lib.Seq.{drop-cons}
 use Rattle.event.specs.declared.Event.{Event}
 use Rattle.rules.specs.View.{View}
 use Rattle.rules.specs.Run.{Traced, tagOf, viewed}
 use Rattle.steps.specs.Allowed.{mayRemove, mayInsert, maySwap}
-use Rattle.steps.specs.Step.{isSource, leaves, targetNumber, overtakes, against, missing, removal, removed, swapped, inserted, under, at, hereOrLater, shifted}
+use Rattle.steps.specs.Step.{isSource, leaves, overtakes, against, removal, removed, swapped, inserted, under, at, hereOrLater, shifted}
 use Rattle.steps.specs.Tags.{behind}
 
 -- a loop downward takes one event off

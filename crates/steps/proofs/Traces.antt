@@ -1,7 +1,7 @@
 -- The trace that numbers stand for, by index, and the numbers again. Assumes nothing.
-use mathlib.Core.Path.{_≡_, refl, sym, _∙_, ap, ap₂}
+use mathlib.Core.Path.{_≡_, refl, _∙_, ap, ap₂}
 use mathlib.Core.Bool.{Bool, true, false, cond}
-use mathlib.Core.List.{List, [], _∷_, _++_, map}
+use mathlib.Core.List.{List, [], _∷_, _++_}
 use Prim.Native.Nat.{ℕ, zero, suc, _+_, _-_, _<_, _≤_}
 use native.Mathlib.Numerals.{add-one}
 use native.Mathlib.Omega.{arith}
@@ -12,7 +12,7 @@ use borrow.Author.Tests.{ltb-false, lt-ltb}
 use Rattle.event.specs.Room.{noEvent}
 use Rattle.event.specs.declared.Event.{Event}
 use Rattle.trace.specs.Reading.{eventLimit}
-use Rattle.rules.specs.Run.{old, new, number, Traced, tagOf}
+use Rattle.rules.specs.Run.{old, new, number, Traced}
 use Rattle.rules.proofs.Entries.{From, from-here, from-next, from-start}
 use Rattle.steps.specs.Step.{numberAt, sourceNumber}
 use Rattle.steps.specs.Tags.{behind, counted, code, codes, decoded, trace, tracedFor}

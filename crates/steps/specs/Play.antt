@@ -11,7 +11,7 @@ use Rattle.event.specs.declared.Event.{Event}
 use Rattle.trace.specs.Reading.{eventLimit}
 use Rattle.rules.specs.View.{view}
 use Rattle.rules.specs.Run.{Traced}
-use Rattle.checker.specs.Check.{Checks, Lent, checkOf}
+use Rattle.checker.specs.Check.{Lent, checkOf, entryRoomAfter, sourceRoomAfter, targetRoomAfter}
 use Rattle.checker.specs.declared.Checked.{Checked}
 use Rattle.steps.specs.Step.{applied, nextStep, orderStep}
 use Rattle.steps.specs.Tags.{codes, counted, trace}
@@ -40,8 +40,10 @@ tagsBegun c tags = cond (eqb (c .answer .number) 0) (front (counted 0 (c .source
 
 -- What a beginning hands back, and what it leaves in the rooms and in the array.
 pub record Starts (l : Lent) (tags : List ℕ) (r : Started) (sourceRoom targetRoom entryRoom after : List ℕ) : Type 0 where
-  pub checks : Checks l (r .checked) sourceRoom targetRoom entryRoom
-  pub run : r .run ≡ beginning (checkOf l)
+  pub result : r ≡ record { checked = checkOf l; run = beginning (checkOf l) }
+  pub source : sourceRoom ≡ sourceRoomAfter l
+  pub target : targetRoom ≡ targetRoomAfter l
+  pub entries : entryRoom ≡ entryRoomAfter l
   pub left : after ≡ tagsBegun (checkOf l) tags
 
 module _ (s t : List Event) where

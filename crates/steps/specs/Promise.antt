@@ -1,7 +1,9 @@
 -- Request C-12, what is promised of the steps: "that the replay is allowed at every step, never stalls and ends at the target, marks apart".
 -- Assumes nothing.
 use mathlib.Core.Path.{_≡_}
-use mathlib.Core.Option.{some}
+use mathlib.Core.Bool.{true}
+use mathlib.Core.Logic.{_≢_}
+use mathlib.Core.Option.{none, some}
 use mathlib.Core.List.{List, []}
 use Prim.Native.Nat.{ℕ, zero, suc, _+_, _≤_}
 use lib.Dec.{T}
@@ -17,8 +19,12 @@ use Rattle.rules.specs.Moves.{Move, Run}
 use Rattle.rules.specs.Run.{Traced, number, changes, Ends}
 use Rattle.rules.specs.Verdict.{verdict}
 use Rattle.rules.specs.Demand.{Passed}
-use Rattle.steps.specs.Step.{Replays, applied, phase}
+use Rattle.checker.specs.Check.{Lent, checkOf}
+use Rattle.checker.specs.Demand.{entriesFor, sourceOf, targetOf}
+use Rattle.steps.specs.Play.{Played, beginning, nextFrom, nextOf, outcome, play, stands, swapPlace, tagsBegun}
+use Rattle.steps.specs.Step.{Replays, applied, nextStep, phase}
 use Rattle.steps.specs.declared.Step.{Step}
+use Rattle.steps.specs.declared.Step.the-variants.{Done}
 
 -- The pairs among n events.
 abbrev pub pairs : ℕ → ℕ
@@ -54,3 +60,37 @@ abbrev pub OneReplay : Type 0
 OneReplay =
     (ns : List ℕ) (t : List Event) (k k′ : ℕ) (u w w′ : List Traced)
     → Replays view ns t k u w → Replays view ns t k′ u w′ → (k ≡ k′) × (w ≡ w′)
+
+-- ---- on texts, and on the array that a caller lends
+
+-- How the run of three texts goes, by next steps that are applied, with a budget.
+abbrev pub replayOf : Lent → List ℕ → ℕ → Played
+replayOf l tags budget = play (sourceOf l) (targetOf l) (entriesFor l) budget (beginning (checkOf l)) (tagsBegun (checkOf l) tags)
+
+-- The trace that it ends with.
+abbrev pub lastOf : Lent → Played → List Traced
+lastOf l p = stands (sourceOf l) (targetOf l) (p .run) (p .tags)
+
+-- An accepted matching is replayed to the end, with every budget from the bound on: no step is refused and none is missing, what was done is a run in
+-- demand 3's sense, and the last trace is the target.
+abbrev pub PrintedTexts : Type 0
+PrintedTexts =
+    (l : Lent) (tags : List ℕ) → checkOf l .answer ≡ done → (budget : ℕ) → bound (sourceOf l) (targetOf l) ≤ budget
+    → (replayOf l tags budget .ended ≡ true)
+    × (replayOf l tags budget .steps ≤ bound (sourceOf l) (targetOf l))
+    × Run (changes view) (number 1 (sourceOf l)) (lastOf l (replayOf l tags budget))
+    × Ends (entriesFor l) 1 (lastOf l (replayOf l tags budget)) (targetOf l)
+
+-- A matching that is not accepted has no step: none is next, none is applied, and the array stays as it is.
+abbrev pub NoStep : Type 0
+NoStep =
+    (l : Lent) (tags : List ℕ) → checkOf l .answer .number ≢ 0 → (s t : List Event) (ns : List ℕ) (swapped : ℕ) (st : Step)
+    → (nextOf s t ns swapped (beginning (checkOf l)) tags ≡ Done)
+    × (outcome s t (beginning (checkOf l)) tags st ≡ none)
+    × (tagsBegun (checkOf l) tags ≡ tags)
+
+-- Asked for from the place of the swap before it, the next step is the next step.
+abbrev pub Resumed : Type 0
+Resumed =
+    (s t : List Event) (ns : List ℕ) (u v : List Traced) → applied view t (nextStep view ns (length t) u) u ≡ some v
+    → nextFrom s t ns (swapPlace (nextStep view ns (length t) u)) v ≡ nextStep view ns (length t) v

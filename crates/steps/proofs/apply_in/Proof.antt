@@ -1,14 +1,12 @@
 -- Each step by its own function, where the run has begun. Assumes nothing.
 use mathlib.Core.Path.{_≡_, refl, sym, _∙_}
-use mathlib.Core.Bool.{true, false}
+use mathlib.Core.Bool.{true}
 use Prim.Native.Nat.{_≤_}
 use native.Mathlib.Omega.{arith}
 use lib.ListN.{length}
 use borrow.Author.Needs.{needs}
 use Rattle.event.specs.Room.{wholeEvents}
-use Rattle.steps.specs.Play.{Applies, isOpen, outcome}
-use Rattle.steps.specs.declared.Applied.{Applied}
-use Rattle.steps.specs.declared.Step.{Step}
+use Rattle.steps.specs.Play.{isOpen}
 use Rattle.steps.proofs.Changes.{fits, when-closed, when-open}
 use Rattle.steps.proofs.apply_in.Statement.{statement}
 use Rattle.steps.proofs.apply_in.Tie as tie

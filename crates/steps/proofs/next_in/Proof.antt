@@ -1,7 +1,7 @@
 -- The searches over what stands, where the run has begun. Assumes nothing.
-use Prim.Native.Nat.{ℕ, zero, suc, _-_, _/_, _≤_}
+use Prim.Native.Nat.{ℕ, zero, suc, _-_, _/_}
 use mathlib.Core.Path.{_≡_, refl, sym, _∙_, ap}
-use mathlib.Core.Bool.{Bool, true, false, cond}
+use mathlib.Core.Bool.{Bool, true, false}
 use mathlib.Core.Option.{Option, none, some}
 use mathlib.Core.List.{List, []}
 use native.Mathlib.Omega.{arith}
@@ -11,11 +11,10 @@ use Rattle.event.specs.Room.{wholeEvents}
 use Rattle.event.specs.declared.Event.{Event}
 use Rattle.judge.proofs.Events.{onward-length}
 use Rattle.rules.specs.View.{view}
-use Rattle.steps.specs.Play.{isOpen, nextFrom, nextOf, stands}
+use Rattle.steps.specs.Play.{isOpen, nextOf, stands}
 use Rattle.steps.specs.Step.{against, anyGone, missing, orderStep, removal, removeStep, shifted, swapStep}
 use Rattle.steps.specs.Tags.{trace}
 use Rattle.steps.specs.declared.Run.{Run}
-use Rattle.steps.specs.declared.Step.{Step}
 use Rattle.steps.proofs.Changes.{fits}
 use Rattle.steps.proofs.next_in.Statement.{statement}
 use Rattle.steps.proofs.next_in.Tie as tie

@@ -3,7 +3,6 @@ use mathlib.Core.Path.{_≡_, sym, subst}
 use Prim.Native.Nat.{ℕ, _≤_}
 use native.Mathlib.Omega.{arith}
 use borrow.Author.Needs.{needs}
-use lib.ListN.{length}
 use Rattle.checker.specs.Check.{Lent, checkOf}
 use Rattle.checker.specs.declared.Checked.{Checked}
 use Rattle.steps.proofs.Begun.{accepts, few-events, refuses}

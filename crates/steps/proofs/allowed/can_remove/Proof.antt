@@ -1,17 +1,15 @@
 -- A place of the trace, the number of the event there, and the rules. Assumes nothing.
-use mathlib.Core.Path.{_≡_, refl, sym, _∙_, ap, subst}
-use mathlib.Core.Bool.{Bool, true, false, _&&_}
+use mathlib.Core.Path.{_≡_, refl, sym, _∙_, ap}
+use mathlib.Core.Bool.{Bool, _&&_}
 use mathlib.Core.List.{List}
-use Prim.Native.Nat.{ℕ, _-_, _≤_, _<_}
+use Prim.Native.Nat.{ℕ, _-_}
 use native.Mathlib.Omega.{arith}
-use lib.ListN.{getD, length, take}
+use lib.ListN.{take}
 use lib.Seq.{length-take-le}
 use borrow.Author.Needs.{needs}
 use Rattle.event.specs.Room.{wholeEvents}
 use Rattle.event.specs.declared.Event.{Event}
 use Rattle.steps.specs.Inner.{removableAt}
-use Rattle.steps.specs.Step.{isSource}
-use Rattle.steps.specs.Tags.{decoded}
 use Rattle.steps.proofs.Outcomes.{Removes, remove-at, remove-past, remove-zero}
 use Rattle.steps.proofs.allowed.can_remove.Statement.{statement}
 use Rattle.steps.proofs.allowed.can_remove.Tie as tie

@@ -1,5 +1,5 @@
 -- Two places of the trace, and the rules. Assumes nothing.
-use mathlib.Core.Path.{_≡_, sym, _∙_, ap₂}
+use mathlib.Core.Path.{_∙_, ap₂}
 use mathlib.Core.List.{List}
 use Prim.Native.Nat.{ℕ, _-_}
 use native.Mathlib.Omega.{arith}

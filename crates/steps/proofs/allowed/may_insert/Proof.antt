@@ -1,5 +1,5 @@
 -- Only a load may be inserted. Assumes nothing.
-use mathlib.Core.Path.{_≡_, sym, _∙_}
+use mathlib.Core.Path.{sym, _∙_}
 use mathlib.Core.List.{List, []}
 use borrow.Author.Needs.{needs}
 use Rattle.event.specs.Room.{wholeEvents}

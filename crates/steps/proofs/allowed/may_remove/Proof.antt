@@ -4,7 +4,6 @@ use mathlib.Core.Bool.{Bool, _||_}
 use mathlib.Core.List.{List, []}
 use Prim.Native.Nat.{ℕ, suc}
 use native.Mathlib.Numerals.{add-one}
-use native.Mathlib.Omega.{arith}
 use lib.ListN.{drop}
 use borrow.Author.Needs.{needs}
 use Rattle.event.specs.Room.{wholeEvents}
@@ -12,7 +11,7 @@ use Rattle.event.specs.declared.Event.{Event}
 use Rattle.rules.specs.View.{view, isLoad, isWall}
 use Rattle.rules.specs.Moves.{near}
 use Rattle.rules.specs.Run.{Traced, viewed}
-use Rattle.steps.specs.Allowed.{holds, mayRemove, stores}
+use Rattle.steps.specs.Allowed.{mayRemove, stores}
 use Rattle.steps.specs.Inner.{removableAt}
 use Rattle.steps.specs.Tags.{behind, trace}
 use Rattle.steps.proofs.Near.{remove-store, remove-unused, remove-used, remove-wall}

@@ -10,7 +10,7 @@ use Rattle.event.specs.Room.{wholeEvents}
 use Rattle.event.specs.declared.Event.{Event}
 use Rattle.rules.specs.View.{View, view, isWall}
 use Rattle.rules.specs.Moves.{near}
-use Rattle.rules.specs.Run.{Traced, viewed}
+use Rattle.rules.specs.Run.{viewed}
 use Rattle.steps.specs.Tags.{trace, tracedFor}
 use Rattle.steps.proofs.Near.{stops, finds, passes, stores-of}
 use Rattle.steps.proofs.Traces.{drop-at, drop-past}

@@ -6,7 +6,6 @@ use native.Mathlib.Numerals.{add-one}
 use native.Mathlib.Omega.{arith}
 use lib.ListN.{length, getD, set, drop, length-set}
 use lib.Seq.{append-snoc, drop-cons, set-at}
-use Rattle.steps.specs.Play.{front}
 use Rattle.steps.specs.Tags.{counted}
 use Rattle.steps.proofs.Traces.{counted-length, counted-next}
 use Rattle.steps.proofs.change.fill.Statement.{statement}

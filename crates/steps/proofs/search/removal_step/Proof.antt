@@ -1,8 +1,8 @@
 -- Downward from the last event, none that is gone may be removed, until one is found or none is left. Assumes nothing.
-use Prim.Native.Nat.{ℕ, zero, suc, _+_, _-_, _≤_, _<_}
-use mathlib.Core.Path.{_≡_, refl, sym, _∙_, ap, subst}
+use Prim.Native.Nat.{ℕ, suc, _+_, _-_, _≤_, _<_}
+use mathlib.Core.Path.{_≡_, sym, _∙_, ap, subst}
 use mathlib.Core.Bool.{Bool, true, false, _&&_}
-use mathlib.Core.Option.{Option, none, some}
+use mathlib.Core.Option.{none}
 use mathlib.Core.List.{List, []}
 use native.Mathlib.Numerals.{add-one}
 use native.Mathlib.Omega.{arith}
@@ -11,12 +11,9 @@ use Rattle.event.specs.Room.{wholeEvents}
 use Rattle.event.specs.declared.Event.{Event}
 use Rattle.trace.specs.Reading.{eventLimit}
 use Rattle.rules.specs.View.{view}
-use Rattle.rules.specs.Run.{Traced, tagOf, viewed}
-use Rattle.steps.specs.Allowed.{mayRemove}
 use Rattle.steps.specs.Inner.{removableAt}
 use Rattle.steps.specs.Step.{leaves, numberAt, removal, removeStep}
 use Rattle.steps.specs.Tags.{behind, decoded, trace, tracedFor}
-use Rattle.steps.specs.declared.Step.{Step}
 use Rattle.steps.specs.declared.Step.the-variants.{Remove}
 use Rattle.steps.proofs.Numbers.{leaving-old}
 use Rattle.steps.proofs.Seam.{Open, removal-on, removal-found}

@@ -1,5 +1,5 @@
 -- It is gone exactly if its target number is 0. Assumes nothing.
-use mathlib.Core.Path.{sym, _∙_}
+use mathlib.Core.Path.{sym}
 use borrow.Author.Needs.{needs}
 use Rattle.steps.proofs.Numbers.{leaves-zero}
 use Rattle.steps.proofs.tag.is_leaving.Statement.{statement}

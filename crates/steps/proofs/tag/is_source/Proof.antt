@@ -1,7 +1,5 @@
 -- The numbers of the source's events are one more than their indices. Assumes nothing.
-use mathlib.Core.Path.{sym, ap}
 use native.Mathlib.Numerals.{add-one}
-use lib.Dec.{eqb}
 use borrow.Author.Needs.{needs}
 use borrow.Author.Tests.{lt-ltb, le-ltb}
 use Rattle.steps.proofs.tag.is_source.Statement.{statement}

@@ -1,0 +1,37 @@
+-- One answer and one array to each contract of a public function, each over the contract itself. Assumes nothing.
+use mathlib.Core.Path.{sym, _∙_}
+use Rattle.laws.specs.Unique.{OneAnswer, OneOf}
+use Rattle.steps.proofs.next.Reads as next
+use Rattle.steps.proofs.apply.Reads as apply
+use Rattle.steps.proofs.replay.Reads as replay
+use Rattle.steps.proofs.start.Reads as start
+
+start-one : OneAnswer start.Post
+start-one κ a x y s t h k = h .result ∙ sym (k .result)
+
+start-source : OneOf start.Post (λ κ r s. s .1 .1 .1 .0 .now)
+start-source κ a x y s t h k = h .source ∙ sym (k .source)
+
+start-target : OneOf start.Post (λ κ r s. s .1 .1 .1 .1 .0 .now)
+start-target κ a x y s t h k = h .target ∙ sym (k .target)
+
+start-entries : OneOf start.Post (λ κ r s. s .1 .1 .1 .1 .1 .0 .now)
+start-entries κ a x y s t h k = h .entries ∙ sym (k .entries)
+
+start-tags : OneOf start.Post (λ κ r s. s .1 .1 .1 .1 .1 .1 .0 .now)
+start-tags κ a x y s t h k = h .left ∙ sym (k .left)
+
+next-one : OneAnswer next.Post
+next-one κ a x y s t h k = h ∙ sym k
+
+apply-one : OneAnswer apply.Post
+apply-one κ a x y s t h k = h .answer ∙ sym (k .answer)
+
+apply-tags : OneOf apply.Post (λ κ r s. s .1 .0 .now)
+apply-tags κ a x y s t h k = h .left ∙ sym (k .left)
+
+replay-one : OneAnswer replay.Post
+replay-one κ a x y s t h k = h .answer ∙ sym (k .answer)
+
+replay-tags : OneOf replay.Post (λ κ r s. s .1 .0 .now)
+replay-tags κ a x y s t h k = h .left ∙ sym (k .left)
