@@ -11,7 +11,7 @@ use Rattle.event.specs.declared.Event.{Event}
 use Rattle.rules.specs.View.{View, wall, load, store, view, apart, isLoad, isWall, valueOf}
 use Rattle.rules.specs.Moves.{extend, group, near}
 use Rattle.rules.specs.Run.{Traced, eventOf, viewed}
-use Rattle.judge.proofs.Sight.{Sees, sees, a-load, a-store, a-wall}
+use Rattle.fates.proofs.Sight.{Sees, sees, a-load, a-store, a-wall}
 use Rattle.steps.specs.Allowed.{holds, stores, mayInsert, mayRemove}
 use Rattle.steps.specs.Tags.{eventFor, tracedFor}
 

@@ -21,8 +21,8 @@ use event::WORDS;
 use event::Word;
 use event::kind::USED;
 use event::room::get;
-use judge::view::is_load;
-use judge::view::is_wall;
+use fates::view::is_load;
+use fates::view::is_wall;
 use trace::reading::EVENT_LIMIT;
 
 // Whether the near access to a location before an index has a value.

@@ -9,7 +9,7 @@ use lib.ListN.{length, take}
 use borrow.Author.Needs.{needs}
 use Rattle.event.specs.Room.{wholeEvents}
 use Rattle.event.specs.declared.Event.{Event}
-use Rattle.judge.proofs.Events.{onward-length}
+use Rattle.fates.proofs.Events.{onward-length}
 use Rattle.rules.specs.View.{view}
 use Rattle.steps.specs.Play.{isOpen, nextOf, stands}
 use Rattle.steps.specs.Step.{against, anyGone, missing, orderStep, removal, removeStep, shifted, swapStep}

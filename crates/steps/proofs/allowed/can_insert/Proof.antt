@@ -8,7 +8,7 @@ use lib.Seq.{length-take-le}
 use borrow.Author.Needs.{needs}
 use Rattle.event.specs.Room.{wholeEvents}
 use Rattle.event.specs.declared.Event.{Event}
-use Rattle.judge.proofs.Events.{onward-length, room-at}
+use Rattle.fates.proofs.Events.{onward-length, room-at}
 use Rattle.rules.specs.View.{view}
 use Rattle.rules.specs.Run.{viewed}
 use Rattle.steps.specs.Allowed.{mayInsert}

@@ -2,7 +2,7 @@
 use mathlib.Core.Path.{sym, _∙_}
 use borrow.Author.Needs.{needs}
 use borrow.Author.Tests.{lt-ltb, le-ltb}
-use Rattle.judge.proofs.Events.{room-at}
+use Rattle.fates.proofs.Events.{room-at}
 use Rattle.steps.proofs.tag.event_of.Statement.{statement}
 use Rattle.steps.proofs.tag.event_of.Tie as tie
 
