@@ -68,7 +68,7 @@ onward-length room i zero = refl
 onward-length room i (suc n) = ap suc (onward-length room (i + 1) n)
 
 module _ (room : List ℕ) (held : (k : ℕ) → getD room k 0 ≤ lastValue) where
-  values-in : (i : ℕ) → (eventAt room i .first ≤ lastValue) × (eventAt room i .second ≤ lastValue)
+  pub values-in : (i : ℕ) → (eventAt room i .first ≤ lastValue) × (eventAt room i .second ≤ lastValue)
   unfolding eventAt
   values-in i = cases (either (inRoom room i)) (λ y. rw y (held (i * 6 + 3), held (i * 6 + 4))) (λ y. rw y (omega arith, omega arith))
 

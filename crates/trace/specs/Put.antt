@@ -6,10 +6,13 @@ use mathlib.Core.List.{List, [], _∷_, _++_}
 use lib.Dec.{eqb}
 use lib.ListN.{length}
 use lib.Seq.{sets}
+use Rattle.event.specs.Kind.{lawful}
+use Rattle.event.specs.declared.Event.{Event}
 use Rattle.event.specs.declared.memory.Memory.{Memory}
 use Rattle.record.specs.Form.{header}
-use Rattle.record.specs.Layout.{initLine}
+use Rattle.record.specs.Layout.{eventLine, initLine}
 use Rattle.record.specs.declared.form.Form.{Form}
+use Rattle.record.specs.declared.form.Form.the-variants.{One}
 use Rattle.trace.specs.Writing.{textOf, initLines}
 
 -- Of a room, a place and bytes: the room after them, and the place after them.
@@ -29,6 +32,13 @@ tabIf false f = []
 -- The `init` line of a location with its LF; none for the value 0.
 abbrev pub initPart : ℕ → ℕ → List ℕ
 initPart place value = cond (eqb value 0) [] (initLine place value ++ 10 ∷ [])
+
+-- An event without its code line, and its line of form 1 with its LF; none for an event outside the layout.
+abbrev pub bare : Event → Event
+bare e = record { kind = e .kind; place = e .place; order = e .order; first = e .first; second = e .second; code = 0 }
+
+abbrev pub bareLine : Event → List ℕ
+bareLine e = cond (lawful (bare e)) (eventLine One (bare e) ++ 10 ∷ []) []
 
 -- Line 1 and the `init` lines, each with its LF.
 unfoldable pub startText : Form → Memory → List ℕ

@@ -5,13 +5,13 @@ ghost use mathlib.Core.List.{[], _∷_, _++_, map};
 ghost use Prim.Native.Nat.{suc, _≤_};
 ghost use lib.ListN.{length, getD, set};
 ghost use Rattle.event.specs.Kind.{lastPlace};
-ghost use Rattle.event.specs.Room.{onward};
+ghost use Rattle.event.specs.Room.{eventAt, onward};
 ghost use Rattle.text.specs.Number.{decimal};
 ghost use Rattle.record.specs.Layout.{orderWords, wordAt, eventLine};
 ghost use Rattle.record.specs.Form.{header};
 ghost use Rattle.record.specs.Table.{wordIn};
 ghost use Rattle.trace.specs.Fault.{eventFault};
-ghost use Rattle.trace.specs.Put.{Put, Small, tabIf, initPart, startText};
+ghost use Rattle.trace.specs.Put.{Put, Small, tabIf, bareLine, initPart, startText};
 ghost use Rattle.trace.specs.Writing.{countOf, layoutFault, lost, textOf, initLines, traceText, roomFault, writeFault};
 use crate::fault::UNTOUCHED;
 use crate::fault::Way;
@@ -222,6 +222,26 @@ pub(crate) fn put_event(form: Form, out: &mut [u8], at: usize, e: Event) -> usiz
     let after_mark = put_order_if(shape.mark, out, after_second, e.order);
     let after_code = put_number_if(shape.code, out, after_mark, e.code);
     put(out, after_code, b"\n")
+}
+
+// The line of form 1 of an event in a room, with its LF, at the front of the lent bytes; what comes back is its length. A code line is left out, and
+// an event outside the layout has no line.
+pub fn write_event(room: &[Word], i: usize, out: &mut [u8]) -> usize
+    ensures { λ r. ⌜ Put (now (out .entry)) 0 (bareLine (eventAt (now (room .entry)) i)) (now (out .exit)) r ⌝ }
+{
+    let e = get(room, i);
+    let bare = Event {
+        kind: e.kind,
+        place: e.place,
+        order: e.order,
+        first: e.first,
+        second: e.second,
+        code: 0,
+    };
+    if is_lawful(bare) {
+        return put_event(Form::One, out, 0, bare);
+    }
+    0
 }
 
 // The `init` line of a location, with its LF; none for the value 0.
