@@ -285,7 +285,7 @@ impl Event {
     }
 
     /// The event of six words, if they are of the layout.
-    fn from_words(words: &[u32]) -> Option<Event> {
+    pub fn from_words(words: &[u32]) -> Option<Event> {
         let &[kind, place, order, first, second, code] = words else {
             return None;
         };

@@ -1,0 +1,126 @@
+//! The run of a matching by the ordinary Rust implementation.
+//!
+//! `run SOURCE TARGET MATCHING` prints what `laprunto_run` prints.
+//! `run --beside PROGRAM COUNT [SEED]` runs PROGRAM on the known cases and on
+//! COUNT random ones, compares every byte, and replays the steps by the rules.
+//! The first difference is printed, and ends the program with status 1.
+
+#[allow(dead_code)]
+mod cases;
+#[allow(dead_code)]
+mod forms;
+#[allow(dead_code)]
+mod generate;
+#[allow(dead_code)]
+mod peer;
+mod random;
+mod rules;
+mod steps;
+#[allow(dead_code)]
+mod texts;
+
+use peer::{check, offending_line, Event, EVENT_WORDS, MAX_EVENTS};
+use random::Random;
+use std::io::Write;
+use std::process::{exit, Command};
+
+fn events(room: &[u32], count: usize) -> Vec<Event> {
+    room.chunks(EVENT_WORDS).take(count).map(|words| Event::from_words(words).expect("a room holds events")).collect()
+}
+
+/// What is printed of three texts, and how many steps it has.
+fn printed(source: &[u8], target: &[u8], matching: &[u8]) -> Result<(Vec<u8>, usize), String> {
+    let mut rooms = [vec![0; MAX_EVENTS * EVENT_WORDS], vec![0; MAX_EVENTS * EVENT_WORDS], vec![0; MAX_EVENTS]];
+    let [source_room, target_room, entry_room] = &mut rooms;
+    let checked = check(source, target, matching, source_room, target_room, entry_room);
+    let answer = checked.answer;
+    let word = if answer.number == 0 { "accepted" } else { "refused" };
+    let mut out = format!("{word}\t{}\t{}\t{}\n", answer.number, answer.side, answer.place).into_bytes();
+    let line = offending_line(source, target, answer);
+    if !line.is_empty() {
+        out.extend_from_slice(line);
+        out.push(b'\n');
+    }
+    if answer.number != 0 {
+        return Ok((out, 0));
+    }
+    let source = events(source_room, checked.source_events);
+    let target = events(target_room, checked.target_events);
+    let entries: Vec<usize> = entry_room[..checked.entries].iter().map(|&entry| entry as usize).collect();
+    let steps = steps::steps(&source, &target, &entries).ok_or("a gone event is stuck")?;
+    out.extend_from_slice(steps::lines(&source, &target, &steps).as_bytes());
+    Ok((out, steps.len()))
+}
+
+/// The replay of the steps that another program printed.
+fn replayed(source: &[u8], target: &[u8], lines: &[u8]) -> Result<(), String> {
+    let mut room = vec![0; MAX_EVENTS * EVENT_WORDS];
+    let count = peer::read_trace(source, &mut room).events;
+    let source = events(&room, count);
+    let count = peer::read_trace(target, &mut room).events;
+    let target = events(&room, count);
+    let number = |field: &str| field.parse::<usize>().map_err(|_| format!("no number: {field}"));
+    let mut steps = Vec::new();
+    for line in String::from_utf8_lossy(lines).lines().skip(1) {
+        let fields: Vec<&str> = line.split('\t').collect();
+        steps.push(match fields[0] {
+            "remove" => steps::Step::Remove { place: number(fields[1])?, number: number(fields[2])? },
+            "swap" => steps::Step::Swap { place: number(fields[1])? },
+            "insert" => steps::Step::Insert { place: number(fields[1])? },
+            word => return Err(format!("no step: {word}")),
+        });
+    }
+    steps::replay(&source, &target, &steps)
+}
+
+/// One case, beside the other program.
+fn compared(program: &str, texts: [&[u8]; 3]) -> Result<usize, String> {
+    let folder = std::env::temp_dir();
+    let names = ["source", "target", "matching"].map(|name| folder.join(format!("run-{}-{name}", std::process::id())));
+    for (name, text) in names.iter().zip(texts) {
+        std::fs::write(name, text).map_err(|error| error.to_string())?;
+    }
+    let ours = Command::new(program).args(&names).output().map_err(|error| error.to_string())?.stdout;
+    let (peers, count) = printed(texts[0], texts[1], texts[2])?;
+    if ours != peers {
+        return Err(format!("ours\n{}\npeer\n{}", String::from_utf8_lossy(&ours), String::from_utf8_lossy(&peers)));
+    }
+    if ours.starts_with(b"accepted") {
+        replayed(texts[0], texts[1], &ours)?;
+    }
+    Ok(count)
+}
+
+fn beside(program: &str, count: usize, seed: u64) -> Result<(), String> {
+    let mut random = Random::new(seed);
+    let known = [cases::all(), forms::checks()].concat();
+    let mut steps = 0;
+    for known in &known {
+        steps += compared(program, known.case.texts()).map_err(|difference| format!("{}\n{difference}", known.name))?;
+    }
+    for index in 0..count {
+        let events = 1 + random.below(if index % 16 == 0 { MAX_EVENTS } else { 40 });
+        let case = if index % 4 == 3 { generate::faulty_case(&mut random) } else { generate::lawful_case(&mut random, events) };
+        steps += compared(program, case.texts())?;
+    }
+    println!("{} known and {count} random cases, {steps} steps: the same", known.len());
+    Ok(())
+}
+
+fn main() {
+    let words: Vec<String> = std::env::args().skip(1).collect();
+    let done = match words.iter().map(String::as_str).collect::<Vec<_>>()[..] {
+        ["--beside", program, count] => beside(program, count.parse().expect("a count"), 1),
+        ["--beside", program, count, seed] => beside(program, count.parse().expect("a count"), seed.parse().expect("a seed")),
+        [source, target, matching] => {
+            let texts = [source, target, matching].map(|name| std::fs::read(name).unwrap_or_default());
+            printed(&texts[0], &texts[1], &texts[2])
+                .and_then(|(out, _)| std::io::stdout().write_all(&out).map_err(|error| error.to_string()))
+        }
+        _ => Err(String::from("usage: run SOURCE TARGET MATCHING, or run --beside PROGRAM COUNT [SEED]")),
+    };
+    if let Err(difference) = done {
+        eprintln!("{difference}");
+        exit(1);
+    }
+}

@@ -1,0 +1,120 @@
+//! The run of an accepted matching in the fixed order, and a replay of steps by
+//! the rules alone. Ordinary Rust, beside the proved one.
+
+use crate::peer::{Event, Kind};
+use crate::rules::{insertable_value, may_remove, may_swap};
+use crate::texts::event_line;
+use std::fmt::Write;
+
+/// Places count from 1 in the trace as it stands.
+#[derive(Clone, Copy, Debug, PartialEq, Eq)]
+pub enum Step {
+    Remove { place: usize, number: usize },
+    Swap { place: usize },
+    Insert { place: usize },
+}
+
+/// The gone events, the highest first of those that may be removed now.
+fn removals(events: &mut Vec<Event>, numbers: &mut Vec<usize>, steps: &mut Vec<Step>) -> bool {
+    let mut sources: Vec<usize> = (1..=events.len()).collect();
+    while numbers.contains(&0) {
+        let Some(at) = (0..events.len()).rev().find(|&at| numbers[at] == 0 && may_remove(events, at)) else {
+            return false;
+        };
+        steps.push(Step::Remove { place: at + 1, number: sources[at] });
+        events.remove(at);
+        numbers.remove(at);
+        sources.remove(at);
+    }
+    true
+}
+
+/// The swaps, each at the lowest place against the target's order: after one,
+/// the place before it is the lowest that can have changed.
+fn swaps(numbers: &mut [usize], steps: &mut Vec<Step>) {
+    let mut at = 0;
+    while at + 1 < numbers.len() {
+        if numbers[at] > numbers[at + 1] {
+            steps.push(Step::Swap { place: at + 1 });
+            numbers.swap(at, at + 1);
+            at = at.saturating_sub(1);
+        } else {
+            at += 1;
+        }
+    }
+}
+
+/// The whole run, or nothing if a gone event cannot be removed.
+pub fn steps(source: &[Event], target: &[Event], entries: &[usize]) -> Option<Vec<Step>> {
+    let mut steps = Vec::new();
+    let mut numbers = entries.to_vec();
+    if !removals(&mut source.to_vec(), &mut numbers, &mut steps) {
+        return None;
+    }
+    swaps(&mut numbers, &mut steps);
+    steps.extend((1..=target.len()).filter(|number| !entries.contains(number)).map(|place| Step::Insert { place }));
+    Some(steps)
+}
+
+fn same(event: &Event, target: &Event) -> bool {
+    let order = event.kind == Kind::Load || event.order == target.order;
+    order && Event { order: target.order, code: target.code, ..*event } == *target
+}
+
+/// Applies each step by the rules, knowing nothing of the matching; at the end
+/// the trace must be the target, marks and code lines apart.
+pub fn replay(source: &[Event], target: &[Event], steps: &[Step]) -> Result<(), String> {
+    let mut events = source.to_vec();
+    let mut sources: Vec<usize> = (1..=source.len()).collect();
+    for (index, &step) in steps.iter().enumerate() {
+        let allowed = match step {
+            Step::Remove { place, number } => {
+                let at = place - 1;
+                let may = at < events.len() && sources[at] == number && may_remove(&events, at);
+                if may {
+                    events.remove(at);
+                    sources.remove(at);
+                }
+                may
+            }
+            Step::Swap { place } => {
+                let may = place < events.len() && may_swap(&events, place - 1);
+                if may {
+                    events.swap(place - 1, place);
+                    sources.swap(place - 1, place);
+                }
+                may
+            }
+            Step::Insert { place } => {
+                let event = target[place - 1];
+                let may = event.kind == Kind::Load
+                    && place <= events.len() + 1
+                    && insertable_value(&events, place - 1, event.place) == Some(event.first);
+                if may {
+                    events.insert(place - 1, event);
+                    sources.insert(place - 1, 0);
+                }
+                may
+            }
+        };
+        if !allowed {
+            return Err(format!("step {}, {step:?}, is not allowed", index + 1));
+        }
+    }
+    let ended = events.len() == target.len() && events.iter().zip(target).all(|(event, target)| same(event, target));
+    if ended { Ok(()) } else { Err(String::from("the run does not end at the target")) }
+}
+
+/// The lines that the program prints for the steps.
+pub fn lines(source: &[Event], target: &[Event], steps: &[Step]) -> String {
+    let mut text = String::new();
+    for &step in steps {
+        let done = match step {
+            Step::Remove { place, number } => write!(text, "remove\t{place}\t{number}\t{}", event_line(&source[number - 1])),
+            Step::Swap { place } => writeln!(text, "swap\t{place}"),
+            Step::Insert { place } => write!(text, "insert\t{place}\t{}", event_line(&target[place - 1])),
+        };
+        done.expect("a string takes every line");
+    }
+    text
+}
