@@ -5,6 +5,7 @@
 
 mod laprunto;
 
+use laprunto::{laprunto_apply, laprunto_next, laprunto_start};
 use laprunto::{laprunto_check, laprunto_move_trace, laprunto_offending_line, laprunto_read_matching};
 use laprunto::{laprunto_read_trace, laprunto_trace_form, laprunto_write_trace};
 use laprunto::{Entry, Memory, Number, Word};
@@ -153,6 +154,39 @@ fn moves_back(text: &[u8]) -> bool {
     }
 }
 
+/// Whether the run of an accepted matching goes to its end, and a refused one has no step.
+fn runs(source: &[u8], target: &[u8], matching: &[u8], accepted: bool) -> bool {
+    let [mut source_room, mut target_room] = [(); 2].map(|()| vec![0; EVENTS * WORDS]);
+    let mut entry_room = vec![0; EVENTS];
+    let (mut tags, mut run, mut result) = ([0; EVENTS], [0; 2], [0; 6]);
+    unsafe {
+        laprunto_start(
+            source.as_ptr(), source.len(), target.as_ptr(), target.len(), matching.as_ptr(), matching.len(),
+            source_room.as_mut_ptr(), source_room.len(), target_room.as_mut_ptr(), target_room.len(),
+            entry_room.as_mut_ptr(), entry_room.len(), &mut tags, &mut run, &mut result,
+        );
+    }
+    let [_, _, _, source_events, target_events, entries] = result;
+    let (source, target) = (&source_room[..source_events * WORDS], &target_room[..target_events * WORDS]);
+    let (mut steps, mut swapped) = (0, 0);
+    loop {
+        let mut step = [0; 3];
+        let allowed = unsafe {
+            laprunto_next(
+                &run, &tags, source.as_ptr(), source.len(), target.as_ptr(), target.len(), entry_room.as_ptr(), entries, swapped, &mut step,
+            );
+            let [kind, place, number] = step;
+            laprunto_apply(&mut run, &mut tags, source.as_ptr(), source.len(), target.as_ptr(), target.len(), kind, place, number)
+        };
+        match step {
+            [0, ..] => return allowed == 0 && if accepted { run[1] == target_events } else { steps == 0 },
+            [kind, place, _] if allowed == 1 => swapped = if kind == 2 { place } else { 0 },
+            _ => return false,
+        }
+        steps += 1;
+    }
+}
+
 /// A file that cannot be opened counts as an empty text; one byte too many is enough for answer 1.
 fn read_file(name: Option<String>) -> Vec<u8> {
     let mut text = vec![];
@@ -171,6 +205,10 @@ fn main() {
     let line = offending_line(&source, &target, &checked);
     if !line.is_empty() {
         std::io::stdout().write_all(&[line, b"\n"].concat()).expect("the line can be printed");
+    }
+    if !runs(&source, &target, &matching, checked.number == 0) {
+        eprintln!("the run does not go to its end");
+        std::process::exit(1);
     }
     // A reading's refusal stores nothing; 0 and 7 to 16 come after all three texts were read.
     let read = checked.number == 0 || (7..=16).contains(&checked.number);

@@ -1,7 +1,7 @@
-/* Laprunto for C: reading, writing, moving and checking of traces, and the line at fault.
+/* Laprunto for C: reading, writing, moving and checking of traces, the line at fault, and the run of an accepted matching.
  *
  * Link target/staticlib/libexport.a (`rt staticlib export`). Each function is proved against its contract in
- * crates/export/src/lib.rt and wants no other library than C's own memcpy, memmove and memset.
+ * crates/export/src and wants no other library than C's own memcpy, memmove and memset.
  *
  * Slices. A text or a room is a pointer and the number of its elements: bytes of a text, words or entries of a room. Any number is fine, 0 too,
  * and so is any content. A pointer is never null, not even for length 0, and what a call may write overlaps nothing else that the
@@ -38,7 +38,8 @@ enum {
     LAPRUNTO_FORM_2_BYTES = 37200, /* the longest trace of form 2 */
     LAPRUNTO_TRACE_WORDS = 4800,   /* 800 events */
     LAPRUNTO_ENTRY_WORDS = 800,    /* 800 entries */
-    LAPRUNTO_CELLS = 256           /* a starting memory */
+    LAPRUNTO_CELLS = 256,          /* a starting memory */
+    LAPRUNTO_TAGS = 800            /* where each event of a run comes from */
 };
 
 /* Where what stands in a result. */
@@ -54,6 +55,24 @@ enum {
     LAPRUNTO_ANSWER = 3, /* the size_t of a writer's or a move's result, */
     LAPRUNTO_READ = 4,   /* of a reading's, */
     LAPRUNTO_CHECKED = 6 /* and of a check's */
+};
+
+/* Where what stands in a run and in a step, and the kinds of a step. */
+enum {
+    LAPRUNTO_BEGUN = 0,
+    LAPRUNTO_STANDING = 1,
+    LAPRUNTO_RUN = 2, /* the size_t of a run */
+
+    LAPRUNTO_KIND = 0,
+    LAPRUNTO_STEP_PLACE = 1,  /* from 1, in the trace as it stands */
+    LAPRUNTO_STEP_NUMBER = 2, /* of a removal: the source number */
+    LAPRUNTO_STEP = 3,        /* the size_t of a step */
+
+    LAPRUNTO_DONE = 0, /* no step is left */
+    LAPRUNTO_REMOVE = 1,
+    LAPRUNTO_SWAP = 2,
+    LAPRUNTO_INSERT = 3,
+    LAPRUNTO_STUCK = 4 /* none of the gone events may be removed: never with an accepted matching */
 };
 
 /* Reads a trace text alone: side 1 where it refuses. Writes all of memory and result. */
@@ -92,6 +111,24 @@ void laprunto_check(const uint8_t *source, size_t source_bytes, const uint8_t *t
  * side they are 0. *from is never above *to, nor *to above the length of the text. */
 void laprunto_offending_line(const uint8_t *source, size_t source_bytes, const uint8_t *target, size_t target_bytes,
                              laprunto_number number, laprunto_number side, size_t place, size_t *from, size_t *to);
+
+/* A check and, if it accepts, the beginning of a run: else the run has not begun, and the tags are unchanged. Writes all of run and
+ * result. */
+void laprunto_start(const uint8_t *source, size_t source_bytes, const uint8_t *target, size_t target_bytes,
+                    const uint8_t *matching, size_t matching_bytes, laprunto_word *source_room, size_t source_room_words,
+                    laprunto_word *target_room, size_t target_room_words, laprunto_entry *entry_room,
+                    size_t entry_room_entries, size_t tags[LAPRUNTO_TAGS], size_t run[LAPRUNTO_RUN],
+                    size_t result[LAPRUNTO_CHECKED]);
+
+/* The next step of a run, by the words of the events and the entries that the check stored (and no others). swapped is 0 or, to be
+ * quicker, the place of the swap that was the step before. Writes all of step. */
+void laprunto_next(const size_t run[LAPRUNTO_RUN], const size_t tags[LAPRUNTO_TAGS], const laprunto_word *source,
+                   size_t source_words, const laprunto_word *target, size_t target_words, const laprunto_entry *entries,
+                   size_t entry_count, size_t swapped, size_t step[LAPRUNTO_STEP]);
+
+/* Applies any step by the rules alone: 1 and the run after it if it is allowed, else 0 and the run unchanged. */
+size_t laprunto_apply(size_t run[LAPRUNTO_RUN], size_t tags[LAPRUNTO_TAGS], const laprunto_word *source, size_t source_words,
+                      const laprunto_word *target, size_t target_words, size_t kind, size_t place, size_t number);
 
 #ifdef __cplusplus
 }

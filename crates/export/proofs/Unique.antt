@@ -9,6 +9,9 @@ use Rattle.export.proofs.laprunto_write_trace.Reads as write-trace
 use Rattle.export.proofs.laprunto_move_trace.Reads as move-trace
 use Rattle.export.proofs.laprunto_check.Reads as check
 use Rattle.export.proofs.laprunto_offending_line.Reads as offending-line
+use Rattle.export.proofs.run.laprunto_start.Reads as start
+use Rattle.export.proofs.run.laprunto_next.Reads as next
+use Rattle.export.proofs.run.laprunto_apply.Reads as apply
 
 read-trace-result : OneOf read-trace.Post (λ κ r s. s .1 .1 .1 .0 .now)
 read-trace-result κ a x y s t h k = h .0 ∙ sym (k .0)
@@ -63,3 +66,33 @@ offending-line-from κ a x y s t h k = ap (λ (p : Span). p .from) (h .1 ∙ sym
 
 offending-line-to : OneOf offending-line.Post (λ κ r s. s .1 .1 .1 .1 .1 .1 .0 .now)
 offending-line-to κ a x y s t h k = ap (λ (p : Span). p .to) (h .1 ∙ sym (k .1))
+
+start-result : OneOf start.Post (λ κ r s. s .1 .1 .1 .1 .1 .1 .1 .1 .0 .now)
+start-result κ a x y s t h k = h .numbers ∙ sym (k .numbers)
+
+start-run : OneOf start.Post (λ κ r s. s .1 .1 .1 .1 .1 .1 .1 .0 .now)
+start-run κ a x y s t h k = h .begun ∙ sym (k .begun)
+
+start-source-room : OneOf start.Post (λ κ r s. s .1 .1 .1 .0 .now)
+start-source-room κ a x y s t h k = h .sourceEvents ∙ sym (k .sourceEvents)
+
+start-target-room : OneOf start.Post (λ κ r s. s .1 .1 .1 .1 .0 .now)
+start-target-room κ a x y s t h k = h .targetEvents ∙ sym (k .targetEvents)
+
+start-entry-room : OneOf start.Post (λ κ r s. s .1 .1 .1 .1 .1 .0 .now)
+start-entry-room κ a x y s t h k = h .entries ∙ sym (k .entries)
+
+start-tags : OneOf start.Post (λ κ r s. s .1 .1 .1 .1 .1 .1 .0 .now)
+start-tags κ a x y s t h k = h .left ∙ sym (k .left)
+
+next-step : OneOf next.Post (λ κ r s. s .1 .1 .1 .1 .1 .1 .0 .now)
+next-step κ a x y s t h k = h ∙ sym k
+
+apply-one : OneAnswer apply.Post
+apply-one κ a x y s t h k = h .answer ∙ sym (k .answer)
+
+apply-run : OneOf apply.Post (λ κ r s. s .0 .now)
+apply-run κ a x y s t h k = h .standing ∙ sym (k .standing)
+
+apply-tags : OneOf apply.Post (λ κ r s. s .1 .0 .now)
+apply-tags κ a x y s t h k = h .left ∙ sym (k .left)

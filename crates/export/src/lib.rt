@@ -1,5 +1,7 @@
 // The library for C and Rust: reading, writing, moving, checking and the line at fault, on numbers, slices and arrays.
 // `door/laprunto.h` declares them for C; a slice is a pointer and a length there, an array a pointer.
+pub mod run;
+
 ghost use mathlib.Core.Path.{_≡_};
 ghost use Rattle.event.specs.Answer.{answer};
 ghost use Rattle.trace.specs.Reading.{formOf, readOf, roomAfter};

@@ -1,0 +1,150 @@
+// Runs, step by step: numbers for a run and for a step.
+ghost use mathlib.Core.Path.{_≡_};
+ghost use lib.ListN.{getD};
+ghost use Rattle.event.specs.Room.{wholeEvents};
+ghost use Rattle.checker.specs.Check.{lent};
+ghost use Rattle.steps.specs.Play.{nextOf, outcome};
+ghost use Rattle.export.specs.Runs.{Begins, Leaves, flag, runNumbered, runNumbers, stepNumbered, stepNumbers};
+use event::Entry;
+use event::Word;
+use event::number_index;
+use steps::Run;
+use steps::Step;
+use steps::apply;
+use steps::next;
+use steps::start;
+
+// 1 for yes, 0 for no.
+fn flag_of(b: bool) -> usize
+    ensures { λ r. ⌜ r ≡ flag b ⌝ }
+{
+    if b {
+        return 1;
+    }
+    0
+}
+
+fn run_numbered(begun: usize, standing: usize) -> Run
+    ensures { λ r. ⌜ r ≡ runNumbered begun standing ⌝ }
+{
+    Run {
+        begun: begun != 0,
+        standing,
+    }
+}
+
+fn step_numbers(step: Step) -> [usize; 3]
+    ensures { λ r. ⌜ r ≡ stepNumbers step ⌝ }
+{
+    match step {
+        Step::Remove { place, number } => [1, place, number],
+        Step::Swap { place } => [2, place, 0],
+        Step::Insert { place } => [3, place, 0],
+        Step::Done => [0, 0, 0],
+        Step::Stuck => [4, 0, 0],
+    }
+}
+
+fn step_numbered(kind: usize, place: usize, number: usize) -> Step
+    ensures { λ r. ⌜ r ≡ stepNumbered kind place number ⌝ }
+{
+    match kind {
+        1 => Step::Remove { place, number },
+        2 => Step::Swap { place },
+        3 => Step::Insert { place },
+        4 => Step::Stuck,
+        _ => Step::Done,
+    }
+}
+
+// A check, and the beginning of a run if it accepts: the check's numbers, the run's, the three rooms and the tags.
+#[no_mangle]
+pub extern "C" fn laprunto_start(
+    source: &[u8],
+    target: &[u8],
+    matching: &[u8],
+    source_room: &mut [Word],
+    target_room: &mut [Word],
+    entry_room: &mut [Entry],
+    tags: &mut [usize; 800],
+    run: &mut [usize; 2],
+    result: &mut [usize; 6],
+)
+    ensures { λ _. ⌜ Begins
+        (lent (now (source .entry)) (now (target .entry)) (now (matching .entry))
+        (now («source_room» .entry)) (now («target_room» .entry)) (now («entry_room» .entry))) (now (tags .entry))
+        (now (result .exit)) (now (run .exit))
+        (now («source_room» .exit)) (now («target_room» .exit)) (now («entry_room» .exit)) (now (tags .exit)) ⌝ }
+{
+    let started = start(
+        source,
+        target,
+        matching,
+        source_room,
+        target_room,
+        entry_room,
+        tags,
+    );
+    let checked = started.checked;
+    let found = checked.answer;
+    let source_held = checked.source;
+    let target_held = checked.target;
+    let begun = started.run;
+    *run = [flag_of(begun.begun), begun.standing];
+    *result = [
+        number_index(found.number),
+        number_index(found.side),
+        found.place,
+        source_held.events,
+        target_held.events,
+        checked.entries,
+    ];
+}
+
+// The next step of a run: its kind, its place and its source number. `swapped` is 0, or the place of the swap that was just applied.
+#[no_mangle]
+pub extern "C" fn laprunto_next(
+    run: &[usize; 2],
+    tags: &[usize; 800],
+    source: &[Word],
+    target: &[Word],
+    entries: &[Entry],
+    swapped: usize,
+    step: &mut [usize; 3],
+)
+    ensures { λ _. ⌜ now (step .exit) ≡ stepNumbers (nextOf (wholeEvents (now (source .entry))) (wholeEvents (now (target .entry))) (now (entries .entry))
+        swapped (runNumbered (getD (now (run .entry)) 0 0) (getD (now (run .entry)) 1 0)) (now (tags .entry))) ⌝ }
+{
+    let wanted = next(
+        run_numbered(run[0], run[1]),
+        tags,
+        source,
+        target,
+        entries,
+        swapped,
+    );
+    *step = step_numbers(wanted);
+}
+
+// A step applied by the rules alone; what comes back is whether it was allowed.
+#[no_mangle]
+pub extern "C" fn laprunto_apply(
+    run: &mut [usize; 2],
+    tags: &mut [usize; 800],
+    source: &[Word],
+    target: &[Word],
+    kind: usize,
+    place: usize,
+    number: usize,
+) -> usize
+    ensures { λ r. ⌜ Leaves (runNumbered (getD (now (run .entry)) 0 0) (getD (now (run .entry)) 1 0)) (now (tags .entry))
+        (outcome (wholeEvents (now (source .entry))) (wholeEvents (now (target .entry)))
+        (runNumbered (getD (now (run .entry)) 0 0) (getD (now (run .entry)) 1 0)) (now (tags .entry)) (stepNumbered kind place number))
+        r (now (run .exit)) (now (tags .exit)) ⌝ }
+{
+    let step = step_numbered(kind, place, number);
+    let applied = apply(run_numbered(run[0], run[1]), tags, source, target, step);
+    let after = applied.run;
+    *run = [flag_of(after.begun), after.standing];
+    flag_of(applied.allowed)
+}
