@@ -1,11 +1,10 @@
 -- What the functions over runs hand back, laid out as numbers. Assumes nothing.
 use Prim.Native.Nat.{ℕ}
 use mathlib.Core.List.{List, [], _∷_}
-use mathlib.Core.Path.{_≡_, refl, sym, _∙_, ap}
+use mathlib.Core.Path.{_≡_, _∙_, ap}
 use Rattle.event.specs.declared.Event.{Event}
-use Rattle.checker.specs.Check.{Lent, checkOf}
-use Rattle.checker.specs.declared.Checked.{Checked}
-use Rattle.steps.specs.Play.{Applies, Starts, beginning, nextOf, outcome}
+use Rattle.checker.specs.Check.{Lent}
+use Rattle.steps.specs.Play.{Applies, Starts, nextOf, outcome}
 use Rattle.steps.specs.declared.Applied.{Applied}
 use Rattle.steps.specs.declared.Run.{Run}
 use Rattle.steps.specs.declared.Started.{Started}
@@ -17,7 +16,8 @@ pub step-laid : (s t : List Event) (ns : List ℕ) (swapped : ℕ) (r r′ : Run
     → st ≡ nextOf s t ns swapped r A → r ≡ r′ → l ≡ stepNumbers (nextOf s t ns swapped r′ A)
 step-laid s t ns swapped r r′ A st l e f g = e ∙ ap stepNumbers (f ∙ ap (λ x. nextOf s t ns swapped x A) g)
 
-pub applied-laid : (s t : List Event) (r r′ : Run) (A B : List ℕ) (st st′ : Step) (a : Applied) (f g : ℕ) → Applies r A (outcome s t r A st) a B → r ≡ r′ → st ≡ st′
+pub applied-laid : (s t : List Event) (r r′ : Run) (A B : List ℕ) (st st′ : Step) (a : Applied) (f g : ℕ) → Applies r A (outcome s t r A st) a B
+    → r ≡ r′ → st ≡ st′
     → f ≡ flag (a .run .begun) → g ≡ flag (a .allowed) → Leaves r′ A (outcome s t r′ A st′) g (f ∷ a .run .standing ∷ []) B
 applied-laid s t r r′ A B st st′ a f g p e q h k = rw (← e, ← q) (record {
   answer = k ∙ ap (λ (x : Applied). flag (x .allowed)) (p .answer);

@@ -83,7 +83,8 @@ module _ (view : Event → View) where
   allowed t l (Insert (suc i)) u v h =
       let x = traced (new (suc i)) (getD t i noEvent) in
       let r = passed (ltb i (length t) && ltb (length u) eventLimit) (at i (inserted view x) [] u) v h in
-      at-move two (inserted view x) (inserted-move x (each-at (λ e. T (lawful e)) t i (ltb→lt i (length t) (and-left (ltb i (length t)) (ltb (length u) eventLimit) (r .0))) l)) i [] u v (r .1)
+      at-move two (inserted view x) (inserted-move x (each-at (λ e. T (lawful e)) t i
+      (ltb→lt i (length t) (and-left (ltb i (length t)) (ltb (length u) eventLimit) (r .0))) l)) i [] u v (r .1)
   allowed t l Done u v h = absurd (Option·none-ne-some v h)
   allowed t l Stuck u v h = absurd (Option·none-ne-some v h)
 

@@ -39,7 +39,8 @@ module _ (A : List ℕ) (n : ℕ) (l : n ≤ length A) where
   pub one-less : (i : ℕ) → i < n → length (without i (take n A)) ≡ n - 1
   one-less i h =
       let m = length-take-le n A l in
-      length-append (take i (take n A)) (drop (suc i) (take n A)) ∙ omega (arith, length-take-le i (take n A) (omega (arith, m)), length-drop (suc i) (take n A), m)
+      length-append (take i (take n A)) (drop (suc i) (take n A)) ∙ omega
+      (arith, length-take-le i (take n A) (omega (arith, m)), length-drop (suc i) (take n A), m)
 
   pub as-many : (i : ℕ) → suc i < n → length (exchanged i (take n A)) ≡ n
   as-many i h =

@@ -121,12 +121,14 @@ module _ (ns : List ℕ) where
         rises-less j [] r = tt
         rises-less j (x ∷ u) r = (let k = r .0 in omega arith, r .1)
 
-    put-in : (j : ℕ) (b u : List Traced) (x : Traced) → Below j b → Insertable (viewed view) b (viewed view x) → at j (inserted view x) [] (onto b u) ≡ some (onto b (x ∷ u))
+    put-in : (j : ℕ) (b u : List Traced) (x : Traced) → Below j b → Insertable (viewed view) b (viewed view x)
+        → at j (inserted view x) [] (onto b u) ≡ some (onto b (x ∷ u))
     put-in j b u x h i =
         at-onto (inserted view x) j j 0 b u h (omega arith)
         ∙ (rw (T-true (mayInsert (viewed view) b (viewed view x)) (if-insertable (viewed view) b (viewed view x) .1 i)) (unders-some b (x ∷ u)))
 
-    inserting₁ : (j : ℕ) (b u : List Traced) (x : Traced) → Below j b → Rises (suc j) u → Each (Stands ns) (onto b u) → suc j ≤ length t → length (onto b u) < eventLimit
+    inserting₁ : (j : ℕ) (b u : List Traced) (x : Traced) → Below j b → Rises (suc j) u → Each (Stands ns) (onto b u) → suc j ≤ length t
+        → length (onto b u) < eventLimit
         → Insertable (viewed view) b (viewed view x) → x ≡ traced (new (suc j)) (getD t j noEvent)
         → applied view t (nextStep view ns (length t) (onto b u)) (onto b u) ≡ some (onto b (x ∷ u))
     inserting₁ j b u x h r p l m i e =

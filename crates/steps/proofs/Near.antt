@@ -123,7 +123,8 @@ insert₁ b a-wall h = absurd (false≢true h)
 insert₁ b a-load h = refl
 insert₁ b a-store h = absurd (false≢true h)
 
-pub insert-load : (b : List Traced) (e : Event) → isLoad (view e) ≡ true → mayInsert (viewed view) b (view e) ≡ holds (e .first) (near (viewed view) (e .place) b)
+pub insert-load : (b : List Traced) (e : Event) → isLoad (view e) ≡ true
+    → mayInsert (viewed view) b (view e) ≡ holds (e .first) (near (viewed view) (e .place) b)
 insert-load b e h = insert₁ b (sees e) h
 
 pub insert-other : (b : List Traced) (v : View) → isLoad v ≡ false → mayInsert (viewed view) b v ≡ false

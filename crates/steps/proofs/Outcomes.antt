@@ -166,7 +166,8 @@ module _ (s t : List Event) (tags : List ℕ) (n : ℕ) (h : n ≤ length tags) 
   insert-at place i q l m k e p r f =
       let x = traced (new (suc i)) (getD t i noEvent) in
       let seam = insert-seam view x i u (omega (arith, many)) in
-      let test : mayInsert (viewed view) (behind [] u i) (view (getD t i noEvent)) ≡ r = sym (f ∙ ap (λ (a : Event). mayInsert (viewed view) (behind [] u i) (view a)) p) in
+      let test : mayInsert (viewed view) (behind [] u i) (view (getD t i noEvent)) ≡ r = sym (f
+      ∙ ap (λ (a : Event). mayInsert (viewed view) (behind [] u i) (view a)) p) in
       rw (q, lt-ltb i (length t) l, many, lt-ltb n eventLimit m) (
         seam ∙ ap₂ (λ c v. cond c (some v) none) test (grown i),
         λ _. (omega arith, k, m),

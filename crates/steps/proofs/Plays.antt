@@ -150,7 +150,8 @@ module _ (s t : List Event) (ns : List ℕ) (budget : ℕ) (p : Played) (A : Lis
       → place ≡ swapPlace st → next ≡ suc steps → Going s t ns budget p B (a .run) place next
   goes-on a B w l h place next q n =
       let d = went-on r A (outcome s t r A st) a B w h in
-      going-as s t ns budget p B (front (codes (d .0)) A) (a .run) (running (d .0)) place (swapPlace st) next (suc steps) (d .3) (d .2) q n (stepped (d .0) (d .1) l)
+      going-as s t ns budget p B (front (codes (d .0)) A) (a .run) (running (d .0)) place (swapPlace st) next (suc steps) (d .3) (d .2) q n
+      (stepped (d .0) (d .1) l)
 
   pub goes-off : (a : Applied) (B : List ℕ) → Applies r A (outcome s t r A st) a B → (result : Replayed) → a .allowed ≡ false
       → result ≡ record { run = r; steps = steps; ended = isDone st } → Plays p result B

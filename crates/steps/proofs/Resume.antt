@@ -51,7 +51,8 @@ module _ (ns : List ℕ) where
       let r = kept-order (suc i) (x ∷ b) (y ∷ u) (y ∷ q .0) (f .1) (ap (under y) (q .1)) in
       let z : suc i - 1 ≡ i = omega arith in
       let z′ : suc (suc i) - 1 ≡ suc i = omega arith in
-      rw (e, z′, f .0) (ap (hereOrLater false) r ∙ (ap (λ j. hereOrLater false (shifted j (against ns (drop j (y ∷ q .0))))) z ∙ one-further i (against ns (drop i (y ∷ q .0)))))
+      rw (e, z′, f .0) (ap (hereOrLater false) r ∙ (ap (λ j. hereOrLater false (shifted j (against ns (drop j (y ∷ q .0))))) z
+      ∙ one-further i (against ns (drop i (y ∷ q .0)))))
 
   -- what is missing is no swap
   no-swap : (n i p : ℕ) (u : List Traced) → missing ns n i u ≡ Swap p → ⊥

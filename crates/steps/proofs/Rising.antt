@@ -19,7 +19,8 @@ use Rattle.rules.specs.Run.{new, Traced, traced, tagOf, number, viewed}
 use Rattle.rules.specs.Fault.{isGone}
 use Rattle.rules.proofs.Entries.{Once, from-start}
 use Rattle.steps.specs.Allowed.{mayInsert, maySwap}
-use Rattle.steps.specs.Step.{leaves, targetNumber, overtakes, anyGone, against, hereOrLater, missing, removal, removeStep, swapStep, nextStep, swapped, inserted}
+use Rattle.steps.specs.Step.{leaves, targetNumber, overtakes, anyGone, against, hereOrLater}
+use Rattle.steps.specs.Step.{missing, removal, removeStep, swapStep, nextStep, swapped, inserted}
 use Rattle.steps.specs.Step.{applied, under, at, phase}
 use Rattle.rules.specs.Moves.{one, two}
 use Rattle.steps.specs.declared.Step.{Step}
@@ -145,7 +146,8 @@ module _ (ns : List ℕ) where
   -- ---- along a replay
 
   module _ (view : Event → View) where
-    at-total : (f : Traced → ℕ) (d : ℕ) (g : List Traced → List Traced → Option (List Traced)) → ((b u v : List Traced) → g b u ≡ some v → total f v ≡ d + total f u)
+    at-total : (f : Traced → ℕ) (d : ℕ) (g : List Traced → List Traced → Option (List Traced))
+        → ((b u v : List Traced) → g b u ≡ some v → total f v ≡ d + total f u)
         → (i : ℕ) (b u v : List Traced) → at i g b u ≡ some v → total f v ≡ d + total f u
     at-total f d g e zero b u v h = e b u v h
     at-total f d g e (suc i) b [] v h = absurd (Option·none-ne-some v h)
@@ -182,7 +184,8 @@ module _ (ns : List ℕ) where
 
     module _ (t : List Event) (l : Each (λ e. T (lawful e)) t) where
       -- what comes after the removals leaves events apart
-      apart-other : (u v : List Traced) → Apart u → (st : Step) → ((k : ℕ) → st ≡ Insert k → has k (targets ns u) ≡ false) → (phased : (i k : ℕ) → st ≡ Remove i k → ⊥)
+      apart-other : (u v : List Traced) → Apart u → (st : Step) → ((k : ℕ) → st ≡ Insert k → has k (targets ns u) ≡ false)
+          → (phased : (i k : ℕ) → st ≡ Remove i k → ⊥)
           → applied view t st u ≡ some v → Apart v
       apart-other u v a (Remove i k) m p h = absurd (p i k refl)
       apart-other u v a (Swap zero) m p h = absurd (Option·none-ne-some v h)

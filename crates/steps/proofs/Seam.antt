@@ -48,7 +48,8 @@ module _ (view : Event → View) where
   remove-seam d k i u l =
       at-seam (removed view k) i [] u (omega arith)
       ∙ rw (drop-cons u i d l)
-      (fronted-if (isSource k (tagOf (getD u i d)) && mayRemove (viewed view) (behind [] u i) (viewed view (getD u i d)) (drop (suc i) u)) (take i u) (drop (suc i) u))
+      (fronted-if (isSource k (tagOf (getD u i d)) && mayRemove (viewed view) (behind [] u i) (viewed view (getD u i d)) (drop (suc i) u)) (take i u)
+      (drop (suc i) u))
 
   pub swap-seam : (d : Traced) (i : ℕ) (u : List Traced) → suc i < length u
       → at i (swapped view) [] u

@@ -27,7 +27,8 @@ pub out-front : (i m : ℕ) (A : List ℕ) → i ≤ m → m < length A → fron
 out-front i m A h l =
     let X = take (suc m) A in
     let n : length X ≡ suc m = length-take-le (suc m) A (omega arith) in
-    let k : length (without i X) ≡ m = length-append (take i X) (drop (suc i) X) ∙ omega (arith, length-take-le i X (omega (arith, n)), length-drop (suc i) X, n) in
+    let k : length (without i X) ≡ m = length-append (take i X) (drop (suc i) X)
+    ∙ omega (arith, length-take-le i X (omega (arith, n)), length-drop (suc i) X, n) in
     front-of (without i X) A m k ∙ (append-assoc (take i X) (drop (suc i) X) (drop m A) ∙ rw (take-take i (suc m) A (omega arith)))
 
 pub out-next : (i m : ℕ) (A : List ℕ) → i < m → m < length A → out i m A ≡ out (suc i) m (set A i (getD A (suc i) 0))

@@ -51,7 +51,8 @@ module _ (view : Event → View) (s t : List Event) (ns : List ℕ) where
   pub if-leaves : (x : Traced) → (T (leaves ns (tagOf x)) → Leaves view s t ns x) × (Leaves view s t ns x → T (leaves ns (tagOf x)))
   if-leaves (traced g e) = gone-of (view e) (fated ns g)
 
-  pub if-overtakes : (x z : Traced) → (T (overtakes ns (tagOf x) (tagOf z)) → Overtakes view s t ns x z) × (Overtakes view s t ns x z → T (overtakes ns (tagOf x) (tagOf z)))
+  pub if-overtakes : (x z : Traced) → (T (overtakes ns (tagOf x) (tagOf z)) → Overtakes view s t ns x z) × (Overtakes view s t ns x z
+      → T (overtakes ns (tagOf x) (tagOf z)))
   if-overtakes (traced g e) (traced g′ e′) = overtakes-of (view e) (view e′) (fated ns g) (fated ns g′)
 
 module _ (ns : List ℕ) where

@@ -16,7 +16,8 @@ use Rattle.rules.specs.View.{View}
 use Rattle.rules.specs.Moves.{Removable, one, two}
 use Rattle.rules.specs.Run.{Traced, tagOf, number, viewed}
 use Rattle.steps.specs.Allowed.{mayRemove}
-use Rattle.steps.specs.Step.{leaves, isSource, sourceNumber, targetNumber, anyGone, against, missing, numberAt, laterOrHere, removal, removeStep, swapStep}
+use Rattle.steps.specs.Step.{leaves, isSource, sourceNumber, targetNumber, anyGone, against}
+use Rattle.steps.specs.Step.{missing, numberAt, laterOrHere, removal, removeStep, swapStep}
 use Rattle.steps.specs.Step.{phase, nextStep, removed, applied, under, at}
 use Rattle.steps.specs.declared.Step.the-variants.{Remove, Insert, Done}
 use Rattle.steps.proofs.Allow.{move-two, still-none, through, phase-other, phase-missing}
@@ -105,7 +106,8 @@ module _ (view : Event → View) (ns : List ℕ) where
   ascends-at k (suc i) m b [] v h l = absurd (Option·none-ne-some v h)
   ascends-at k (suc i) m b (x ∷ u) v h l = go (at i (removed view k) (x ∷ b) u) h (ascends-at k i (sourceNumber (tagOf x)) (x ∷ b) u)
     where
-      go : (o : Option (List Traced)) → under x o ≡ some v → ((w : List Traced) → o ≡ some w → Ascends (sourceNumber (tagOf x)) u → Ascends (sourceNumber (tagOf x)) w)
+      go : (o : Option (List Traced)) → under x o ≡ some v → ((w : List Traced) → o ≡ some w → Ascends (sourceNumber (tagOf x)) u
+          → Ascends (sourceNumber (tagOf x)) w)
           → Ascends m v
       go none h ih = absurd (Option·none-ne-some v h)
       go (some w) h ih = rw (← Option·some-injective (x ∷ w) v h) (l .0, ih w refl (l .1))
@@ -161,7 +163,8 @@ module _ (ns : List ℕ) where
       go : (c : Bool) → cond c Done (Insert i) ≡ Insert k → (i ≤ k) × (false ≡ false) × ((j : ℕ) → i ≤ j → j < k → false ≡ true)
       go true h = let z : _≡_ {A = ℕ} 0 1 = cc in absurd (omega arith)
       go false h = let q = insert-is i k h in (omega arith, refl, λ j a b. absurd (omega arith))
-  least-missing n m i k (x ∷ u) e r h = go (eqb (targetNumber ns (tagOf x)) i) refl h (λ q. least-missing n (targetNumber ns (tagOf x)) (suc i) k u (ap suc q) (r .1))
+  least-missing n m i k (x ∷ u) e r h = go (eqb (targetNumber ns (tagOf x)) i) refl h
+      (λ q. least-missing n (targetNumber ns (tagOf x)) (suc i) k u (ap suc q) (r .1))
     where
       y : ℕ
       y = targetNumber ns (tagOf x)
@@ -169,14 +172,16 @@ module _ (ns : List ℕ) where
       Said : ℕ → List Traced → Type 0
       Said i u = (i ≤ k) × (has k (targets u) ≡ false) × ((j : ℕ) → i ≤ j → j < k → has j (targets u) ≡ true)
 
-      go : (c : Bool) → eqb y i ≡ c → cond c (missing ns n (suc i) u) (Insert i) ≡ Insert k → (y ≡ i → missing ns n (suc i) u ≡ Insert k → Said (suc i) u) → Said i (x ∷ u)
+      go : (c : Bool) → eqb y i ≡ c → cond c (missing ns n (suc i) u) (Insert i) ≡ Insert k
+          → (y ≡ i → missing ns n (suc i) u ≡ Insert k → Said (suc i) u) → Said i (x ∷ u)
       go true q h ih =
           let a : y ≡ i = eqb-true y i q in
           let b = ih a h in
           let b0 = b .0 in
           (omega arith, rw (ne-eqb k y (λ z. omega arith)) (b .1), λ j c d. by (eqb j y) j refl a c d (b .2))
         where
-          by : (f : Bool) (j : ℕ) → eqb j y ≡ f → y ≡ i → i ≤ j → j < k → ((j : ℕ) → suc i ≤ j → j < k → has j (targets u) ≡ true) → (f || has j (targets u)) ≡ true
+          by : (f : Bool) (j : ℕ) → eqb j y ≡ f → y ≡ i → i ≤ j → j < k → ((j : ℕ) → suc i ≤ j → j < k → has j (targets u) ≡ true)
+              → (f || has j (targets u)) ≡ true
           by true j q a c d g = refl
           by false j q a c d g = let ne = eqb-false j y q in g j (omega arith) d
       go false q h ih =

@@ -7,6 +7,7 @@ use Rattle.trace.proofs.reading.survey_in.Reads as survey-in
 use Rattle.trace.proofs.reading.store.Reads as store
 use Rattle.trace.proofs.form.form_of.Reads as form-of
 use Rattle.trace.proofs.moving.move_to.Reads as move-to
+use Rattle.trace.proofs.writing.write_event.Reads as write-event
 
 read-one : OneAnswer read.Post
 read-one κ a x y s t h k = h .0 ∙ sym (k .0)
@@ -34,3 +35,9 @@ move-to-one κ a x y s t h k = h .0 ∙ sym (k .0)
 
 move-to-room : OneOf move-to.Post (λ κ r s. s .1 .1 .0 .now)
 move-to-room κ a x y s t h k = h .1 ∙ sym (k .1)
+
+write-event-one : OneAnswer write-event.Post
+write-event-one κ a x y s t h k = h .counted ∙ sym (k .counted)
+
+write-event-bytes : OneOf write-event.Post (λ κ r s. s .1 .1 .0 .now)
+write-event-bytes κ a x y s t h k = h .stored ∙ sym (k .stored)

@@ -59,7 +59,8 @@ returns-6 : tie.Need-returns-6
 returns-6 c =
     let o = c .before in
     let a = o .before .before .before .before .before .args in
-    when-closed (wholeEvents (a .source .now)) (wholeEvents (a .target .now)) (a .run) (a .tags .now) (a .step) (sym (o .before .is-open .ensures) ∙ o .if1 .left)
+    when-closed (wholeEvents (a .source .now)) (wholeEvents (a .target .now)) (a .run) (a .tags .now) (a .step) (sym (o .before .is-open .ensures)
+    ∙ o .if1 .left)
     (c .refuse3 .ensures)
 
 inside : (c : tie.Then1) → begin c .args .run .standing ≤ length (begin c .args .tags .now)

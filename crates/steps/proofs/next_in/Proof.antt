@@ -69,7 +69,8 @@ module _ (c : tie.After-part) where
   targets = sym (onward-length (begin .args .target .now) 0 (length (begin .args .target .now) / 6))
 
 gone-is : (c : tie.After-any-gone) {b : Bool} → c .any-gone .result ≡ b
-    → anyGone (entries (c .before .before)) (stands (source (c .before .before)) (target (c .before .before)) (run (c .before .before)) (tags (c .before .before))) ≡ b
+    → anyGone (entries (c .before .before)) (stands (source (c .before .before)) (target (c .before .before)) (run (c .before .before))
+    (tags (c .before .before))) ≡ b
 gone-is c h =
     let p = c .before .before in
     ap (λ n. anyGone (entries p) (trace (source p) (target p) (take n (tags p)))) (sym (whole (run p .standing)))

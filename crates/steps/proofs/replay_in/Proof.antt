@@ -46,6 +46,7 @@ pub replay-in-spec : {M : Type 1} → statement M
 replay-in-spec =
     tie.close
     (tie.spec Inv-loop μ-loop
-    (λ c. let s = c .before .before .before .before in going (wholeEvents (s .args .source .now)) (wholeEvents (s .args .target .now)) (s .args .entries .now) (s .args .budget) (s .args .tags .now) (s .args .run) (s .pre))
+    (λ c. let s = c .before .before .before .before in going (wholeEvents (s .args .source .now)) (wholeEvents (s .args .target .now))
+    (s .args .entries .now) (s .args .budget) (s .args .tags .now) (s .args .run) (s .pre))
     (λ c κs. c .before .before .loop .inv .size) (λ c κs. c .before .before .before .before .loop .inv .size) (search needs) (λ c. omega arith)
     (λ c. omega arith) loop-again (search needs) (search needs) returns (λ c κs. c .before .before .loop .inv .size) (search needs) (search needs) returns-2)

@@ -24,4 +24,5 @@ pub print-steps-spec : {M : Type 1} → statement M
 print-steps-spec =
     tie.close
     (tie.spec Inv-loop μ-loop (λ c. refl) (λ c. omega arith) (search needs) (search needs) (λ c. omega arith) loop-again (search needs)
-    (search needs) (search needs) (λ c. omega arith) loop-again-2 (search needs) (search needs) (λ c. c .before .before .before .before .loop .inv) (search needs))
+    (search needs) (search needs) (λ c. omega arith) loop-again-2 (search needs) (search needs) (λ c. c .before .before .before .before .loop .inv)
+    (search needs))

@@ -3,7 +3,6 @@ use mathlib.Core.Path.{_≡_, refl}
 use Prim.Native.Nat.{_-_}
 use native.Mathlib.Omega.{arith}
 use lib.ListN.{length, length-set}
-use borrow.Author.Needs.{needs}
 use Rattle.files.proofs.run.put.Statement.{statement}
 use Rattle.files.proofs.run.put.Tie as tie
 
@@ -16,5 +15,6 @@ abbrev μ-loop : tie.MeasureT-loop
 pub put-spec : {M : Type 1} → statement M
 put-spec =
     tie.close
-    (tie.spec Inv-loop μ-loop (λ c. refl) (λ c. c .before .before .loop .inv) (λ c. tt) (λ c. omega arith) (λ c. omega arith) (λ c. omega arith) (λ c. omega arith) (λ c. omega arith)
+    (tie.spec Inv-loop μ-loop (λ c. refl) (λ c. c .before .before .loop .inv) (λ c. tt) (λ c. omega arith) (λ c. omega arith) (λ c. omega arith)
+    (λ c. omega arith) (λ c. omega arith)
     (λ c. simp length-set (c .before .before .before .loop .inv)) (λ c. c .before .loop .inv) (λ c. tt))

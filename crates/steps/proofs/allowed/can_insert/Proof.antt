@@ -73,7 +73,8 @@ returns-5 c =
     insert-at (source s) (target s) (tags s) (standing s) (s .pre) (place s) (place s - 1) (omega arith)
     (omega (arith, targets s, d .before .before .if2 .left)) (omega (arith, d .before .if3 .left)) (d .if4 .left) (g .get .result)
     (g .get .ensures ∙ sym (room-at (s .args .target .now) (place s - 1))) (c .may-insert .result)
-    (c .may-insert .ensures ∙ ap (λ n. mayInsert (viewed view) (behind [] (trace (source s) (target s) (take n (tags s))) (place s - 1)) (view (g .get .result)))
+    (c .may-insert .ensures ∙ ap (λ n. mayInsert (viewed view) (behind [] (trace (source s) (target s) (take n (tags s))) (place s - 1))
+    (view (g .get .result)))
     (whole (standing s)))
 
 may-insert-requires : tie.Need-may-insert-requires

@@ -15,7 +15,8 @@ abbrev begin : tie.After-can-insert → tie.Start
 begin c = c .before .before .before .before .before
 
 inside : (c : tie.Then1)
-    → (0 < begin (c .before) .args .place) × (begin (c .before) .args .place - 1 ≤ begin (c .before) .args .run .standing) × (begin (c .before) .args .run .standing < 800)
+    → (0 < begin (c .before) .args .place) × (begin (c .before) .args .place - 1 ≤ begin (c .before) .args .run .standing) × (begin (c .before) .args
+    .run .standing < 800)
 inside c = c .before .can-insert .ensures .1 (c .if1 .taken)
 
 returns : tie.Need-returns
@@ -26,7 +27,8 @@ returns c =
     let a = s .args in
     let n = a .run .standing in
     let ks = withNew (a .place - 1) (800 + (a .place - 1)) (take n (a .tags .now)) in
-    allows (a .run) (a .tags .now) _ _ (trace (wholeEvents (a .source .now)) (wholeEvents (a .target .now)) ks) (d .before .can-insert .ensures .0) (wholeEvents (a .source .now))
+    allows (a .run) (a .tags .now) _ _ (trace (wholeEvents (a .source .now)) (wholeEvents (a .target .now)) ks) (d .before .can-insert .ensures .0)
+    (wholeEvents (a .source .now))
     (wholeEvents (a .target .now)) ks (n + 1) refl (d .if1 .taken)
     (one-more (a .tags .now) n (s .pre .0) (a .place - 1) (800 + (a .place - 1)) (inside d .1))
     (c .allow .ensures) (l .shift-right .ensures)
@@ -36,7 +38,9 @@ returns-2 c =
     let d = c .before in
     let a = begin (d .before) .args in
     refuses (a .run) (a .tags .now) _ _
-    (trace (wholeEvents (a .source .now)) (wholeEvents (a .target .now)) (withNew (a .place - 1) (800 + (a .place - 1)) (take (a .run .standing) (a .tags .now)))) (d .before .can-insert .ensures .0) (d .if1 .left) (c .refuse .ensures)
+    (trace (wholeEvents (a .source .now)) (wholeEvents (a .target .now))
+    (withNew (a .place - 1) (800 + (a .place - 1)) (take (a .run .standing) (a .tags .now)))) (d .before .can-insert .ensures .0) (d .if1 .left)
+    (c .refuse .ensures)
 
 pub insert-spec : {M : Type 1} → statement M
 insert-spec =

@@ -29,7 +29,8 @@ returns c =
     let p1 = inside d .1 in
     let e : suc (n - 1) ≡ n = omega arith in
     let ks = without (a .place - 1) (take n (a .tags .now)) in
-    allows (a .run) (a .tags .now) _ _ (trace (wholeEvents (a .source .now)) (wholeEvents (a .target .now)) ks) (d .before .can-remove .ensures .0) (wholeEvents (a .source .now))
+    allows (a .run) (a .tags .now) _ _ (trace (wholeEvents (a .source .now)) (wholeEvents (a .target .now)) ks) (d .before .can-remove .ensures .0)
+    (wholeEvents (a .source .now))
     (wholeEvents (a .target .now)) ks (n - 1) refl (d .if1 .taken) (one-less (a .tags .now) n (s .pre) (a .place - 1) (omega arith))
     (c .allow .ensures) (l .shift-left .ensures ∙ ap (λ k. front (without (a .place - 1) (take k (a .tags .now))) (a .tags .now)) e)
 
@@ -38,7 +39,8 @@ returns-2 c =
     let d = c .before in
     let a = begin (d .before) .args in
     refuses (a .run) (a .tags .now) _ _
-    (trace (wholeEvents (a .source .now)) (wholeEvents (a .target .now)) (without (a .place - 1) (take (a .run .standing) (a .tags .now)))) (d .before .can-remove .ensures .0) (d .if1 .left) (c .refuse .ensures)
+    (trace (wholeEvents (a .source .now)) (wholeEvents (a .target .now)) (without (a .place - 1) (take (a .run .standing) (a .tags .now))))
+    (d .before .can-remove .ensures .0) (d .if1 .left) (c .refuse .ensures)
 
 pub remove-spec : {M : Type 1} → statement M
 remove-spec =

@@ -49,7 +49,8 @@ pub shift-left-spec : {M : Type 1} → statement M
 shift-left-spec =
     tie.close
     (tie.spec Inv-loop μ-loop (λ c. record { bound = c .pre .0; size = refl; same = refl }) (λ c. omega (arith, c .before .before .pre .1))
-    (λ c. omega (arith, c .before .before .pre .1, c .before .loop .inv .size)) (λ c. omega (arith, c .before .before .before .pre .1, c .before .before .loop .inv .size))
+    (λ c. omega (arith, c .before .before .pre .1, c .before .loop .inv .size))
+    (λ c. omega (arith, c .before .before .before .pre .1, c .before .before .loop .inv .size))
     (λ c. omega (arith, c .before .before .before .pre .1, c .before .before .loop .inv .size))
     (λ c. omega (arith, c .before .before .before .pre .1, c .before .before .loop .inv .size)) (λ c. omega arith) (λ c. omega arith) loop-again
     (λ c. c .before .loop .inv .size) returns)

@@ -38,7 +38,8 @@ returns c =
     let p0 = inside d .0 in
     let p1 = inside d .1 in
     let ks = exchanged (a .place - 1) (take n (a .tags .now)) in
-    allows (a .run) (a .tags .now) _ _ (trace (wholeEvents (a .source .now)) (wholeEvents (a .target .now)) ks) (d .before .can-swap .ensures .0) (wholeEvents (a .source .now))
+    allows (a .run) (a .tags .now) _ _ (trace (wholeEvents (a .source .now)) (wholeEvents (a .target .now)) ks) (d .before .can-swap .ensures .0)
+    (wholeEvents (a .source .now))
     (wholeEvents (a .target .now)) ks n refl (d .if1 .taken) (as-many (a .tags .now) n (s .pre) (a .place - 1) (omega arith))
     (c .allow .ensures) (stored (a .place - 1) (a .place) n (a .tags .now) (omega arith) p1 (s .pre))
 
@@ -47,7 +48,8 @@ returns-2 c =
     let d = c .before in
     let a = begin (d .before) .args in
     refuses (a .run) (a .tags .now) _ _
-    (trace (wholeEvents (a .source .now)) (wholeEvents (a .target .now)) (exchanged (a .place - 1) (take (a .run .standing) (a .tags .now)))) (d .before .can-swap .ensures .0) (d .if1 .left) (c .refuse .ensures)
+    (trace (wholeEvents (a .source .now)) (wholeEvents (a .target .now)) (exchanged (a .place - 1) (take (a .run .standing) (a .tags .now))))
+    (d .before .can-swap .ensures .0) (d .if1 .left) (c .refuse .ensures)
 
 pub swap-spec : {M : Type 1} → statement M
 swap-spec =
@@ -58,5 +60,6 @@ swap-spec =
     (λ c. omega (arith, inside (c .before .before) .1, begin (c .before .before .before) .pre))
     (λ c. omega (arith, inside (c .before .before) .1, begin (c .before .before .before) .pre))
     (λ c. omega (arith, inside (c .before .before) .1, begin (c .before .before .before) .pre))
-    (λ c. simp length-set (omega (arith, inside (c .before .before) .1, begin (c .before .before .before) .pre))) (search needs) (search needs) returns (search needs) (search needs)
+    (λ c. simp length-set (omega (arith, inside (c .before .before) .1, begin (c .before .before .before) .pre))) (search needs) (search needs) returns
+    (search needs) (search needs)
     returns-2)

@@ -58,7 +58,11 @@ returns : tie.Need-returns Inv-loop μ-loop
 returns c s t = sym (from-here (c .before) (ne-eqb _ _ (c .if1 .taken)) s t)
 
 loop-again : tie.Need-loop-again Inv-loop μ-loop
-loop-again c = (omega (arith, c .before .before .before .loop-test .taken), λ s t. from-here (c .before) (eq-eqb _ _ (c .if1 .left)) s t ∙ rw (add-one (index (c .before) + 1)))
+loop-again c = (
+  omega (arith, c .before .before .before .loop-test .taken),
+  λ s t. from-here (c .before) (eq-eqb _ _ (c .if1 .left)) s t
+      ∙ rw (add-one (index (c .before) + 1)),
+)
 
 -- none is left
 module _ (c : tie.After-loop Inv-loop μ-loop) where

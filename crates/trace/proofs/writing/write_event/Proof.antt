@@ -4,16 +4,16 @@ use mathlib.Core.Bool.{true}
 use mathlib.Core.List.{List, [], _∷_, _++_}
 use Prim.Native.Nat.{ℕ, _≤_}
 use native.Mathlib.Omega.{arith}
-use lib.ListN.{getD, length, length-append}
+use lib.ListN.{length-append}
 use borrow.Author.Needs.{needs}
 use Rattle.event.specs.Kind.{lawful}
 use Rattle.event.specs.Room.{eventAt}
 use Rattle.event.specs.declared.Event.{Event}
 use Rattle.record.specs.Layout.{eventLine}
-use Rattle.record.specs.Record.{Fit, lastValue}
+use Rattle.record.specs.Record.{lastValue}
 use Rattle.record.specs.declared.form.Form.the-variants.{One}
 use Rattle.record.proofs.Prints.{event-length}
-use Rattle.trace.specs.Put.{Put, Small, bare, bareLine}
+use Rattle.trace.specs.Put.{Small, bare, bareLine}
 use Rattle.trace.proofs.Puts.{put-none}
 use Rattle.trace.proofs.Range.{values-in}
 use Rattle.trace.proofs.writing.write_event.Statement.{statement}
