@@ -12,7 +12,7 @@ use laprunto::{Entry, Memory, Number, Word};
 use std::io::{Read, Write};
 
 /// The longest text, a trace of form 2.
-const TEXT_BYTES: usize = 37_200;
+const TEXT_BYTES: usize = 57_300;
 const EVENTS: usize = 800;
 const WORDS: usize = 6;
 

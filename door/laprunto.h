@@ -29,17 +29,18 @@
 extern "C" {
 #endif
 
-typedef uint32_t laprunto_word;   /* a value and a word of an event */
+typedef uint64_t laprunto_word;   /* a value and a word of an event */
 typedef uint32_t laprunto_number; /* a number that is no value: an answer's, a side's, a form's */
 typedef uint32_t laprunto_entry;  /* an entry of a matching */
 
 enum {
-    LAPRUNTO_TEXT_BYTES = 32400,   /* the longest matching, and the longest trace of form 1 */
-    LAPRUNTO_FORM_2_BYTES = 37200, /* the longest trace of form 2 */
-    LAPRUNTO_TRACE_WORDS = 4800,   /* 800 events */
-    LAPRUNTO_ENTRY_WORDS = 800,    /* 800 entries */
-    LAPRUNTO_CELLS = 256,          /* a starting memory */
-    LAPRUNTO_TAGS = 800            /* where each event of a run comes from */
+    LAPRUNTO_MATCHING_BYTES = 32400, /* the longest matching */
+    LAPRUNTO_FORM_1_BYTES = 52500,   /* the longest trace of form 1 */
+    LAPRUNTO_FORM_2_BYTES = 57300,   /* the longest trace of form 2 */
+    LAPRUNTO_TRACE_WORDS = 4800,     /* 800 events */
+    LAPRUNTO_ENTRY_WORDS = 800,      /* 800 entries */
+    LAPRUNTO_CELLS = 256,            /* a starting memory */
+    LAPRUNTO_TAGS = 800              /* where each event of a run comes from */
 };
 
 /* Where what stands in a result. */

@@ -2,7 +2,7 @@
 //! pointer and its length. Every Rust program here takes them from this file.
 
 /// A value and a word of an event.
-pub type Word = u32;
+pub type Word = u64;
 /// A number that is no value: an answer's, a side's, a form's.
 pub type Number = u32;
 /// An entry of a matching.

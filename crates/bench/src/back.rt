@@ -34,7 +34,7 @@ pub(crate) fn count_of(back: Back) -> usize {
 // A trace text, written as it was read.
 pub(crate) fn written_back(text: &[u8]) -> Back {
     let mut room: [Word; 4800] = [0; 4800];
-    let mut out: [u8; 37200] = [0; 37200];
+    let mut out: [u8; 57300] = [0; 57300];
     let got = read(text, &mut room);
     let answer = got.answer;
     if answer.number != 0 {
@@ -50,7 +50,7 @@ pub(crate) fn written_back(text: &[u8]) -> Back {
 
 // A text moved from another, moved to the form of that.
 pub(crate) fn moved_back(moved: &[u8], text: &[u8]) -> Back {
-    let mut out: [u8; 37200] = [0; 37200];
+    let mut out: [u8; 57300] = [0; 57300];
     let answer = move_to(form_of(text), moved, &mut out);
     Back {
         there: true,

@@ -2,6 +2,7 @@
 use super::back::Back;
 use super::back::count_of;
 use super::back::written_back;
+use super::lent::lent_entries;
 use super::lent::lent_words;
 use super::tell::Ran;
 use super::tell::and_more;
@@ -18,14 +19,17 @@ use checker::Checked;
 use checker::check;
 use checker::line::offending_line;
 use event::Answer;
+use event::Entry;
 use event::Number;
 use event::WORDS;
 use event::Word;
 use event::kind::is_in;
 use text::word::same_bytes;
 
-// What every word of a room is before a check: no word of an event or entry that a vector has.
+// What every word and every entry of a room is before a check: none that a vector has.
 const MARK: Word = 3735928559;
+
+const ENTRY_MARK: Entry = 3735928559;
 
 // The most events of a trace, and entries of a matching.
 const MOST_EVENTS: usize = 800;
@@ -54,7 +58,7 @@ pub(crate) fn words_of(events: usize) -> usize {
     events * WORDS
 }
 
-// Whether a room is as it was from a place on.
+// Whether a room of words is as it was from a place on.
 fn is_unchanged(room: &[Word], from: usize) -> bool {
     let mut i = from;
     while i < room.len() {
@@ -66,9 +70,21 @@ fn is_unchanged(room: &[Word], from: usize) -> bool {
     true
 }
 
+// Whether a room of entries is.
+fn are_entries_unchanged(room: &[Entry], from: usize) -> bool {
+    let mut i = from;
+    while i < room.len() {
+        if room[i] != ENTRY_MARK {
+            return false;
+        }
+        i += 1;
+    }
+    true
+}
+
 // How many of the events or entries counted a room holds: none if a reading refuses.
 fn held(number: Number, count: usize) -> usize {
-    if is_in(number, &[1, 2, 3, 4, 5, 6, 17]) {
+    if is_in(number as Word, &[1, 2, 3, 4, 5, 6, 17]) {
         return 0;
     }
     count
@@ -79,7 +95,7 @@ fn are_unchanged(
     checked: Checked,
     source_room: &[Word],
     target_room: &[Word],
-    entry_room: &[Word],
+    entry_room: &[Entry],
 ) -> bool {
     let number = checked.answer.number;
     if !is_unchanged(source_room, words_of(held(number, checked.source.events))) {
@@ -88,7 +104,7 @@ fn are_unchanged(
     if !is_unchanged(target_room, words_of(held(number, checked.target.events))) {
         return false;
     }
-    is_unchanged(entry_room, held(number, checked.entries))
+    are_entries_unchanged(entry_room, held(number, checked.entries))
 }
 
 // A check in rooms of the lengths that the header says.
@@ -99,11 +115,11 @@ fn check_in(
     header: &[u8],
     source_room: &mut [Word],
     target_room: &mut [Word],
-    entry_room: &mut [Word],
+    entry_room: &mut [Entry],
 ) -> InRooms {
     let source_words = lent_words(source_room, number_at(header, SOURCE_WORDS));
     let target_words = lent_words(target_room, number_at(header, TARGET_WORDS));
-    let entry_words = lent_words(entry_room, number_at(header, ENTRY_WORDS));
+    let entry_words = lent_entries(entry_room, number_at(header, ENTRY_WORDS));
     let checked = check(
         source,
         target,
@@ -130,7 +146,7 @@ fn outcome_of<'a>(
 ) -> Outcome {
     let mut source_room: [Word; 4800] = [MARK; 4800];
     let mut target_room: [Word; 4800] = [MARK; 4800];
-    let mut entry_room: [Word; 800] = [MARK; 800];
+    let mut entry_room: [Entry; 800] = [ENTRY_MARK; 800];
     let ran = check_in(
         source,
         target,

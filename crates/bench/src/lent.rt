@@ -1,5 +1,6 @@
 // How much of a room or of bytes is lent: what a vector says, of what there is.
 ghost use Rattle.io.specs.Counts.{Counts};
+use event::Entry;
 use event::Word;
 
 pub(crate) fn lent_words(room: &[Word], words: usize) -> usize
@@ -7,6 +8,15 @@ pub(crate) fn lent_words(room: &[Word], words: usize) -> usize
 {
     if words < room.len() {
         return words;
+    }
+    room.len()
+}
+
+pub(crate) fn lent_entries(room: &[Entry], entries: usize) -> usize
+    ensures { λ r. ⌜ Counts r (now (room .entry)) ⌝ }
+{
+    if entries < room.len() {
+        return entries;
     }
     room.len()
 }

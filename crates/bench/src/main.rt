@@ -1,4 +1,4 @@
-// Checks the files of the examples as the program does, then runs every vector of four files and prints which differ.
+// Checks the files of the examples as the program does, then runs every vector of five files and prints which differ.
 mod back;
 mod check;
 mod lent;
@@ -41,10 +41,10 @@ struct Totals {
 }
 
 // The most bytes of a file of vectors.
-fn vectors_buffer() -> [u8; 1800000]
-    ensures { λ r. ⌜ 1800000 ≡ length r ⌝ }
+fn vectors_buffer() -> [u8; 2400000]
+    ensures { λ r. ⌜ 2400000 ≡ length r ⌝ }
 {
-    [0; 1800000]
+    [0; 2400000]
 }
 
 // The examples, as the program checks them.
@@ -63,6 +63,11 @@ fn print_examples() {
         b"examples/code/source",
         b"examples/code/target",
         b"examples/code/matching",
+    );
+    check_files(
+        b"examples/count/source",
+        b"examples/count/target",
+        b"examples/count/matching",
     );
 }
 
@@ -161,6 +166,7 @@ fn main() {
     print_examples();
     run_file(Task::Check, b"vectors", b"written back");
     run_file(Task::Check, b"forms", b"written back");
+    run_file(Task::Check, b"counters", b"written back");
     run_file(Task::Move, b"moves", b"moved back");
     run_file(Task::Write, b"writes", b"written back");
 }

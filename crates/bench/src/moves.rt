@@ -33,7 +33,7 @@ pub(crate) fn run_move(data: &[u8], at: usize, ordinal: usize) -> Ran {
     let header = between(data, at, vector.header_end);
     let text = between(data, vector.text, vector.written);
     let moved = between(data, vector.written, vector.end);
-    let mut out: [u8; 37200] = [MARK; 37200];
+    let mut out: [u8; 57300] = [MARK; 57300];
     let answer = move_in(header, text, &mut out);
     let back = back_of(answer, moved, text);
     ran_with(ordinal, header, answer, &out, moved, back, vector.end)

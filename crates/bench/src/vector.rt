@@ -7,8 +7,8 @@ use text::scan::find;
 // The byte that parts the numbers of a header.
 const BLANK: u8 = 32;
 
-// No number of a header is greater.
-const MOST: u64 = 4294967295;
+// No number of a header is greater: a word of an event may be one.
+const MOST: u64 = 18446744073709551615;
 
 // Which number of a check's header is which.
 pub(crate) const SOURCE_BYTES: usize = 0;

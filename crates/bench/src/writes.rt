@@ -21,23 +21,11 @@ use event::memory::Memory;
 use trace::read;
 use trace::write;
 
-// The greatest word.
-const LAST_WORD: usize = 4294967295;
-
-// The word that number k of a header is.
-fn word_at(header: &[u8], k: usize) -> Word {
-    let n = number_at(header, k);
-    if LAST_WORD < n {
-        return 0;
-    }
-    n as Word
-}
-
 // The word changed that the header says, if the room has it.
 fn change(room: &mut [Word], header: &[u8]) {
     let at = number_at(header, CHANGED_AT);
     if at < room.len() {
-        room[at] = word_at(header, CHANGED_TO);
+        room[at] = number_at(header, CHANGED_TO) as Word;
     }
 }
 
@@ -61,7 +49,7 @@ pub(crate) fn run_write(data: &[u8], at: usize, ordinal: usize) -> Ran {
     let header = between(data, at, vector.header_end);
     let written = between(data, vector.written, vector.end);
     let mut room: [Word; 4806] = [0; 4806];
-    let mut out: [u8; 37200] = [MARK; 37200];
+    let mut out: [u8; 57300] = [MARK; 57300];
     let got = read(between(data, vector.text, vector.written), &mut room);
     change(&mut room, header);
     let answer = write_in(header, got.memory, &room, &mut out);

@@ -33,7 +33,7 @@ pub(crate) fn form_in(header: &[u8]) -> Form {
 
 // Whether bytes are as they were from a place on.
 fn is_marked(out: &[u8], from: usize) -> bool {
-    let marks: [u8; 37200] = [MARK; 37200];
+    let marks: [u8; 57300] = [MARK; 57300];
     same_bytes(
         between(out, from, out.len()),
         between(&marks, from, out.len()),

@@ -1,4 +1,4 @@
--- P1 to P12 of document 01: the check's own definition computes on their texts, and its answers are the table's. Assumes nothing.
+-- P1 to P12 of document 01, and C-13's cases: the check's own definition computes on their texts, and its answers are the tables'. Assumes nothing.
 use mathlib.Core.Path.{_≡_, refl}
 use mathlib.Core.Bool.{true}
 use Rattle.event.specs.Answer.{answer}
@@ -18,14 +18,20 @@ use Rattle.text.specs.Line.{saidIn}
 use Rattle.rules.specs.Verdict.{startAnswer, countAnswer, entryAnswer, sourceAnswer, targetAnswer, verdict}
 use Rattle.checker.specs.Check.{readingAnswer, verdictOf, checkOf}
 use Rattle.checker.specs.Line.{counted, nthLine, lineOf, faultSide, offending, offendingLine, standing}
-use Rattle.checker.specs.Cases.{table, all-hold}
+use Rattle.checker.specs.Cases.{table, counters, all-hold}
 
-pub P1-to-P12 : all-hold table ≡ true
+cases : (all-hold table ≡ true) × (all-hold counters ≡ true)
 unfolding checkOf readingAnswer verdictOf verdict startAnswer countAnswer entryAnswer sourceAnswer targetAnswer readOf surveyOf
     formOf faultOf textFault headFault linesFault saidIn startIn eventsOf eventFault uses recordOf eventRest initRest
     numberIf orderIf numberIn matchingRead matchingSurvey entriesOf
     entryOf keepRest goneRest numberOf digitsOn valueOn allDigits cut sameBytes stepped after latest lawful takes row
-P1-to-P12 = refl
+cases = (refl, refl)
+
+pub P1-to-P12 : all-hold table ≡ true
+P1-to-P12 = cases .0
+
+pub counters-hold : all-hold counters ≡ true
+counters-hold = cases .1
 
 -- The lines that the program prints for P10: of form 1, and of form 2 with its code line, against a target of form 1.
 pub P10-lines :

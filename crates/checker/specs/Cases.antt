@@ -1,4 +1,4 @@
--- Document 01, "Runs on the bench": the cases P1 to P12 as one table, each by its three texts. Assumes nothing.
+-- Document 01, "Runs on the bench": the cases P1 to P12 as one table, each by its three texts; and document 02, C-13. Assumes nothing.
 use mathlib.Core.Bool.{Bool, true, _&&_}
 use mathlib.Core.List.{List, [], _∷_}
 use Prim.Native.Nat.{ℕ}
@@ -36,6 +36,7 @@ abbrev pub all-hold : List Case → Bool
 all-hold [] = true
 all-hold (c ∷ cs) = holds c && all-hold cs
 
+-- P1 to P12.
 abbrev pub table : List Case
 table =
     -- P1
@@ -67,4 +68,30 @@ table =
     (answer 16 2 2)
     -- P12
     ∷ given "trace\t1\nstore\t1\t5\n" "trace\t1\nstore\t1\t5\nload\t1\t5\tused\n" "match\t1\nkeep\t1\n" done
+    ∷ []
+
+-- A trace for source and target, the matching that keeps its events, and the answer.
+abbrev pub kept : String → String → Answer → Case
+kept t m a = given t t m a
+
+-- C-13.
+abbrev pub counters : List Case
+counters =
+    -- document 01's case of 4294967296 now reads
+    kept "trace\t1\nstore\t1\t4294967296\n" "match\t1\nkeep\t1\n" done
+    -- the greatest value, and one more
+    ∷ kept "trace\t1\ninit\t1\t18446744073709551615\nload\t1\t18446744073709551615\tused\n" "match\t1\nkeep\t1\n" done
+    ∷ kept "trace\t1\nstore\t1\t18446744073709551616\n" "match\t1\nkeep\t1\n" (answer 2 1 2)
+    -- `add` wraps at 2^32, `add64` does not
+    ∷ kept "trace\t1\ninit\t3\t4294967295\nadd\t3\trlx\t4294967295\t2\naload\t3\trlx\t1\n" "match\t1\nkeep\t1\nkeep\t2\n" done
+    ∷ kept "trace\t1\ninit\t3\t4294967295\nadd64\t3\trlx\t4294967295\t2\naload\t3\trlx\t4294967297\n" "match\t1\nkeep\t1\nkeep\t2\n" done
+    -- `add64` wraps at 2^64
+    ∷ kept "trace\t1\ninit\t3\t18446744073709551615\nadd64\t3\trlx\t18446744073709551615\t2\naload\t3\trlx\t1\n"
+    "match\t1\nkeep\t1\nkeep\t2\n"
+    done
+    -- `add` wants old and operand below 2^32
+    ∷ kept "trace\t1\nadd\t3\trlx\t0\t4294967296\n" "match\t1\nkeep\t1\n" (answer 2 1 2)
+    ∷ kept "trace\t1\ninit\t3\t4294967296\nadd\t3\trlx\t4294967296\t1\n" "match\t1\nkeep\t1\n" (answer 2 1 3)
+    -- the old value is compared
+    ∷ kept "trace\t2\nadd64\t3\trlx\t4294967296\t1\t7\n" "match\t1\nkeep\t1\n" (answer 6 1 1)
     ∷ []

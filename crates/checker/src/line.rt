@@ -23,6 +23,7 @@ ghost use Rattle.text.specs.Line.{split};
 ghost use Rattle.trace.specs.Reading.{formOf};
 use event::Answer;
 use event::Number;
+use event::Word;
 use event::kind::is_in;
 use record::Record;
 use record::form::Form;
@@ -104,14 +105,14 @@ fn span_of(text: &[u8], only: bool, k: usize) -> Span
 fn is_at_a_line(number: Number) -> bool
     ensures { λ r. ⌜ r ≡ has number lineFaults ⌝ }
 {
-    is_in(number, &[2, 3, 4])
+    is_in(number as Word, &[2, 3, 4])
 }
 
 // Whether it is an event.
 fn is_at_an_event(number: Number) -> bool
     ensures { λ r. ⌜ r ≡ has number eventFaults ⌝ }
 {
-    is_in(number, &[5, 6, 10, 11, 12, 13, 14, 15, 16])
+    is_in(number as Word, &[5, 6, 10, 11, 12, 13, 14, 15, 16])
 }
 
 // The part of a text that an answer's number and place name.

@@ -1,4 +1,4 @@
--- Document 01, "Trace text": the fixed table of kinds, and which events are lawful. Assumes nothing.
+-- Document 01, "Trace text", and document 02, C-13: the fixed table of kinds, and which events are lawful. Assumes nothing.
 use Prim.Native.Nat.{ℕ, suc}
 use mathlib.Core.Bool.{Bool, true, false, _&&_, _||_, not}
 use mathlib.Core.List.{List, [], _∷_}
@@ -10,6 +10,8 @@ use Rattle.event.specs.declared.kind.Orders.{Orders}
 use Rattle.event.specs.declared.kind.Orders.the-variants.{Bare, Marks, Reads, Writes, Updates, Fences, NoKind}
 use Rattle.event.specs.declared.kind.Place.{Place}
 use Rattle.event.specs.declared.kind.Place.the-variants.{Location, Mutex, Nowhere}
+use Rattle.event.specs.declared.kind.Width.{Width}
+use Rattle.event.specs.declared.kind.Width.the-variants.{Bits32, Bits64}
 use Rattle.event.specs.declared.kind.Sets.{Sets}
 use Rattle.event.specs.declared.kind.Sets.the-variants.{Nothing, First, Second, Sum}
 
@@ -53,30 +55,45 @@ has n (m ∷ l) = eqb n m || has n l
 unfoldable pub takes : Orders → ℕ → Bool
 takes os o = has o (ordersOf os)
 
--- a kind that accesses a location: orders, how many values, whether it reads, what it sets, whether it synchronises
-abbrev pub accessRow : Orders → ℕ → Bool → Sets → Bool → Row
-accessRow o n r w s = record { orders = o; place = Location; values = n; reads = r; sets = w; sync = s }
+-- the bits of a width
+abbrev pub bitsOf : Width → ℕ
+bitsOf Bits32 = 32
+bitsOf Bits64 = 64
 
--- a kind that accesses none, and synchronises
+-- the greatest value of a width: 2^32 - 1, 2^64 - 1
+abbrev pub lastOf : Width → ℕ
+lastOf Bits32 = 4294967295
+lastOf Bits64 = 18446744073709551615
+
+-- the greatest value of all
+abbrev pub lastValue : ℕ
+lastValue = lastOf Bits64
+
+-- a kind that accesses a location: orders, how many values, how wide they are, whether it reads, what it sets, whether it synchronises
+abbrev pub accessRow : Orders → ℕ → Width → Bool → Sets → Bool → Row
+accessRow o n b r w s = record { orders = o; place = Location; values = n; width = b; reads = r; sets = w; sync = s }
+
+-- a kind that accesses none, and synchronises; it has no values, so that their width does not matter
 abbrev pub barrierRow : Orders → Place → Row
-barrierRow o p = record { orders = o; place = p; values = 0; reads = false; sets = Nothing; sync = true }
+barrierRow o p = record { orders = o; place = p; values = 0; width = Bits64; reads = false; sets = Nothing; sync = true }
 
 abbrev pub noKind : Row
-noKind = record { orders = NoKind; place = Nowhere; values = 0; reads = false; sets = Nothing; sync = false }
+noKind = record { orders = NoKind; place = Nowhere; values = 0; width = Bits64; reads = false; sets = Nothing; sync = false }
 
 -- the fixed table, by the kind's number
 abbrev pub rows : List Row
 rows =
     noKind
-    ∷ accessRow Marks 1 true Nothing false  -- 1 load
-    ∷ accessRow Bare 1 false First false  -- 2 store
-    ∷ accessRow Reads 1 true Nothing true  -- 3 aload
-    ∷ accessRow Writes 1 false First true  -- 4 astore
-    ∷ accessRow Updates 2 true Second true  -- 5 rmw
-    ∷ accessRow Updates 2 true Sum true  -- 6 add
+    ∷ accessRow Marks 1 Bits64 true Nothing false  -- 1 load
+    ∷ accessRow Bare 1 Bits64 false First false  -- 2 store
+    ∷ accessRow Reads 1 Bits64 true Nothing true  -- 3 aload
+    ∷ accessRow Writes 1 Bits64 false First true  -- 4 astore
+    ∷ accessRow Updates 2 Bits64 true Second true  -- 5 rmw
+    ∷ accessRow Updates 2 Bits32 true Sum true  -- 6 add
     ∷ barrierRow Fences Nowhere  -- 7 fence
     ∷ barrierRow Bare Mutex  -- 8 lock
     ∷ barrierRow Bare Mutex  -- 9 unlock
+    ∷ accessRow Updates 2 Bits64 true Sum true  -- 10 add64
     ∷ []
 
 unfoldable pub row : ℕ → Row
@@ -100,6 +117,10 @@ fitsPlace Nowhere n = eqb n 0
 abbrev pub fitsValues : ℕ → ℕ → ℕ → Bool
 fitsValues n a b = (leb 1 n || eqb a 0) && (leb 2 n || eqb b 0)
 
+-- both values are of a width
+abbrev pub inRange : Width → ℕ → ℕ → Bool
+inRange w a b = leb a (lastOf w) && leb b (lastOf w)
+
 -- the greatest code line
 abbrev pub lastCode : ℕ
 lastCode = 65535
@@ -109,13 +130,14 @@ abbrev pub made : ℕ → ℕ → ℕ → ℕ → ℕ → ℕ → Event
 made kind place order first second code =
     record { kind = kind; place = place; order = order; first = first; second = second; code = code }
 
--- an event of the layout: an order of its kind, a place in range, no value that its kind lacks, and a code line in range
+-- an event of the layout: an order of its kind, a place in range, no value that its kind lacks, values of its width, and a code line in range
 unfoldable pub lawful : Event → Bool
 lawful e =
     takes (row (e .kind) .orders) (e .order)
     && (fitsPlace (row (e .kind) .place) (e .place)
     && (fitsValues (row (e .kind) .values) (e .first) (e .second)
-    && leb (e .code) lastCode))
+    && (inRange (row (e .kind) .width) (e .first) (e .second)
+    && leb (e .code) lastCode)))
 
 abbrev pub isLocation : Place → Bool
 isLocation Location = true

@@ -1,10 +1,11 @@
--- Document 01, "Latest value": the memory takes one event at a time and hands back the memory after it. Assumes nothing.
+-- Document 01, "Latest value", and document 02, C-13: the memory takes one event at a time and hands back the memory after it. Assumes nothing.
 use Prim.Native.Nat.{ℕ, _+_, _%_, _^_}
 use mathlib.Core.Bool.{Bool, true, false, cond}
 use mathlib.Core.List.{List}
 use lib.Dec.{eqb}
 use lib.ListN.{getD, set, replicate}
-use Rattle.event.specs.Kind.{row, lawful}
+use Rattle.event.specs.Kind.{row, bitsOf, lawful}
+use Rattle.event.specs.declared.kind.Width.{Width}
 use Rattle.event.specs.declared.kind.Sets.{Sets}
 use Rattle.event.specs.declared.kind.Sets.the-variants.{Nothing, First, Second, Sum}
 use Rattle.event.specs.declared.Event.{Event}
@@ -19,17 +20,17 @@ empty = record { cells = replicate 256 0 }
 abbrev pub wrapSum : ℕ → ℕ → ℕ → ℕ
 wrapSum width a b = (a + b) % 2 ^ width
 
--- what is left in a cell that held `was`, by two values: `store` and `astore` set the first, `rmw` sets new, `add` old plus operand
--- modulo 2^32
-abbrev pub leaves : Sets → ℕ → ℕ → ℕ → ℕ
-leaves Nothing was first second = was
-leaves First was first second = first
-leaves Second was first second = second
-leaves Sum was first second = wrapSum 32 first second
+-- what is left in a cell that held `was`, by what is set, the width and the values: `store` and `astore` set the value, `rmw` sets new, `add` and
+-- `add64` set old plus operand as a counter of their width has it, modulo 2^32 and modulo 2^64
+abbrev pub leaves : Sets → Width → ℕ → ℕ → ℕ → ℕ
+leaves Nothing w was first second = was
+leaves First w was first second = first
+leaves Second w was first second = second
+leaves Sum w was first second = wrapSum (bitsOf w) first second
 
 -- what an event leaves in its cell
 abbrev pub left : ℕ → Event → ℕ
-left was e = leaves (row (e .kind) .sets) was (e .first) (e .second)
+left was e = leaves (row (e .kind) .sets) (row (e .kind) .width) was (e .first) (e .second)
 
 -- the cells after it
 unfoldable pub after : List ℕ → Event → List ℕ

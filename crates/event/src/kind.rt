@@ -1,7 +1,7 @@
-// The fixed table: a kind's number decides all that a kind is, its orders, its place, its values, whether it reads, what it sets and
-// whether it synchronises.
+// The fixed table: a kind's number decides all that a kind is, its orders, its place, its values and how wide they are, whether it reads, what
+// it sets and whether it synchronises.
 ghost use mathlib.Core.Path.{_≡_};
-ghost use Rattle.event.specs.Kind.{accessRow, barrierRow, noKind, row, has, takes, fitsPlace, fitsValues, made, lawful, isMarks, isLoadKind, isLocation, plain};
+ghost use Rattle.event.specs.Kind.{accessRow, barrierRow, noKind, row, has, takes, fitsPlace, fitsValues, lastOf, inRange, made, lawful, isMarks, isLoadKind, isLocation, plain};
 use crate::Event;
 use crate::Word;
 
@@ -30,6 +30,12 @@ pub enum Place {
     Nowhere,
 }
 
+// How wide a value is.
+pub enum Width {
+    Bits32,
+    Bits64,
+}
+
 // What an event sets its cell to.
 pub enum Sets {
     Nothing,
@@ -44,19 +50,21 @@ pub struct Row {
     pub orders: Orders,
     pub place: Place,
     pub values: Word,
+    pub width: Width,
     pub reads: bool,
     pub sets: Sets,
     pub sync: bool,
 }
 
 // A kind that accesses a location.
-fn access(orders: Orders, values: Word, reads: bool, sets: Sets, sync: bool) -> Row
-    ensures { λ r. ⌜ r ≡ accessRow orders values reads sets sync ⌝ }
+fn access(orders: Orders, values: Word, width: Width, reads: bool, sets: Sets, sync: bool) -> Row
+    ensures { λ r. ⌜ r ≡ accessRow orders values width reads sets sync ⌝ }
 {
     Row {
         orders,
         place: Place::Location,
         values,
+        width,
         reads,
         sets,
         sync,
@@ -71,6 +79,7 @@ fn barrier(orders: Orders, place: Place) -> Row
         orders,
         place,
         values: 0,
+        width: Width::Bits64,
         reads: false,
         sets: Sets::Nothing,
         sync: true,
@@ -84,6 +93,7 @@ fn no_kind() -> Row
         orders: Orders::NoKind,
         place: Place::Nowhere,
         values: 0,
+        width: Width::Bits64,
         reads: false,
         sets: Sets::Nothing,
         sync: false,
@@ -95,15 +105,16 @@ pub fn row_of(kind: Word) -> Row
     ensures { λ r. ⌜ r ≡ row kind ⌝ }
 {
     match kind {
-        1 => access(Orders::Marks, 1, true, Sets::Nothing, false),
-        2 => access(Orders::Bare, 1, false, Sets::First, false),
-        3 => access(Orders::Reads, 1, true, Sets::Nothing, true),
-        4 => access(Orders::Writes, 1, false, Sets::First, true),
-        5 => access(Orders::Updates, 2, true, Sets::Second, true),
-        6 => access(Orders::Updates, 2, true, Sets::Sum, true),
+        1 => access(Orders::Marks, 1, Width::Bits64, true, Sets::Nothing, false),
+        2 => access(Orders::Bare, 1, Width::Bits64, false, Sets::First, false),
+        3 => access(Orders::Reads, 1, Width::Bits64, true, Sets::Nothing, true),
+        4 => access(Orders::Writes, 1, Width::Bits64, false, Sets::First, true),
+        5 => access(Orders::Updates, 2, Width::Bits64, true, Sets::Second, true),
+        6 => access(Orders::Updates, 2, Width::Bits32, true, Sets::Sum, true),
         7 => barrier(Orders::Fences, Place::Nowhere),
         8 => barrier(Orders::Bare, Place::Mutex),
         9 => barrier(Orders::Bare, Place::Mutex),
+        10 => access(Orders::Updates, 2, Width::Bits64, true, Sets::Sum, true),
         _ => no_kind(),
     }
 }
@@ -125,6 +136,9 @@ const UNUSED: Word = 7;
 
 // The greatest location or mutex.
 pub const LAST_PLACE: Word = 255;
+
+// The greatest value of all.
+pub const LAST_VALUE: Word = 18446744073709551615;
 
 // The greatest code line.
 pub const LAST_CODE: Word = 65535;
@@ -179,6 +193,24 @@ fn fits_values(values: Word, first: Word, second: Word) -> bool
     }
 }
 
+// The greatest value of a width.
+fn last_of(width: Width) -> Word
+    ensures { λ r. ⌜ r ≡ lastOf width ⌝ }
+{
+    match width {
+        Width::Bits32 => 4294967295,
+        Width::Bits64 => LAST_VALUE,
+    }
+}
+
+// Whether both values are of a width.
+fn are_in_range(width: Width, first: Word, second: Word) -> bool
+    ensures { λ r. ⌜ r ≡ inRange width first second ⌝ }
+{
+    let last = last_of(width);
+    first <= last && second <= last
+}
+
 // Whether a place, an order, values and a code line are those of a kind.
 pub fn suits(kind: Word, place: Word, order: Word, first: Word, second: Word, code: Word) -> bool
     ensures { λ r. ⌜ r ≡ lawful (made kind place order first second code) ⌝ }
@@ -193,6 +225,10 @@ pub fn suits(kind: Word, place: Word, order: Word, first: Word, second: Word, co
         return false;
     }
     if !fits_values(row.values, first, second) {
+        return false;
+    }
+    let width = row.width;
+    if !are_in_range(width, first, second) {
         return false;
     }
     code <= LAST_CODE

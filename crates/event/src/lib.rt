@@ -6,8 +6,8 @@ pub mod room;
 ghost use mathlib.Core.Path.{_≡_};
 ghost use Rattle.event.specs.Answer.{answer};
 
-// A value and a word of an event. Its width is named here, in `memory::sum_32` and, by the greatest value, in the crate `record`.
-pub type Word = u32;
+// A value and a word of an event.
+pub type Word = u64;
 
 // A number that is no value: an answer's, a side's, a target event's.
 pub type Number = u32;

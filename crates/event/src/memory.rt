@@ -2,11 +2,13 @@
 ghost use mathlib.Core.Path.{_≡_};
 ghost use mathlib.Core.Bool.{cond, true};
 ghost use lib.Dec.{eqb};
+ghost use Rattle.event.specs.Kind.{bitsOf};
 ghost use Rattle.event.specs.Memory.{empty as emptyMemory, leaves, stepped, wrapSum};
 use crate::Event;
 use crate::Word;
 use crate::index_of;
 use crate::kind::Sets;
+use crate::kind::Width;
 use crate::kind::is_lawful;
 use crate::kind::row_of;
 
@@ -21,7 +23,7 @@ pub struct Stepped {
 }
 
 // The sum of two counters of 64 bits, as C11 atomic addition wraps.
-fn sum_64(a: u64, b: u64) -> u64
+fn sum_64(a: Word, b: Word) -> Word
     ensures { λ r. ⌜ r ≡ wrapSum 64 a b ⌝ }
 {
     std::num::wrapping_add_u64(a, b)
@@ -31,18 +33,28 @@ fn sum_64(a: u64, b: u64) -> u64
 fn sum_32(a: Word, b: Word) -> Word
     ensures { λ r. ⌜ r ≡ wrapSum 32 a b ⌝ }
 {
-    (sum_64(a as u64, b as u64) % 4294967296) as Word
+    sum_64(a, b) % 4294967296
 }
 
-// What is left in a cell that held `was`, by two values.
-fn left_by(sets: Sets, was: Word, first: Word, second: Word) -> Word
-    ensures { λ r. ⌜ r ≡ leaves sets was first second ⌝ }
+// The sum of two of a width.
+fn sum(width: Width, a: Word, b: Word) -> Word
+    ensures { λ r. ⌜ r ≡ wrapSum (bitsOf width) a b ⌝ }
+{
+    match width {
+        Width::Bits32 => sum_32(a, b),
+        Width::Bits64 => sum_64(a, b),
+    }
+}
+
+// What is left in a cell that held `was`, by two values of a width.
+fn left_by(sets: Sets, width: Width, was: Word, first: Word, second: Word) -> Word
+    ensures { λ r. ⌜ r ≡ leaves sets width was first second ⌝ }
 {
     match sets {
         Sets::Nothing => was,
         Sets::First => first,
         Sets::Second => second,
-        Sets::Sum => sum_32(first, second),
+        Sets::Sum => sum(width, first, second),
     }
 }
 
@@ -77,7 +89,8 @@ impl Memory {
         let row = row_of(e.kind);
         let right = is_latest(row.reads, e.first, was);
         let sets = row.sets;
-        let left = left_by(sets, was, e.first, e.second);
+        let width = row.width;
+        let left = left_by(sets, width, was, e.first, e.second);
         if left == was {
             return Stepped {
                 memory: self,

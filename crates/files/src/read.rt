@@ -4,10 +4,10 @@ ghost use lib.ListN.{length};
 ghost use Rattle.io.specs.Counts.{Counts};
 
 // One byte more than the longest text, a trace of form 2: a longer file is answer 1 whatever its size.
-pub fn text_buffer() -> [u8; 37201]
-    ensures { λ r. ⌜ 37201 ≡ length r ⌝ }
+pub fn text_buffer() -> [u8; 57301]
+    ensures { λ r. ⌜ 57301 ≡ length r ⌝ }
 {
-    [0; 37201]
+    [0; 57301]
 }
 
 // The bytes of a file.

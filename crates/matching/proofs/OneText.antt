@@ -11,7 +11,7 @@ use Rattle.laws.proofs.Cases.{cases, either, not-first}
 use Rattle.laws.specs.Each.{Each}
 use Rattle.laws.proofs.Lists.{Free}
 use Rattle.text.specs.Cut.{glue}
-use Rattle.text.specs.Line.{split, body, saidIn, textLimit}
+use Rattle.text.specs.Line.{split, body, saidIn}
 use Rattle.text.proofs.Decimals.{length-below}
 use Rattle.text.proofs.Parts.{cut-glue, glue-cut}
 use Rattle.text.proofs.Round.{decimal-no-lf}
@@ -19,7 +19,7 @@ use Rattle.text.proofs.Walk.{Some}
 use Rattle.frame.proofs.Heads.{framed, by-lines}
 use Rattle.frame.proofs.Lines.{lines-pass}
 use Rattle.matching.specs.Entry.{header, entryOf, entryLine, lastNumber}
-use Rattle.matching.specs.Reading.{matchingLayout, entryFault, entriesIn, readAs, surveyOf, entriesOf, entryLimit}
+use Rattle.matching.specs.Reading.{matchingLimit, matchingLayout, entryFault, entriesIn, readAs, surveyOf, entriesOf, entryLimit}
 use Rattle.matching.specs.Survey.{surveyLines}
 use Rattle.matching.specs.Text.{matchText, Fits}
 use Rattle.matching.specs.declared.entry.EntryRead.{EntryRead}
@@ -112,7 +112,7 @@ header-free = (
 pub text-read : (es : List ℕ) → Fits es → (surveyOf (matchText es) ≡ readAs (length es)) × (entriesOf (matchText es) ≡ es)
 unfolding surveyOf entriesOf
 text-read es f =
-    let short : length (matchText es) ≤ textLimit = omega (arith, tail-length header es (f .numbers), f .few) in
+    let short : length (matchText es) ≤ matchingLimit = omega (arith, tail-length header es (f .numbers), f .few) in
     let q : split (matchText es) ≡ header ∷ tail es = cut-glue 10 header (tail es) (header-free, tail-free es) in
     let z : 0 + length es ≡ length es = omega arith in
     let l = tail-lines 0 es (omega (arith, f .few)) (f .numbers) in (

@@ -6,12 +6,16 @@ use lib.Dec.{eqb, leb}
 use lib.ListN.{length, drop}
 use Rattle.event.specs.Answer.{done}
 use Rattle.event.specs.declared.Answer.{Answer}
-use Rattle.text.specs.Line.{split, body, saidIn, textLimit}
+use Rattle.text.specs.Line.{split, body, saidIn}
 use Rattle.frame.specs.Reading.{Layout, textFault, settle, fitted}
 use Rattle.matching.specs.Entry.{header, entryOf}
 use Rattle.matching.specs.declared.entry.EntryRead.{EntryRead}
 use Rattle.matching.specs.declared.entry.EntryRead.the-variants.{Entry, Refused}
 use Rattle.matching.specs.declared.MatchingRead.{MatchingRead}
+
+-- The most bytes.
+abbrev pub matchingLimit : ℕ
+matchingLimit = 32400
 
 -- The most entries.
 abbrev pub entryLimit : ℕ
@@ -24,7 +28,7 @@ entryFault n (Entry e) = cond (leb entryLimit n) 3 0
 
 -- The layout of a matching: what is known is the number of entries so far.
 abbrev pub matchingLayout : Layout ℕ
-matchingLayout = record { limit = textLimit; header = header; start = 0; fault = λ n l. entryFault n (entryOf l); next = λ n l. n + 1 }
+matchingLayout = record { limit = matchingLimit; header = header; start = 0; fault = λ n l. entryFault n (entryOf l); next = λ n l. n + 1 }
 
 -- The entries of a text: those of the lines after line 1.
 abbrev pub entriesOn : EntryRead → List ℕ

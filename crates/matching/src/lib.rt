@@ -16,10 +16,12 @@ use event::Entry;
 use event::Number;
 use frame::head_fault;
 use text::line::LineStep;
-use text::line::TEXT_LIMIT;
 use text::line::line_end;
 use text::line::line_two;
 use text::line::next_line;
+
+// The most bytes.
+const MATCHING_LIMIT: usize = 32400;
 
 // The most entries.
 pub const ENTRY_LIMIT: usize = 800;
@@ -70,7 +72,7 @@ fn survey_lines(text: &[u8], from: usize) -> MatchingRead
 fn survey(text: &[u8]) -> MatchingRead
     ensures { λ r. ⌜ r ≡ surveyOf (now (text .entry)) ⌝ }
 {
-    let found = head_fault(text, 3, TEXT_LIMIT, b"match\t1");
+    let found = head_fault(text, 3, MATCHING_LIMIT, b"match\t1");
     if found.number != 0 {
         return refusal(found);
     }

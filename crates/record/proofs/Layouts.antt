@@ -9,9 +9,9 @@ use lib.Dec.{eqb}
 use lib.ListN.{length}
 use borrow.Author.Tests.{eqb-true, eqb-false, ne-eqb, not-false}
 use Rattle.laws.proofs.Lists.{Each, Free}
-use Rattle.event.specs.Kind.{lawful, lastPlace, lastCode, made}
+use Rattle.event.specs.Kind.{lawful, lastPlace, lastValue, lastCode, made}
 use Rattle.event.specs.declared.Event.{Event}
-use Rattle.event.proofs.Lawful.{code-of}
+use Rattle.event.proofs.Lawful.{first-of, second-of, code-of}
 use Rattle.text.specs.Field.{fields, onField, onEnd}
 use Rattle.text.specs.Number.{decimal, numberOf, onNumber}
 use Rattle.text.specs.Word.{sameBytes}
@@ -24,7 +24,7 @@ use Rattle.text.proofs.Words.{same-eq, same-self}
 use Rattle.record.specs.Form.{coded, loses}
 use Rattle.record.specs.Layout.{kindWords, orderWords, initWord, wordAt, kindOf, orderOf, shapeOf, parts, fieldIf, there}
 use Rattle.record.specs.Layout.{eventFields, eventLine, initLine}
-use Rattle.record.specs.Record.{Fit, eventRest, initRest, lastValue, lawfulLine, numberIf, orderIf, recordOf}
+use Rattle.record.specs.Record.{Fit, eventRest, initRest, lawfulLine, numberIf, orderIf, recordOf}
 use Rattle.record.specs.declared.form.Form.{Form}
 use Rattle.record.specs.declared.form.Form.the-variants.{One, Two}
 use Rattle.record.specs.declared.shape.Shape.{Shape}
@@ -89,8 +89,8 @@ rest-read f e i =
     let o = stand-order (s .stands) in
     number-field _ lastPlace (e .place) _ _ (s .place) (s .no-place)
     ∙ order-field _ 0 (e .order) _ _ (o .1)
-    ∙ number-field _ lastValue (e .first) _ _ (i .first) (s .no-first)
-    ∙ number-field _ lastValue (e .second) _ _ (i .second) (s .no-second)
+    ∙ number-field _ lastValue (e .first) _ _ (first-of e (i .law)) (s .no-first)
+    ∙ number-field _ lastValue (e .second) _ _ (second-of e (i .law)) (s .no-second)
     ∙ order-field _ _ (e .order) _ _ (o .1)
     ∙ number-field _ lastCode (e .code) _ _ (code-of e (i .law)) (no-code f (e .code) (i .kept))
     ∙ lawful-is e _ (o .0) (i .law)
@@ -150,8 +150,8 @@ event-says f w fs =
     let P : Record → Type 0 = Says f (w ∷ fs) in
     on-number P tt (s .place) lastPlace fs _ (λ place fs₁ _ _ q₁.
     on-order P tt (s .order) 0 fs₁ _ (λ x fs₂ q₂.
-    on-number P tt (s .first) lastValue fs₂ _ (λ a fs₃ p _ q₃.
-    on-number P tt (s .second) lastValue fs₃ _ (λ b fs₄ q _ q₄.
+    on-number P tt (s .first) lastValue fs₂ _ (λ a fs₃ _ _ q₃.
+    on-number P tt (s .second) lastValue fs₃ _ (λ b fs₄ _ _ q₄.
     on-order P tt (s .mark) _ fs₄ _ (λ y fs₅ q₅.
     on-number P tt (s .code) lastCode fs₅ _ (λ c fs₆ _ z q₆.
     on-end P tt fs₆ _ (λ q₇.
@@ -161,7 +161,7 @@ event-says f w fs =
     let t : Shaped s e = shaped f e h in
     let i : wordAt kindWords k ≡ w = word-of kindWords w (t .some) in
     let d = stand-words (t .stands) x y refl (fieldIf (s .first) (decimal a) fs₃) (fieldIf (s .code) (decimal c) fs₆) in
-    (rw (q₁, q₂, q₃, d .0, q₄, q₅, q₆, d .1, q₇, i), record { law = h; first = p; second = q; kept = none-lost f c z }))
+    (rw (q₁, q₂, q₃, d .0, q₄, q₅, q₆, d .1, q₇, i), record { law = h; kept = none-lost f c z }))
     (λ _. tt))))))))
 
 init-says : (f : Form) (w : List ℕ) (fs : List (List ℕ)) → w ≡ initWord → Says f (w ∷ fs) (initRest fs)

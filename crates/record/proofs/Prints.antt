@@ -1,4 +1,4 @@
--- A line that is the print of a record has no LF, and it is short: the longest is an `rmw` or an `add` with every field full. Assumes nothing.
+-- A line that is the print of a record has no LF, and it is short: the longest is an `add64` with every field full. Assumes nothing.
 use Prim.Native.Nat.{ℕ, zero, suc, _+_, _/_, _^_, _≤_, _<_}
 use mathlib.Core.Path.{_≡_, refl}
 use mathlib.Core.Bool.{Bool, true, false, cond}
@@ -9,15 +9,15 @@ use lib.Dec.{leb}
 use lib.ListN.{length, length-append}
 use borrow.Author.Tests.{leb-true}
 use Rattle.laws.proofs.Lists.{Each, Free, each-append}
-use Rattle.event.specs.Kind.{row, rlx, lastPlace, lastCode, made}
+use Rattle.event.specs.Kind.{row, rlx, lastPlace, lastValue, lastCode, made}
 use Rattle.event.specs.declared.Event.{Event}
-use Rattle.event.proofs.Lawful.{code-of}
+use Rattle.event.proofs.Lawful.{first-of, second-of, code-of}
 use Rattle.text.specs.Cut.{glue}
 use Rattle.text.specs.Number.{decimal}
 use Rattle.text.proofs.Decimals.{length-some, length-more, length-below}
 use Rattle.record.specs.Form.{coded}
 use Rattle.record.specs.Layout.{kindWords, initWord, wordAt, shapeOf, parts, there, eventFields, eventLine, initLine}
-use Rattle.record.specs.Record.{Fit, lastValue, longestEvent, longestInit}
+use Rattle.record.specs.Record.{Fit, longestEvent, longestInit}
 use Rattle.record.specs.declared.form.Form.{Form}
 use Rattle.record.specs.declared.form.Form.the-variants.{One, Two}
 use Rattle.record.proofs.Tables.{upTo, each-to}
@@ -53,7 +53,7 @@ abbrev placeMost : ℕ
 placeMost = 3
 
 abbrev valueMost : ℕ
-valueMost = 10
+valueMost = 20
 
 abbrev codeMost : ℕ
 codeMost = 5
@@ -62,7 +62,7 @@ place-length : (n : ℕ) → n ≤ lastPlace → length (decimal n) ≤ placeMos
 place-length n h = length-below 2 n (omega arith)
 
 value-length : (n : ℕ) → n ≤ lastValue → length (decimal n) ≤ valueMost
-value-length n h = length-below 9 n (omega arith)
+value-length n h = length-below 19 n (omega arith)
 
 code-length : (n : ℕ) → n ≤ lastCode → length (decimal n) ≤ codeMost
 code-length n h = length-below 4 n (omega arith)
@@ -112,8 +112,8 @@ event-length f e i =
       (
         o .0,
         (
-          (λ _. value-length (e .first) (i .first)),
-          ((λ _. value-length (e .second) (i .second)), ((λ _. o .1), ((λ _. code-length (e .code) (code-of e (i .law))), tt))),
+          (λ _. value-length (e .first) (first-of e (i .law))),
+          ((λ _. value-length (e .second) (second-of e (i .law))), ((λ _. o .1), ((λ _. code-length (e .code) (code-of e (i .law))), tt))),
         ),
       ),
     ) in
@@ -138,18 +138,18 @@ digits : full lastPlace placeMost × (full lastValue valueMost × full lastCode 
 digits = (
   (omega (arith, place-length lastPlace (omega arith), least 2 lastPlace (omega arith))),
   (
-    (omega (arith, value-length lastValue (omega arith), least 9 lastValue (omega arith))),
+    (omega (arith, value-length lastValue (omega arith), least 19 lastValue (omega arith))),
     (omega (arith, code-length lastCode (omega arith), least 4 lastCode (omega arith))),
   ),
 )
 
 abbrev longest : Form → Event
-longest f = made 5 lastPlace rlx lastValue lastValue (cond (coded f) lastCode 0)
+longest f = made 10 lastPlace rlx lastValue lastValue (cond (coded f) lastCode 0)
 
 pub event-longest : (f : Form) → length (eventLine f (longest f)) ≡ longestEvent f
 unfolding eventLine eventFields row
-event-longest One = omega (arith, glue-size 9 (wordAt kindWords 5) (there (parts (shapeOf One 5) (longest One))), digits)
-event-longest Two = omega (arith, glue-size 9 (wordAt kindWords 5) (there (parts (shapeOf Two 5) (longest Two))), digits)
+event-longest One = omega (arith, glue-size 9 (wordAt kindWords 10) (there (parts (shapeOf One 10) (longest One))), digits)
+event-longest Two = omega (arith, glue-size 9 (wordAt kindWords 10) (there (parts (shapeOf Two 10) (longest Two))), digits)
 
 pub init-longest : length (initLine lastPlace lastValue) ≡ longestInit
 unfolding initLine

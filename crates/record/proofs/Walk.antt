@@ -7,7 +7,7 @@ use mathlib.Core.List.{List}
 use native.Mathlib.Omega.{arith}
 use lib.Dec.{eqb}
 use lib.ListN.{length, take, drop}
-use Rattle.event.specs.Kind.{lastPlace}
+use Rattle.event.specs.Kind.{lastPlace, lastValue}
 use Rattle.text.specs.Field.{fieldAt, fieldsFrom, onEnd}
 use Rattle.text.specs.Number.{numberOf, onNumber}
 use Rattle.text.specs.Take.{onRead}
@@ -17,7 +17,7 @@ use Rattle.text.specs.declared.number.NumberRead.{NumberRead}
 use Rattle.text.specs.declared.number.NumberRead.the-variants.{Value, Malformed}
 use Rattle.text.proofs.Fields.{field-in, field-step, line-end}
 use Rattle.record.specs.Part.{Within, behind, onTaken, onPart, fieldPart, initOf}
-use Rattle.record.specs.Record.{lastValue, numberIf, initRest}
+use Rattle.record.specs.Record.{numberIf, initRest}
 use Rattle.record.specs.declared.part.Part.{Part}
 use Rattle.record.specs.declared.part.Part.the-variants.{Given}
 use Rattle.record.specs.declared.Record.{Record}

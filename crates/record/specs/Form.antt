@@ -1,9 +1,8 @@
--- Document 02, C-11: the two forms of a trace text. Assumes nothing.
+-- Document 02, C-11 and C-13: the two forms of a trace text. Assumes nothing.
 use Prim.Native.Nat.{ℕ}
 use mathlib.Core.Bool.{Bool, true, false, not}
 use mathlib.Core.List.{List}
 use lib.Dec.{eqb}
-use Rattle.text.specs.Line.{textLimit}
 use Rattle.text.specs.Word.{bytes}
 use Rattle.record.specs.declared.form.Form.{Form}
 use Rattle.record.specs.declared.form.Form.the-variants.{One, Two}
@@ -15,8 +14,8 @@ header Two = bytes "trace\t2"
 
 -- The most bytes.
 abbrev pub limitOf : Form → ℕ
-limitOf One = textLimit
-limitOf Two = 37200
+limitOf One = 52500
+limitOf Two = 57300
 
 -- Whether an event's line ends with a code line.
 abbrev pub coded : Form → Bool

@@ -5,7 +5,7 @@ use mathlib.Core.Bool.{Bool, true, false, cond}
 use mathlib.Core.List.{List}
 use lib.Dec.{eqb}
 use lib.ListN.{length, take, drop}
-use Rattle.event.specs.Kind.{lastPlace}
+use Rattle.event.specs.Kind.{lastPlace, lastValue}
 use Rattle.text.specs.Field.{fieldAt, fieldsFrom, onEnd}
 use Rattle.text.specs.Take.{onStep}
 use Rattle.text.specs.declared.field.FieldStep.{FieldStep}
@@ -13,7 +13,6 @@ use Rattle.text.specs.declared.field.FieldStep.the-variants.{Field, LineEnd}
 use Rattle.text.specs.declared.take.Taken.{Taken}
 use Rattle.text.specs.declared.take.Taken.the-variants.{Number, Bad as NoNumber}
 use Rattle.record.specs.Layout.{orderOf}
-use Rattle.record.specs.Record.{lastValue}
 use Rattle.record.specs.declared.Record.{Record}
 use Rattle.record.specs.declared.Record.the-variants.{Init, Refused}
 use Rattle.record.specs.declared.part.Part.{Part}

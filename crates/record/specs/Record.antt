@@ -1,10 +1,10 @@
--- Document 01, "Trace text", and document 02, C-11: what a line is, read field by field. Assumes nothing.
-use Prim.Native.Nat.{ℕ, _≤_}
+-- Document 01, "Trace text", and document 02, C-11 and C-13: what a line is, read field by field. Assumes nothing.
+use Prim.Native.Nat.{ℕ}
 use mathlib.Core.Bool.{Bool, true, false, cond}
 use mathlib.Core.List.{List}
 use mathlib.Core.Path.{_≡_}
 use lib.Dec.{eqb}
-use Rattle.event.specs.Kind.{lastPlace, lastCode, made, lawful}
+use Rattle.event.specs.Kind.{lastPlace, lastValue, lastCode, made, lawful}
 use Rattle.event.specs.declared.Event.{Event}
 use Rattle.text.specs.Field.{fields, onField, onEnd}
 use Rattle.text.specs.Number.{numberOf, onNumber}
@@ -16,24 +16,18 @@ use Rattle.record.specs.declared.form.Form.the-variants.{One, Two}
 use Rattle.record.specs.declared.Record.{Record}
 use Rattle.record.specs.declared.Record.the-variants.{Init, AnEvent, Refused}
 
--- The greatest value.
-abbrev pub lastValue : ℕ
-lastValue = 4294967295
-
--- An event that has a line in a form: lawful, with values in range, and without a code line that would be lost.
+-- An event that has a line in a form: lawful, and without a code line that would be lost.
 pub record Fit (f : Form) (e : Event) : Type 0 where
   pub law : lawful e ≡ true
-  pub first : e .first ≤ lastValue
-  pub second : e .second ≤ lastValue
   pub kept : loses f (e .code) ≡ false
 
 -- The longest event line and the longest `init` line, without their LF.
 abbrev pub longestEvent : Form → ℕ
-longestEvent One = 33
-longestEvent Two = 39
+longestEvent One = 55
+longestEvent Two = 61
 
 abbrev pub longestInit : ℕ
-longestInit = 19
+longestInit = 29
 
 -- A number field that is there or not; where it is not, the number is 0.
 unfoldable pub numberIf : Bool → ℕ → List (List ℕ) → (ℕ → List (List ℕ) → Record) → Record

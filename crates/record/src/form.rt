@@ -2,15 +2,16 @@
 ghost use mathlib.Core.Path.{_≡_};
 ghost use Rattle.record.specs.Form.{coded, limitOf, loses};
 use event::Word;
-use text::line::TEXT_LIMIT;
 
 pub enum Form {
     One,
     Two,
 }
 
-// The most bytes of a text of form 2.
-pub const CODED_LIMIT: usize = 37200;
+// The most bytes of a text of form 1, and of form 2.
+pub const PLAIN_LIMIT: usize = 52500;
+
+pub const CODED_LIMIT: usize = 57300;
 
 // Whether an event's line ends with a code line.
 pub fn is_coded(form: Form) -> bool
@@ -37,7 +38,7 @@ pub fn limit_of(form: Form) -> usize
     ensures { λ r. ⌜ r ≡ limitOf form ⌝ }
 {
     match form {
-        Form::One => TEXT_LIMIT,
+        Form::One => PLAIN_LIMIT,
         Form::Two => CODED_LIMIT,
     }
 }

@@ -12,6 +12,7 @@ use event::Event;
 use event::Word;
 use event::kind::LAST_CODE;
 use event::kind::LAST_PLACE;
+use event::kind::LAST_VALUE;
 use event::kind::suits;
 use form::Form;
 use part::Part;
@@ -28,9 +29,6 @@ use text::reader::next;
 use text::take::ends_at;
 use text::word::same_bytes;
 use word::kind_of;
-
-// The greatest value.
-pub const LAST_VALUE: Word = 4294967295;
 
 // A line as it was read.
 pub enum Record {

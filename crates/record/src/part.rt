@@ -52,11 +52,11 @@ pub(crate) fn number_of_field(line: &[u8], field: FieldStep, max: Word) -> Part
     let FieldStep::Field { from, to } = field else {
         return Part::Bad;
     };
-    let NumberRead::Value(value) = number_of(&line[from..to], max as u64) else {
+    let NumberRead::Value(value) = number_of(&line[from..to], max) else {
         return Part::Bad;
     };
     Part::Given {
-        value: value as Word,
+        value,
         next: to + 1,
     }
 }

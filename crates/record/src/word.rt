@@ -12,7 +12,7 @@ use text::word::same_bytes;
 pub const ROW: usize = 8;
 
 // The words of the kinds.
-pub const KIND_WORDS: [[u8; ROW]; 10] = [
+pub const KIND_WORDS: [[u8; ROW]; 11] = [
     *b"\x00       ",
     *b"\x04load   ",
     *b"\x05store  ",
@@ -23,6 +23,7 @@ pub const KIND_WORDS: [[u8; ROW]; 10] = [
     *b"\x05fence  ",
     *b"\x04lock   ",
     *b"\x06unlock ",
+    *b"\x05add64  ",
 ];
 
 // The words of the orders and marks.

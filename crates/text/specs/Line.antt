@@ -8,10 +8,6 @@ use Rattle.text.specs.Cut.{until, cut, cutFrom, glue}
 use Rattle.text.specs.declared.line.LineStep.{LineStep}
 use Rattle.text.specs.declared.line.LineStep.the-variants.{Line, TextEnd}
 
--- The longest text.
-abbrev pub textLimit : ℕ
-textLimit = 32400
-
 -- How many bytes come before the first LF, or the end.
 abbrev pub lineLen : List ℕ → ℕ
 lineLen t = until 10 t

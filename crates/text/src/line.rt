@@ -5,9 +5,6 @@ ghost use lib.ListN.{drop};
 ghost use Rattle.text.specs.Line.{lineLen, lineAt};
 use super::scan::find;
 
-// The longest text.
-pub const TEXT_LIMIT: usize = 32400;
-
 // The byte that ends a line.
 pub const LF: u8 = 10;
 

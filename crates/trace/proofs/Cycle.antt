@@ -22,7 +22,7 @@ use Rattle.event.specs.declared.memory.Memory.{Memory}
 use Rattle.event.proofs.Rooms.{flat-length, onward-flat}
 use Rattle.frame.proofs.Settled.{first-done}
 use Rattle.record.specs.Form.{loses}
-use Rattle.record.specs.Record.{Fit, lastValue}
+use Rattle.record.specs.Record.{Fit}
 use Rattle.record.specs.declared.form.Form.{Form}
 use Rattle.trace.specs.Fault.{eventFault}
 use Rattle.trace.specs.Reading.{formOf, eventLimit, readAs, surveyOf, eventsOf, roomAfter}
@@ -50,15 +50,9 @@ layout-done f k es h = bad-done _ 18 0 k es (each-imp (Fit f) (λ e. not (lawful
 pub lost-done : (f : Form) (side k : ℕ) (es : List Event) → Each (Fit f) es → lost f side k es ≡ done
 lost-done f side k es h = bad-done _ 19 side k es (each-imp (Fit f) (λ e. loses f (e .code) ≡ false) (λ e i. i .kept) es h)
 
--- each word of a room whose words are in range
-held-at : (l : List ℕ) (i : ℕ) → Valued l → getD l i 0 ≤ lastValue
-held-at [] i h = omega arith
-held-at (a ∷ l) zero h = h .0
-held-at (a ∷ l) (suc i) h = held-at l i (h .1)
-
 -- Document 01, "Lent room": "The writer is handed a starting memory, whose cells hold lawful values, and a part of a room". What it then writes
 -- is read back, whatever the side, as that memory and the events of that part.
-module _ (f : Form) (m : Memory) (room out : List ℕ) (size : length (m .cells) ≡ places) (values : Valued (m .cells)) (held : Valued room)
+module _ (f : Form) (m : Memory) (room out : List ℕ) (size : length (m .cells) ≡ places) (values : Valued (m .cells))
     (h : writeOf f m room out .number ≡ 0) where
   no-refusals : (roomFault m room .number ≡ 0) × (lost f 0 1 (roomEvents room) .number ≡ 0)
   unfolding writeOf writeFault
@@ -73,7 +67,7 @@ module _ (f : Form) (m : Memory) (room out : List ℕ) (size : length (m .cells)
       (ltb-false eventLimit (countOf room) (c .0), first-done (layoutFault 1 (roomEvents room)) (eventFault 0 1 m [] (roomEvents room)) (c .1))
 
   written-fits : Fits f m (roomEvents room)
-  written-fits = room-fits room (λ k. held-at room k held) f m (countOf room) size values (no-fault .0) (no-fault .1 .0) (no-refusals .1)
+  written-fits = room-fits room f m (countOf room) size values (no-fault .0) (no-fault .1 .0) (no-refusals .1)
 
   pub room-written : (side : ℕ) → (surveyOf side (traceText f m (roomEvents room)) ≡ readAs (countOf room) m)
       × (eventsOf (traceText f m (roomEvents room)) ≡ roomEvents room)

@@ -78,8 +78,7 @@ refit : (f to : Form) (side k : ℕ) (es : List Event) → Each (Fit f) es → l
 refit f to side k [] h n = tt
 refit f to side k (e ∷ es) h n =
     let l = bad-none (λ x. loses to (x .code)) 19 side k e es (λ z. omega arith) n in
-    let i = h .0 in
-    (record { law = i .law; first = i .first; second = i .second; kept = l .0 }, refit f to side (k + 1) es (h .1) (l .1))
+    (record { law = h .0 .law; kept = l .0 }, refit f to side (k + 1) es (h .1) (l .1))
 
 -- a form that is not this one is the other
 not-this : (f to : Form) → (f ≡ to → ⊥) → f ≡ other to

@@ -53,8 +53,8 @@ module _ (f : Form) where
       → ls ≡ initLines 0 (startFrom f empty ls .cells) ++ tail f (eventsIn f ls)
   lines-printed side ls s h = let p = printed f side 2 ls s h in rw (p .start) (p .lines)
 
-  -- Document 01, "Trace text": "The longest lawful trace text is under 32,400 bytes." So it is for every text that has no line at
-  -- fault, whatever its length is held to and whatever its values are.
+  -- Document 02, C-13: the longest lawful trace text is under its form's limit. So it is for every text that has no line at fault, whatever its
+  -- length is held to and whatever its values are.
   pub layout-length : (side : ℕ) (t l : List ℕ) (ls : List (List ℕ)) → split t ≡ header f ∷ l ∷ ls
       → linesFault (traceLayout f) side 2 (traceLayout f .start) (l ∷ ls) .number ≡ 0 → length t ≤ longestText f
   layout-length side t l ls p h =
@@ -101,6 +101,6 @@ pub one-text : (side side′ : ℕ) (t u : List ℕ) → surveyOf side t .answer
     → formOf t ≡ formOf u → surveyOf side t .memory ≡ surveyOf side′ u .memory → eventsOf t ≡ eventsOf u → t ≡ u
 one-text side side′ t u h k f p q = sym (written-read side t h) ∙ rw (f, p, q) (written-read side′ u k)
 
--- Document 01, "Trace text": "The longest lawful trace text is under 32,400 bytes." So it is for every text that is read without refusal.
+-- And so it is for every text that is read without refusal.
 pub lawful-length : (side : ℕ) (t : List ℕ) → surveyOf side t .answer .number ≡ 0 → length t ≤ longestText (formOf t)
 lawful-length side t h = rw (written-read side t h) at (text-length (formOf t) (surveyOf side t .memory) (eventsOf t) (text-whole side t h .fits))

@@ -1,5 +1,5 @@
--- The text of a trace that has one is short, as no line of it is long. The events of a room that is not refused have a text, as its words are in
--- range. Assumes nothing.
+-- The text of a trace that has one is short, as no line of it is long. The events of a room that is not refused have a text.
+-- Assumes nothing.
 use Prim.Native.Nat.{ℕ, zero, suc, _+_, _*_, _≤_, _<_}
 use mathlib.Core.Bool.{not}
 use mathlib.Core.Path.{_≡_, refl, ap}
@@ -17,7 +17,7 @@ use Rattle.event.specs.declared.Event.{Event}
 use Rattle.event.specs.declared.memory.Memory.{Memory}
 use Rattle.record.specs.Form.{header, limitOf, loses}
 use Rattle.record.specs.Layout.{eventLine, initLine}
-use Rattle.record.specs.Record.{Fit, lastValue, longestEvent, longestInit}
+use Rattle.record.specs.Record.{Fit, longestEvent, longestInit}
 use Rattle.record.proofs.Prints.{event-length, init-length}
 use Rattle.record.specs.declared.form.Form.{Form}
 use Rattle.record.specs.declared.form.Form.the-variants.{One, Two}
@@ -51,7 +51,7 @@ text-length f m es i =
     let c = mul-le-mul-right (suc (longestEvent f)) (i .few) in
     omega (arith, length-append (header f) (10 ∷ textOf (initLines 0 (m .cells) ++ map (eventLine f) es)))
 
--- Document 01, "Trace text": "The longest lawful trace text is under 32,400 bytes"; and document 02, C-11: under 37,200 in form 2.
+-- Document 02, C-13: under 52,500 bytes in form 1 and under 57,300 in form 2.
 pub longest-short : (f : Form) → longestText f < limitOf f
 longest-short One = omega arith
 longest-short Two = omega arith
@@ -67,11 +67,7 @@ unfolding onward
 onward-length room i zero = refl
 onward-length room i (suc n) = ap suc (onward-length room (i + 1) n)
 
-module _ (room : List ℕ) (held : (k : ℕ) → getD room k 0 ≤ lastValue) where
-  pub values-in : (i : ℕ) → (eventAt room i .first ≤ lastValue) × (eventAt room i .second ≤ lastValue)
-  unfolding eventAt
-  values-in i = cases (either (inRoom room i)) (λ y. rw y (held (i * 6 + 3), held (i * 6 + 4))) (λ y. rw y (omega arith, omega arith))
-
+module _ (room : List ℕ) where
   events-fit : (f : Form) (k l i n : ℕ) → layoutFault k (onward room i n) .number ≡ 0 → lost f 0 l (onward room i n) .number ≡ 0
       → Each (Fit f) (onward room i n)
   unfolding onward
@@ -79,8 +75,7 @@ module _ (room : List ℕ) (held : (k : ℕ) → getD room k 0 ≤ lastValue) wh
   events-fit f k l i (suc n) h g =
       let a = bad-none (λ e. not (lawful e)) 18 0 k (eventAt room i) (onward room (i + 1) n) (λ z. omega arith) h in
       let b = bad-none (λ e. loses f (e .code)) 19 0 l (eventAt room i) (onward room (i + 1) n) (λ z. omega arith) g in
-      let v = values-in i in
-      (record { law = not-false _ (a .0); first = v .0; second = v .1; kept = b .0 }, events-fit f (k + 1) (l + 1) (i + 1) n (a .1) (b .1))
+      (record { law = not-false _ (a .0); kept = b .0 }, events-fit f (k + 1) (l + 1) (i + 1) n (a .1) (b .1))
 
   pub room-fits : (f : Form) (m : Memory) (n : ℕ) → length (m .cells) ≡ places → Valued (m .cells) → n ≤ eventLimit
       → layoutFault 1 (onward room 0 n) .number ≡ 0 → lost f 0 1 (onward room 0 n) .number ≡ 0 → Fits f m (onward room 0 n)

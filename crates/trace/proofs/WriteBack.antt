@@ -10,12 +10,13 @@ use lib.Seq.{append-snoc, set-at}
 use borrow.Author.Tests.{ne-eqb, leb-false, ltb-false}
 use Rattle.laws.proofs.Cases.{not-first}
 use Rattle.laws.specs.Each.{Each}
+use Rattle.event.specs.Kind.{lastValue}
 use Rattle.event.specs.declared.Event.{Event}
 use Rattle.text.specs.Line.{saidIn}
 use Rattle.text.proofs.Walk.{Some}
 use Rattle.frame.specs.Reading.{linesFault}
 use Rattle.frame.proofs.Lines.{lines-pass}
-use Rattle.record.specs.Record.{Fit, recordOf, lastValue}
+use Rattle.record.specs.Record.{Fit, recordOf}
 use Rattle.record.specs.declared.Record.{Record}
 use Rattle.record.specs.declared.Record.the-variants.{Init, AnEvent, Refused}
 use Rattle.record.proofs.Layouts.{line-says, init-back}

@@ -5,11 +5,11 @@ use mathlib.Core.List.{List}
 use mathlib.Core.Path.{_≡_}
 use lib.ListN.{length}
 use Rattle.laws.specs.Each.{Each}
-use Rattle.event.specs.Kind.{lastPlace}
+use Rattle.event.specs.Kind.{lastPlace, lastValue}
 use Rattle.event.specs.declared.Event.{Event}
 use Rattle.event.specs.declared.memory.Memory.{Memory}
 use Rattle.record.specs.Form.{header}
-use Rattle.record.specs.Record.{Fit, lastValue, longestEvent, longestInit}
+use Rattle.record.specs.Record.{Fit, longestEvent, longestInit}
 use Rattle.record.specs.declared.form.Form.{Form}
 use Rattle.trace.specs.Reading.{eventLimit}
 
@@ -28,7 +28,7 @@ pub record Fits (f : Form) (m : Memory) (es : List Event) : Type 0 where
   pub few : length es ≤ eventLimit
   pub events : Each (Fit f) es
 
--- The longest text: line 1, a starting value of 19 bytes for each location, and the most events, each with its LF. With events of 33 bytes it has
--- 32,328 in form 1, with events of 39 bytes 37,128 in form 2.
+-- The longest text: line 1, a starting value of 29 bytes for each location, and the most events, each with its LF. With events of 55 bytes it has
+-- 52,488 in form 1, with events of 61 bytes 57,288 in form 2.
 abbrev pub longestText : Form → ℕ
 longestText f = suc (length (header f)) + places * suc longestInit + eventLimit * suc (longestEvent f)

@@ -187,13 +187,6 @@ fn put_order_if(wanted: bool, out: &mut [u8], at: usize, order: Word) -> usize
     put_order(out, next, order)
 }
 
-// A word as a number to be written.
-fn wide(w: Word) -> u64
-    ensures { λ r. ⌜ r ≡ w ⌝ }
-{
-    w as u64
-}
-
 // A TAB and a number, if the line is to have it.
 fn put_number_if(wanted: bool, out: &mut [u8], at: usize, n: Word) -> usize
     requires { ⌜ Small at (tabIf wanted (decimal n)) ⌝ }
@@ -203,7 +196,7 @@ fn put_number_if(wanted: bool, out: &mut [u8], at: usize, n: Word) -> usize
         return at;
     }
     let mut digits: [u8; DIGITS] = [0; DIGITS];
-    let size = put_number(&mut digits, wide(n));
+    let size = put_number(&mut digits, n);
     let next = put(out, at, b"\t");
     put(out, next, &digits[..size])
 }

@@ -9,7 +9,7 @@ counted : (n : ℕ) → n ≡ length (replicate {0} {A = ℕ} n 0)
 counted n = sym (length-replicate {0} {A = ℕ} n 0)
 
 returns : tie.Need-returns
-returns c = counted 1800000
+returns c = counted 2400000
 
 pub vectors-buffer-spec : {M : Type 1} → statement M
 vectors-buffer-spec = tie.close (tie.spec returns)

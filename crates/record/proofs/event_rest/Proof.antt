@@ -5,11 +5,11 @@ use mathlib.Core.List.{List}
 use mathlib.Core.Path.{_≡_, sym, _∙_, ap}
 use borrow.Author.Needs.{needs}
 use borrow.Author.Tests.{not-true, not-false}
-use Rattle.event.specs.Kind.{lastPlace, lastCode, made}
+use Rattle.event.specs.Kind.{lastPlace, lastValue, lastCode, made}
 use Rattle.event.specs.declared.Event.{Event}
 use Rattle.text.specs.Field.{fieldsFrom, onEnd}
 use Rattle.text.proofs.Takes.{ended, not-ended}
-use Rattle.record.specs.Record.{lastValue, numberIf, orderIf, lawfulLine, eventRest}
+use Rattle.record.specs.Record.{numberIf, orderIf, lawfulLine, eventRest}
 use Rattle.record.specs.declared.Record.{Record}
 use Rattle.record.specs.declared.Record.the-variants.{Refused}
 use Rattle.record.specs.declared.shape.Shape.{Shape}

@@ -46,9 +46,8 @@ small c =
     let d = first-done (roomFault (a .memory) (a .room .now)) (lost (a .form) 0 1 (roomEvents (a .room .now))) (none (c .before)) in
     let f = room-sound (a .memory) (a .room .now) n (d .0) in
     let g = s .good .1 .0 .1 .1 .0 in
-    let w = c .before .before .before .before .before in
     text-length (a .form) (a .memory) _
-    (room-fits (a .room .now) (λ k. omega (arith, w .shared-slice-known .given k .fits)) (a .form) (a .memory) (c .count-of .result)
+    (room-fits (a .room .now) (a .form) (a .memory) (c .count-of .result)
     (simp length-map at (g .1 .0 .1)) (words-below (a .memory .cells) (g .0) (g .1 .1)) (f .0) (f .1) (ap (λ (k : ℕ). lost (a .form) 0 1 (onward (a .room .now) 0 k) .number) n ∙ d .1))
 
 size-is : (c : tie.After-size-of) → c .size-of .result ≡ length (text (start (c .before)))

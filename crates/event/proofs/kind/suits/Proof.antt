@@ -2,7 +2,7 @@
 use mathlib.Core.Bool.{Bool, true, false}
 use mathlib.Core.Path.{_≡_, sym, _∙_}
 use borrow.Author.Tests.{not-true, not-false}
-use Rattle.event.specs.Kind.{row, takes, fitsPlace, fitsValues, lawful}
+use Rattle.event.specs.Kind.{row, takes, fitsPlace, fitsValues, inRange, lawful}
 use borrow.Author.Needs.{needs}
 use Rattle.event.proofs.kind.suits.Statement.{statement}
 use Rattle.event.proofs.kind.suits.Tie as tie
@@ -51,11 +51,26 @@ returns-3 c =
     let p = c .before .before in
     rw (orders-held (p .before .before), place-held p, values (c .before) ∙ not-true _ (c .if3 .taken))
 
+values-held : (c : tie.Else3) → let a = asked₃ (c .before) .args in fitsValues (row (a .kind) .values) (a .first) (a .second) ≡ true
+values-held c = values (c .before) ∙ not-false _ (c .if3 .left)
+
+range : (c : tie.After-are-in-range) → let a = asked₃ (c .before .before) .args in
+    inRange (row (a .kind) .width) (a .first) (a .second) ≡ c .are-in-range .result
+range c = rw (← c .before .before .before .before .before .before .before .row-of .ensures) (sym (c .are-in-range .ensures))
+
 returns-4 : tie.Need-returns-4
 unfolding lawful
 returns-4 c =
-    let p = c .before .before in
-    rw (orders-held (p .before .before), place-held p, values (c .before) ∙ not-false _ (c .if3 .left))
+    let v = c .before .before in
+    let p = v .before .before in
+    rw (orders-held (p .before .before), place-held p, values-held v, range (c .before) ∙ not-true _ (c .if4 .taken))
+
+returns-5 : tie.Need-returns-5
+unfolding lawful
+returns-5 c =
+    let v = c .before .before in
+    let p = v .before .before in
+    rw (orders-held (p .before .before), place-held p, values-held v, range (c .before) ∙ not-false _ (c .if4 .left))
 
 pub suits-spec : {M : Type 1} → statement M
 suits-spec =
@@ -68,4 +83,6 @@ suits-spec =
     returns-2
     (search needs)
     returns-3
-    returns-4)
+    (search needs)
+    returns-4
+    returns-5)

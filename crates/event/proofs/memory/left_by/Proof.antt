@@ -8,4 +8,4 @@ left-by-spec =
     tie.close
     (tie.spec (search needs) (search needs) (search needs) (search needs) (search needs) (λ c. rw (c .enum-told .given .1))
     (λ c. rw (c .enum-told2 .given .1)) (λ c. rw (c .enum-told3 .given .1))
-    (λ c. rw (c .before .enum-told4 .given .1, c .sum-32 .ensures)))
+    (λ c. rw (c .before .enum-told4 .given .1, c .sum .ensures)))

@@ -9,4 +9,4 @@ returns : tie.Need-returns
 returns c = rw (c .sum-64 .ensures) (wraps-narrow 32 64 (c .before .args .a) (c .before .args .b) (omega arith))
 
 pub sum-32-spec : {M : Type 1} → statement M
-sum-32-spec = tie.close (tie.spec (search needs) (λ c. omega arith) returns)
+sum-32-spec = tie.close (tie.spec (search needs) returns)

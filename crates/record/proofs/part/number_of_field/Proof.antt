@@ -1,11 +1,9 @@
--- Each return is the definition at the field and at what `number_of` gave. The field lies within the line, as is asked, and a number that was read
--- is at most the limit, so it fits. Assumes nothing.
+-- Each return is the definition at the field and at what `number_of` gave. The field lies within the line, as is asked. Assumes nothing.
 use Prim.Native.Nat.{_≤_}
 use borrow.Author.Needs.{needs}
 use mathlib.Core.Path.{sym, _∙_}
 use native.Mathlib.Omega.{arith}
 use lib.ListN.{length}
-use Rattle.text.proofs.Round.{read-back}
 use Rattle.record.specs.Part.{fieldPart}
 use Rattle.record.proofs.Walk.{part-given}
 use Rattle.record.proofs.part.number_of_field.Statement.{statement}
@@ -28,9 +26,6 @@ returns-2 : tie.Need-returns-2
 unfolding fieldPart
 returns-2 c = let f = c .before .before .before .before in rw (f .before .field .given .1, ← c .before .before .number-of .ensures, c .enum-told2 .given .1)
 
-cast-t13 : tie.Need-cast-t13
-cast-t13 c = omega (arith, read-back _ _ _ (sym (c .before .before .before .number-of .ensures) ∙ c .before .value .given .1) .1)
-
 returns-3 : tie.Need-returns-3
 returns-3 c =
     rw (field c .before .field .given .1) (sym (part-given _ _ _ _ _ (sym (c .before .before .before .number-of .ensures) ∙ c .before .value .given .1)))
@@ -49,6 +44,5 @@ number-of-field-spec =
     (search needs)
     (search needs)
     returns-2
-    cast-t13
     (λ c. omega (arith, inside (field c)))
     returns-3)

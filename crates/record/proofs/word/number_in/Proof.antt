@@ -52,7 +52,6 @@ number-in-spec =
     (λ c. omega arith)
     (λ c κs. tt)
     (λ c κs. tt)
-    (λ c. omega arith)
     returns
     (λ c. omega arith)
     (λ c. omega arith)

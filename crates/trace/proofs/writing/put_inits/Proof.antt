@@ -42,7 +42,6 @@ put-inits-spec =
     (λ c. going _ _ _ 0 (omega arith) (c .before .before .pre .1) refl)
     (λ c. omega arith)
     (λ c. omega arith)
-    (λ c. omega arith)
     put-init-requires
     (λ c. omega arith)
     (λ c. omega arith)

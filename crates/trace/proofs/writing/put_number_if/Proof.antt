@@ -21,13 +21,13 @@ small : (c : tie.Else1) → Small (c .before .before .args .at) (tabIf true (dec
 small c = rw (wanted c) at (c .before .before .pre)
 
 -- it has no more digits than the array
-digits-fit : (c : tie.After-wide) → length (decimal (c .wide .result)) ≤ 20
-digits-fit c = length-wide _ (omega (arith, c .wide .ensures, c .before .before .before .before .fits .n))
+digits-fit : (c : tie.After-put-number) → length (decimal (c .before .before .before .before .args .n)) ≤ 20
+digits-fit c = length-wide _ (omega (arith, c .before .before .before .before .fits .n))
 
 digits-are : (c : tie.After-put-number)
     → (c .put-number .result ≤ length (c .put-number .last .0))
-    × (take (c .put-number .result) (c .put-number .last .0) ≡ decimal (c .before .before .before .before .before .args .n))
-digits-are c = rw (← c .before .wide .ensures) (front-put (replicate 20 0) _ (digits-fit (c .before)) (c .put-number .ensures))
+    × (take (c .put-number .result) (c .put-number .last .0) ≡ decimal (c .before .before .before .before .args .n))
+digits-are c = front-put (replicate 20 0) _ (digits-fit c) (c .put-number .ensures)
 
 slice-aggregate-put-2 : tie.Need-slice-aggregate-put-2
 slice-aggregate-put-2 c =
@@ -38,14 +38,14 @@ put-requires-2 : tie.Need-put-requires-2
 put-requires-2 c κs =
     let p = c .before .before .before .before in
     let d = p .before .before .before in
-    rw (digits-are d .1) (omega (arith, p .put .ensures .counted, small (d .before .before .before)))
+    rw (digits-are d .1) (omega (arith, p .put .ensures .counted, small (d .before .before)))
 
 returns-2 : tie.Need-returns-2
 returns-2 c =
     let p = c .before .before in
     let q = p .before .before .before .before .before in
     let d = q .before .before .before in
-    rw (wanted (d .before .before .before)) (then (q .put .ensures) (rw (digits-are d .1) at (p .put2 .ensures)))
+    rw (wanted (d .before .before)) (then (q .put .ensures) (rw (digits-are d .1) at (p .put2 .ensures)))
 
 pub put-number-if-spec : {M : Type 1} → statement M
 put-number-if-spec =
@@ -53,9 +53,8 @@ put-number-if-spec =
     (tie.spec
     (λ c. rw (not-true (c .before .before .args .wanted) (c .if1 .taken)) (put-none _ _))
     (λ c κs. tt)
-    (λ c κs. tt)
     (λ c. refl)
-    (λ c κs. omega (arith, small (c .before .before .before .before .before)))
+    (λ c κs. omega (arith, small (c .before .before .before .before)))
     (λ c. digits-are (c .before .before .before .before .before .before) .0)
     slice-aggregate-put-2
     put-requires-2

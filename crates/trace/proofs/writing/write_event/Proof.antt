@@ -1,8 +1,8 @@
 -- Without its code line a lawful event of a room has a line of form 1, and the line is short. Assumes nothing.
-use mathlib.Core.Path.{_≡_, refl, sym, _∙_, ap, subst}
+use mathlib.Core.Path.{_≡_, refl, sym, _∙_, ap}
 use mathlib.Core.Bool.{true}
 use mathlib.Core.List.{List, [], _∷_, _++_}
-use Prim.Native.Nat.{ℕ, _≤_}
+use Prim.Native.Nat.{ℕ}
 use native.Mathlib.Omega.{arith}
 use lib.ListN.{length-append}
 use borrow.Author.Needs.{needs}
@@ -10,18 +10,16 @@ use Rattle.event.specs.Kind.{lawful}
 use Rattle.event.specs.Room.{eventAt}
 use Rattle.event.specs.declared.Event.{Event}
 use Rattle.record.specs.Layout.{eventLine}
-use Rattle.record.specs.Record.{lastValue}
 use Rattle.record.specs.declared.form.Form.the-variants.{One}
 use Rattle.record.proofs.Prints.{event-length}
 use Rattle.trace.specs.Put.{Small, bare, bareLine}
 use Rattle.trace.proofs.Puts.{put-none}
-use Rattle.trace.proofs.Range.{values-in}
 use Rattle.trace.proofs.writing.write_event.Statement.{statement}
 use Rattle.trace.proofs.writing.write_event.Tie as tie
 
-short : (e : Event) → lawful (bare e) ≡ true → e .first ≤ lastValue → e .second ≤ lastValue → Small 0 (eventLine One (bare e) ++ 10 ∷ [])
-short e l f s =
-    let h = event-length One (bare e) (record { law = l; first = f; second = s; kept = refl }) in
+short : (e : Event) → lawful (bare e) ≡ true → Small 0 (eventLine One (bare e) ++ 10 ∷ [])
+short e l =
+    let h = event-length One (bare e) (record { law = l; kept = refl }) in
     omega (arith, h, length-append (eventLine One (bare e)) (10 ∷ []))
 
 -- the event
@@ -38,17 +36,11 @@ module _ (c : tie.After-is-lawful) where
   event-is : event ≡ eventAt room (begin .args .i)
   event-is = c .before .get .ensures
 
-  values : (event .first ≤ lastValue) × (event .second ≤ lastValue)
-  values =
-      let k = c .before .before .before in
-      let v = values-in room (λ n. omega (arith, k .shared-slice-known .given n .fits)) (begin .args .i) in
-      (subst (λ (e : Event). e .first ≤ lastValue) (sym event-is) (v .0), subst (λ (e : Event). e .second ≤ lastValue) (sym event-is) (v .1))
-
 put-event-requires : tie.Need-put-event-requires
 put-event-requires c κs =
     let d = c .before in
     let a = d .before in
-    short (event a) (sym (a .is-lawful .ensures) ∙ d .if1 .taken) (values a .0) (values a .1)
+    short (event a) (sym (a .is-lawful .ensures) ∙ d .if1 .taken)
 
 returns : tie.Need-returns
 returns c =

@@ -53,5 +53,16 @@ returns-3 c =
 pub step-spec : {M : Type 1} → statement M
 step-spec =
     tie.close
-    (tie.spec (search needs) returns (search needs) (search needs) element-copy-out-was (search needs) (search needs) (search needs) returns-2
-    (search needs) element-write-self returns-3)
+    (tie.spec
+    (search needs)
+    returns
+    (search needs)
+    (λ c. omega (arith, inside c))
+    element-copy-out-was
+    (search needs)
+    (search needs)
+    (search needs)
+    returns-2
+    (λ c. omega (arith, inside (c .before .before .before .before .before)))
+    element-write-self
+    returns-3)
