@@ -19,7 +19,7 @@ mod rules;
 #[allow(dead_code)]
 mod texts;
 
-use peer::{order, Event, Kind, Memory, CELLS};
+use peer::{order, Event, Kind, Memory, Word, CELLS};
 use random::Random;
 use std::collections::{HashMap, HashSet};
 
@@ -37,7 +37,7 @@ const ROOM: usize = MAX_LEN * peer::EVENT_WORDS;
 
 const INSERTED: u8 = 0x80;
 
-fn inserted_code(location: u8, value: u32) -> u8 {
+fn inserted_code(location: u8, value: Word) -> u8 {
     assert!(location < 8 && value < 16);
     INSERTED | location << 4 | value as u8
 }
@@ -50,13 +50,13 @@ fn unpack(state: u64) -> Vec<u8> {
     state.to_le_bytes().into_iter().take_while(|&code| code != 0).collect()
 }
 
-fn load(place: u8, first: u32, order: u8) -> Event {
+fn load(place: u8, first: Word, order: u8) -> Event {
     Event { kind: Kind::Load, place, order, first, second: 0, code: 0 }
 }
 
 fn event_of(code: u8, source: &[Event]) -> Event {
     if code >= INSERTED {
-        load(code >> 4 & 7, u32::from(code & 15), order::USED)
+        load(code >> 4 & 7, Word::from(code & 15), order::USED)
     } else {
         source[usize::from(code) - 1]
     }
@@ -170,7 +170,7 @@ struct Bench<'a> {
     source_text: Vec<u8>,
     reached: HashSet<u64>,
     /// Event lines by event, since the same few come again and again.
-    lines: HashMap<[u32; 6], Vec<u8>>,
+    lines: HashMap<[Word; 6], Vec<u8>>,
     target_text: Vec<u8>,
     matching_text: Vec<u8>,
     tally: Tally,
@@ -259,7 +259,7 @@ impl<'a> Bench<'a> {
 #[derive(Clone, Copy)]
 struct Shape(Event);
 
-fn shape(kind: Kind, place: u8, order: u8, first: u32, second: u32) -> Shape {
+fn shape(kind: Kind, place: u8, order: u8, first: Word, second: Word) -> Shape {
     Shape(Event { kind, place, order, first, second, code: 0 })
 }
 
@@ -267,7 +267,7 @@ impl Shape {
     /// The event on a memory: what it reads is what the memory holds.
     fn on(self, memory: &Memory) -> Event {
         let mut event = self.0;
-        if matches!(event.kind, Kind::Load | Kind::ALoad | Kind::Rmw | Kind::Add) {
+        if matches!(event.kind, Kind::Load | Kind::ALoad | Kind::Rmw | Kind::Add | Kind::Add64) {
             event.first = memory[usize::from(event.place)];
         }
         event
@@ -281,7 +281,8 @@ fn step(memory: &mut Memory, event: Event) -> bool {
         Kind::Load | Kind::ALoad => (*cell == event.first, event.first),
         Kind::Store | Kind::AStore => (true, event.first),
         Kind::Rmw => (*cell == event.first, event.second),
-        Kind::Add => (*cell == event.first, event.first.wrapping_add(event.second)),
+        Kind::Add => (*cell == event.first, (event.first + event.second) % (1 << 32)),
+        Kind::Add64 => (*cell == event.first, event.first.wrapping_add(event.second)),
         Kind::Fence | Kind::Lock | Kind::Unlock => return true,
     };
     *cell = after;
@@ -436,7 +437,7 @@ const RANDOM_LIMIT: usize = 7;
 
 fn random_shape(random: &mut Random) -> Shape {
     let place = random.pick(&RANDOM_LOCATIONS);
-    let value = random.below(3) as u32;
+    let value = random.below(3) as Word;
     match random.below(14) {
         0..=4 => shape(Kind::Load, place, random.pick(&[order::USED, order::UNUSED]), 0, 0),
         5..=10 => shape(Kind::Store, place, order::NONE, value, 0),
@@ -464,7 +465,7 @@ fn random_change(random: &mut Random, candidate: &mut Candidate, source: &[Event
         1 if at + 1 < candidate.len() => candidate.swap(at, at + 1),
         2 if candidate.len() < RANDOM_LIMIT => {
             let mut guess = [0; CELLS];
-            guess.fill_with(|| random.below(3) as u32);
+            guess.fill_with(|| random.below(3) as Word);
             let event = random_shape(random).on(&guess);
             candidate.insert(at, (event, 0));
         }
@@ -487,7 +488,7 @@ fn is_lawful(start: &Memory, target: &[Event]) -> bool {
 fn random_bench(random: &mut Random, candidates: usize) -> Tally {
     let mut start = [0; CELLS];
     for location in RANDOM_LOCATIONS {
-        start[usize::from(location)] = random.below(3) as u32;
+        start[usize::from(location)] = random.below(3) as Word;
     }
     let mut memory = start;
     let mut source = vec![];

@@ -1,5 +1,8 @@
 //! Cases with answers worked out by hand: the runs of the requirement, and the
-//! limits of every number, count, line and room. `forms.rs` has those of form 2.
+//! limits of every number, count, line and room. `forms.rs` has those of form 2,
+//! `counters.rs` those of counters of 64 bits.
+
+use crate::peer::{MAX_MATCHING, MAX_TEXT};
 
 pub type Triple = (u32, u32, u32);
 
@@ -149,7 +152,7 @@ pub fn runs() -> Vec<Known> {
     list.good_trace("run: 800 events", trace(&"lock 0;".repeat(800)), 800);
     list.bad_trace("run: 801 events, 3", trace(&"lock 0;".repeat(801)), 3, 802);
     list.good_trace("run: value 4294967295", trace("store 1 4294967295"), 1);
-    list.bad_trace("run: value 4294967296, 2", trace("store 1 4294967296"), 2, 2);
+    list.good_trace("run: value 4294967296, which document 02 reads", trace("store 1 4294967296"), 1);
     list.bad_trace("run: value 007, 2", trace("store 1 007"), 2, 2);
     list.known
 }
@@ -163,12 +166,19 @@ fn numbers(list: &mut List) {
             list.bad_line(line.replace("{}", bad).as_bytes());
         }
     }
-    for line in ["store\t9\t{}", "astore\t8\trlx\t{}", "rmw\t8\tsc\t0\t{}", "add\t8\tacq\t0\t{}"] {
+    for (line, narrow) in [("store\t9\t{}", false), ("astore\t8\trlx\t{}", false), ("rmw\t8\tsc\t0\t{}", false), ("add\t8\tacq\t0\t{}", true)] {
         for good in ["0", "1", "10", "2147483648", "4294967290", "4294967294", "4294967295"] {
             list.good_trace("value", text(TRACE, &line.replace("{}", good)), 1);
         }
+        for wide in ["4294967296", "4294967300", "5000000000", "9999999999", "10000000000", "42949672950", "18446744073709551615"] {
+            let line = line.replace("{}", wide);
+            if narrow {
+                list.bad_line(line.as_bytes());
+            } else {
+                list.good_trace("value of 64 bits", text(TRACE, &line), 1);
+            }
+        }
         for bad in [
-            "4294967296", "4294967300", "5000000000", "9999999999", "10000000000", "42949672950", "18446744073709551615",
             "18446744073709551616", "18446744073709551617", "99999999999999999999999999999999999999999", "00", "007",
             "04294967295", "+1", "-1", "-0", "+0", " 1", "1 ", "", "0x1", "1.0", "1e3", "1,000", "1_000", "a", "/", ":",
             "\u{ff11}",
@@ -181,7 +191,7 @@ fn numbers(list: &mut List) {
             let text = format!("init\t{start}\t{value};{}", line.replace("{}", value));
             list.good_trace("value read", trace(&text), 1);
         }
-        for bad in ["4294967296", "01", "", "+0"] {
+        for bad in ["18446744073709551616", "01", "", "+0"] {
             list.bad_line(line.replace("{}", bad).as_bytes());
         }
     }
@@ -226,7 +236,7 @@ fn layouts(list: &mut List) {
         b"add\t1\trlx\t0\t1\t", b"add\t1\trlx", b"fence", b"fence\t", b"fence\t0\tsc", b"fence\tsc\t", b"fence\tsc\t0",
         b"fence\tsc\r", b"lock", b"lock\t", b"lock\t0\t", b"lock\t0\t0", b"lock\t0\r", b"unlock", b"unlock\t0\t",
         b"unlock\t0 ", b"unlocks\t0", b"init", b"init\t1", b"init\t1\t", b"init\t1\t2\t", b"init\t1\t2\t3", b"init\t256\t1",
-        b"init\t01\t1", b"init\t1\t01", b"init\t1\t4294967296", b"init\t1\t+1", b"trace\t1", b"match\t1", b"gone", b"keep\t1",
+        b"init\t01\t1", b"init\t1\t01", b"init\t1\t18446744073709551616", b"init\t1\t+1", b"trace\t1", b"match\t1", b"gone", b"keep\t1",
         b"cmpfail\t1\trlx\t0\t1", b"nop", b"0", b"#",
     ];
     for line in bad_lines {
@@ -424,17 +434,17 @@ pub fn filled(head: &str, line: &str, length: usize) -> Vec<u8> {
 }
 
 fn lengths(list: &mut List) {
-    let longest = 32_400;
+    let longest = MAX_TEXT;
     let all = [ALL; 3];
     list.add("source one byte over", filled(TRACE, "lock\t0\n", longest + 1), vec![], vec![], all, (1, 1, 0));
     list.add("target one byte over", trace(""), filled(TRACE, "lock\t0\n", longest + 1), vec![], all, (1, 2, 0));
-    list.add("matching one byte over", trace(""), trace(""), filled(MATCH, "gone\n", longest + 1), all, (1, 3, 0));
+    list.add("matching one byte over", trace(""), trace(""), filled(MATCH, "gone\n", MAX_MATCHING + 1), all, (1, 3, 0));
     list.add("target of 0xff, over", trace(""), vec![0xff; longest + 7], vec![], all, (1, 2, 0));
     list.add("source at the limit", filled(TRACE, "lock\t0\n", longest), trace(""), matching(""), all, (3, 1, 802));
-    list.add("matching at the limit", trace(""), trace(""), filled(MATCH, "\n", longest), all, (2, 3, 2));
+    list.add("matching at the limit", trace(""), trace(""), filled(MATCH, "\n", MAX_MATCHING), all, (2, 3, 2));
     let full: String = (0..256).map(|location| format!("init {location} 4294967295;")).collect();
     let fullest = full + &"rmw 255 rlx 4294967295 4294967295;".repeat(800);
-    list.good_trace("longest lawful text", trace(&fullest), 800);
+    list.good_trace("longest lawful text of 32 bits", trace(&fullest), 800);
 }
 
 fn counts(list: &mut List) {

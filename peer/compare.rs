@@ -12,6 +12,8 @@
 #[allow(dead_code)]
 mod cases;
 #[allow(dead_code)]
+mod counters;
+#[allow(dead_code)]
 mod forms;
 #[allow(dead_code)]
 mod generate;
@@ -25,17 +27,18 @@ mod texts;
 
 use cases::Case;
 use forms::{KnownWriting, Move};
-use peer::{form_of, Answer, Form, Memory, CELLS, EVENT_WORDS, MAX_EVENTS, MAX_TEXT};
+use peer::{form_of, Answer, Entry, Form, Memory, Word, CELLS, EVENT_WORDS, MAX_EVENTS, MAX_MATCHING};
 use random::Random;
 use std::collections::BTreeMap;
 use std::fmt::Debug;
 
-const ROOM_NAMES: [&str; 3] = ["source room", "target room", "entry room"];
+const ROOM_NAMES: [&str; 2] = ["source room", "target room"];
 
 /// What is compared: texts and rooms as they were before the call.
 struct Given {
     case: Case,
-    rooms: [Vec<u32>; 3],
+    rooms: [Vec<Word>; 2],
+    entries: Vec<Entry>,
 }
 
 /// A difference, told whole.
@@ -51,16 +54,24 @@ fn same<T: PartialEq + Debug>(what: &str, ours: &T, peer: &T) -> Same {
 }
 
 /// A room after a call: as the peer left it; as it was before, from `stored` on.
-fn same_room(what: &str, before: &[u32], ours: &[u32], peer: &[u32], stored: usize) -> Same {
+fn same_room<T: Copy + PartialEq + Debug>(what: &str, before: &[T], ours: &[T], peer: &[T], stored: usize) -> Same {
     if let Some(at) = (0..ours.len()).find(|&at| ours[at] != peer[at]) {
         let [before, ours, peer] = [before, ours, peer].map(|room| room[at]);
-        return Err(Difference(format!("{what}, word {at}: before {before}, ours {ours}, peer {peer}")));
+        return Err(Difference(format!("{what}, word {at}: before {before:?}, ours {ours:?}, peer {peer:?}")));
     }
     same(&format!("{what}, from word {stored} on"), &&ours[stored..], &&before[stored..])
 }
 
-fn random_words(random: &mut Random, words: usize) -> Vec<u32> {
-    (0..words).map(|_| random.next() as u32).collect()
+/// A value of 32 bits or of 64.
+fn random_value(random: &mut Random) -> Word {
+    match random.below(2) {
+        0 => Word::from(random.next() as u32),
+        _ => random.next(),
+    }
+}
+
+fn random_words(random: &mut Random, words: usize) -> Vec<Word> {
+    (0..words).map(|_| random.next()).collect()
 }
 
 /// How many words are lent where `fitting` would hold what is read: mostly that
@@ -77,11 +88,12 @@ fn room_words(random: &mut Random, fitting: usize) -> usize {
 
 fn lend(random: &mut Random, case: Case) -> Given {
     let [source, target, entries] = case.rooms;
-    let rooms = [source * EVENT_WORDS, target * EVENT_WORDS, entries].map(|fitting| {
+    let rooms = [source * EVENT_WORDS, target * EVENT_WORDS].map(|fitting| {
         let words = room_words(random, fitting);
         random_words(random, words)
     });
-    Given { case, rooms }
+    let entries = (0..room_words(random, entries)).map(|_| random.next() as Entry).collect();
+    Given { case, rooms, entries }
 }
 
 /// The answers that were given: by whom, number, side.
@@ -109,18 +121,20 @@ impl Tally {
 
 /// A whole check, its rooms and its line.
 fn compare_check(given: &Given, tally: &mut Tally) -> Same {
-    let Given { case, rooms } = given;
+    let Given { case, rooms, entries } = given;
     let [mut ours_rooms, mut peer_rooms] = [rooms.clone(), rooms.clone()];
-    let ours = ours::check(case.texts(), ours_rooms.each_mut().map(Vec::as_mut_slice));
-    let [source_room, target_room, entry_room] = &mut peer_rooms;
-    let peer = peer::check(&case.source, &case.target, &case.matching, source_room, target_room, entry_room);
+    let [mut ours_entries, mut peer_entries] = [entries.clone(), entries.clone()];
+    let ours = ours::check(case.texts(), ours_rooms.each_mut().map(Vec::as_mut_slice), &mut ours_entries);
+    let [source_room, target_room] = &mut peer_rooms;
+    let peer = peer::check(&case.source, &case.target, &case.matching, source_room, target_room, &mut peer_entries);
     same("check: answer", &ours.answer, &peer.answer)?;
     same("check: all that is handed back", &ours, &peer)?;
-    let stored = [ours.source_events * EVENT_WORDS, ours.target_events * EVENT_WORDS, ours.entries];
-    for room in 0..3 {
+    let stored = [ours.source_events, ours.target_events].map(|events| events * EVENT_WORDS);
+    for room in 0..2 {
         let what = format!("check: {}", ROOM_NAMES[room]);
         same_room(&what, &rooms[room], &ours_rooms[room], &peer_rooms[room], stored[room])?;
     }
+    same_room("check: entry room", entries, &ours_entries, &peer_entries, ours.entries)?;
     let coded = [&case.source, &case.target].map(|text| form_of(text) == Form::Two);
     let who = match coded {
         [false, false] => "check 1 1",
@@ -164,7 +178,7 @@ fn try_any_answer(random: &mut Random, case: &Case) -> Same {
 }
 
 /// A trace read alone. Hands back its words and memory if it is lawful.
-fn compare_trace(text: &[u8], room: &[u32], tally: &mut Tally) -> Result<Option<(Memory, Vec<u32>)>, Difference> {
+fn compare_trace(text: &[u8], room: &[Word], tally: &mut Tally) -> Result<Option<(Memory, Vec<Word>)>, Difference> {
     let [mut ours_room, mut peer_room] = [room.to_vec(), room.to_vec()];
     let ours = ours::read_trace(text, &mut ours_room);
     let peer = peer::read_trace(text, &mut peer_room);
@@ -177,7 +191,7 @@ fn compare_trace(text: &[u8], room: &[u32], tally: &mut Tally) -> Result<Option<
     Ok((ours.answer.number == 0).then_some((ours.memory, ours_room)))
 }
 
-fn compare_matching(text: &[u8], room: &[u32], tally: &mut Tally) -> Same {
+fn compare_matching(text: &[u8], room: &[Entry], tally: &mut Tally) -> Same {
     let [mut ours_room, mut peer_room] = [room.to_vec(), room.to_vec()];
     let ours = ours::read_matching(text, &mut ours_room);
     let peer = peer::read_matching(text, &mut peer_room);
@@ -207,7 +221,7 @@ fn compare_bytes(
 }
 
 /// A trace written into so many bytes, and read back.
-fn compare_writing(random: &mut Random, form: Form, memory: &Memory, words: &[u32], bytes: usize, tally: &mut Tally) -> Same {
+fn compare_writing(random: &mut Random, form: Form, memory: &Memory, words: &[Word], bytes: usize, tally: &mut Tally) -> Same {
     let ours = |out: &mut [u8]| ours::write_trace(form, memory, words, out);
     let peer = |out: &mut [u8]| peer::write_trace(form, memory, words, out);
     let (answer, written) = compare_bytes(random, "writing", bytes, ours, peer)?;
@@ -243,33 +257,33 @@ fn compare_move(random: &mut Random, Move { to, text, bytes }: &Move, tally: &mu
 fn changed_memory(random: &mut Random, memory: &Memory) -> Memory {
     let mut memory = *memory;
     match random.below(8) {
-        0 => memory = [0; CELLS].map(|_: u32| random.next() as u32),
-        1 | 2 => memory[random.below(CELLS)] = random.next() as u32,
+        0 => memory = [0; CELLS].map(|_: Word| random_value(random)),
+        1 | 2 => memory[random.below(CELLS)] = random_value(random),
         _ => {}
     }
     memory
 }
 
 /// The words that the writer is handed: those of the trace, or damaged ones.
-fn changed_words(random: &mut Random, words: &[u32]) -> Vec<u32> {
+fn changed_words(random: &mut Random, words: &[Word]) -> Vec<Word> {
     let mut words = words.to_vec();
     let at = random.below(words.len().max(1));
     match random.below(14) {
-        0 if at < words.len() => words[at] = random.next() as u32,
-        1 if at < words.len() => words[at] = random.below(12) as u32,
+        0 if at < words.len() => words[at] = random_value(random),
+        1 if at < words.len() => words[at] = random.below(12) as Word,
         2 => words.truncate(at),
         3 => words.extend((0..1 + random.below(2 * EVENT_WORDS)).map(|_| 0)),
-        4 if at < words.len() => words[at] = words[at].wrapping_add(random.pick(&[1, 256, u32::MAX])),
+        4 if at < words.len() => words[at] = words[at].wrapping_add(random.pick(&[1, 256, Word::from(u32::MAX), 1 << 32, Word::MAX])),
         5 if !words.is_empty() && random.once_in(20) => {
             let longer = (MAX_EVENTS - 3) * EVENT_WORDS + random.below(6 * EVENT_WORDS);
             words = words.iter().copied().cycle().take(longer).collect();
         }
-        6 => words.chunks_exact_mut(EVENT_WORDS).for_each(|event| event[EVENT_WORDS - 1] = random.below(65_536) as u32),
+        6 => words.chunks_exact_mut(EVENT_WORDS).for_each(|event| event[EVENT_WORDS - 1] = random.below(65_536) as Word),
         7 => words.chunks_exact_mut(EVENT_WORDS).for_each(|event| event[EVENT_WORDS - 1] = 0),
         8 if words.len() >= EVENT_WORDS => {
             let event = at / EVENT_WORDS * EVENT_WORDS;
             if let Some(code) = words.get_mut(event + EVENT_WORDS - 1) {
-                *code = random.pick(&[0, 1, 65_535, 65_536, 65_537, 131_072, u32::MAX]);
+                *code = random.pick(&[0, 1, 65_535, 65_536, 65_537, 131_072, 1 << 32, Word::MAX]);
             }
         }
         _ => {}
@@ -277,7 +291,7 @@ fn changed_words(random: &mut Random, words: &[u32]) -> Vec<u32> {
     words
 }
 
-fn try_writing(random: &mut Random, memory: &Memory, words: &[u32], tally: &mut Tally) -> Same {
+fn try_writing(random: &mut Random, memory: &Memory, words: &[Word], tally: &mut Tally) -> Same {
     let memory = changed_memory(random, memory);
     let words = changed_words(random, words);
     let form = random.pick(&[Form::One, Form::Two]);
@@ -296,7 +310,7 @@ fn compare(random: &mut Random, given: &Given, tally: &mut Tally) -> Same {
         let handed = generate::move_of(random, text);
         compare_move(random, &handed, tally)?;
     }
-    compare_matching(&given.case.matching, &given.rooms[2], tally)
+    compare_matching(&given.case.matching, &given.entries, tally)
 }
 
 /// A lawful triple of up to 800 events, some of them with damaged bytes.
@@ -327,7 +341,7 @@ fn lengthen(random: &mut Random, text: &mut Vec<u8>) {
     let form = form_of(text);
     let line: &[u8] = if text.starts_with(b"match") { b"gone\n" } else { by_form(form, b"lock\t0\n".as_slice(), b"lock\t0\t77\n") };
     let lines = text.iter().filter(|&&byte| byte == b'\n').count();
-    let limit = random.pick(&[form.limit(), form.limit(), MAX_TEXT]);
+    let limit = random.pick(&[form.limit(), form.limit(), MAX_MATCHING]);
     let more = match random.below(2) {
         0 => (MAX_EVENTS + random.below(5)).saturating_sub(lines) * line.len(),
         _ => (limit + random.below(5)).saturating_sub(text.len() + 2),
@@ -361,6 +375,7 @@ fn tell(given: &Given, difference: &Difference) {
     for (name, room) in ROOM_NAMES.iter().zip(&given.rooms) {
         println!("{name}, {} words before: {room:?}", room.len());
     }
+    println!("entry room, {} entries before: {:?}", given.entries.len(), given.entries);
 }
 
 fn print_tally(tally: &Tally) {
@@ -373,10 +388,10 @@ fn print_tally(tally: &Tally) {
 /// The moves and the writings that are known by hand.
 fn compare_known(random: &mut Random, tally: &mut Tally) -> Same {
     let told = |name: &str, same: Same| same.map_err(|Difference(told)| Difference(format!("{name}: {told}")));
-    for known in forms::moves() {
+    for known in [forms::moves(), counters::moves()].concat() {
         told(&known.name, compare_move(random, &known.handed, tally))?;
     }
-    for KnownWriting { name, handed, .. } in forms::writings() {
+    for KnownWriting { name, handed, .. } in [forms::writings(), counters::writings()].concat() {
         let (memory, words) = handed.read();
         told(&name, compare_writing(random, handed.form, &memory, &words, handed.bytes, tally))?;
     }
@@ -387,7 +402,7 @@ fn main() {
     let mut arguments = std::env::args().skip(1).map(|word| word.parse::<u64>().expect("a number"));
     let count = arguments.next().expect("compare COUNT [SEED]");
     let seed = arguments.next().unwrap_or(1);
-    let known = [cases::all(), forms::checks()].concat();
+    let known = [cases::all(), forms::checks(), counters::checks()].concat();
     let known: Vec<Case> = known.into_iter().map(|known| known.case).collect();
     let by_hand = known.len();
     println!("seed {seed}, {count} cases, after {by_hand} known by hand");

@@ -2,10 +2,10 @@
 //! its traces, moves between the forms, and the writer in both.
 
 use crate::cases::{filled, matching, raw, runs, text, trace, Known, List, Triple, ALL, DONE, MATCH, TRACE};
-use crate::peer::{self, Form, Memory, EVENT_WORDS};
+use crate::peer::{self, Form, Memory, Word, EVENT_WORDS, MAX_CODED_TEXT, MAX_MATCHING, MAX_TEXT};
 use crate::texts;
 
-const CODED: &str = "trace\t2\n";
+pub const CODED: &str = "trace\t2\n";
 
 /// A trace of form 2.
 pub fn coded(lines: &str) -> Vec<u8> {
@@ -31,9 +31,9 @@ fn coded_runs(list: &mut List) {
     }
 }
 
-const EACH_KIND: [&str; 9] = [
+const EACH_KIND: [&str; 10] = [
     "load\t1\t0\tused", "store\t1\t0", "aload\t1\trlx\t0", "astore\t1\trel\t0", "rmw\t1\tar\t0\t0", "add\t1\tsc\t0\t0", "fence\tacq",
-    "lock\t0", "unlock\t0",
+    "lock\t0", "unlock\t0", "add64\t1\tsc\t0\t0",
 ];
 
 fn code_lines(list: &mut List) {
@@ -119,17 +119,21 @@ fn coded_answers(list: &mut List) {
 
 /// The longest trace of so many events: every field of every line is full.
 pub fn fullest(form: Form, events: usize, code: &str) -> Vec<u8> {
-    let inits: String = (0..256).map(|location| format!("init {location} 4294967295;")).collect();
-    let event = "rmw 255 rlx 4294967295 4294967295";
+    let inits: String = (0..256).map(|location| format!("init {location} {};", Word::MAX)).collect();
+    let lines = |code: &str| -> String {
+        // The sum is one less each time.
+        let olds = (0..events as Word).map(|event| Word::MAX - event);
+        olds.map(|old| format!("add64 255 rlx {old} {}{code};", Word::MAX)).collect()
+    };
     match form {
-        Form::One => trace(&(inits + &format!("{event};").repeat(events))),
-        Form::Two => coded(&(inits + &format!("{event} {code};").repeat(events))),
+        Form::One => trace(&(inits + &lines(""))),
+        Form::Two => coded(&(inits + &lines(&format!(" {code}")))),
     }
 }
 
 /// Form 2's limit is that of texts that begin with its first line, LF included.
 fn coded_lengths(list: &mut List) {
-    let (all, longest, longest_coded) = ([ALL; 3], 32_400, 37_200);
+    let (all, longest, longest_coded) = ([ALL; 3], MAX_TEXT, MAX_CODED_TEXT);
     let line = "lock\t0\t77\n";
     list.good_trace("longest lawful text, form 2", fullest(Form::Two, 800, "65535"), 800);
     list.add("form 2 at its limit", filled(CODED, line, longest_coded), trace(""), matching(""), all, (3, 1, 802));
@@ -142,7 +146,7 @@ fn coded_lengths(list: &mut List) {
     }
     list.add("at form 1's limit, not quite form 2", filled("trace\t2\r\n", line, longest), vec![], vec![], all, (2, 1, 1));
     list.add("form 2 in name only, over", trace(""), filled("trace\t2", "2", longest + 1), vec![], all, (1, 2, 0));
-    list.add("matching between the limits", coded(""), coded(""), filled(MATCH, "gone\n", longest + 1), all, (1, 3, 0));
+    list.add("matching over its limit", coded(""), coded(""), filled(MATCH, "gone\n", MAX_MATCHING + 1), all, (1, 3, 0));
     let many = "lock 0 1;".repeat(800);
     list.bad_trace("801 events of form 2", coded(&(many.clone() + "lock 0 1")), 3, 802);
     list.bad_trace("801st event of form 2 bad", coded(&(many + "lock 0")), 2, 802);
@@ -161,6 +165,7 @@ pub fn checks() -> Vec<Known> {
 pub const PLENTY: usize = Form::Two.limit();
 
 /// What a move is handed: the form that is wanted, a text, and so many bytes.
+#[derive(Clone)]
 pub struct Move {
     pub to: Form,
     pub text: Vec<u8>,
@@ -168,6 +173,7 @@ pub struct Move {
 }
 
 /// A move, the answer that it must get, and the text that it must write.
+#[derive(Clone)]
 pub struct KnownMove {
     pub name: String,
     pub handed: Move,
@@ -175,25 +181,25 @@ pub struct KnownMove {
     pub moved: Vec<u8>,
 }
 
-struct Moves {
-    known: Vec<KnownMove>,
+pub struct Moves {
+    pub known: Vec<KnownMove>,
 }
 
 impl Moves {
-    fn done(&mut self, name: &str, to: Form, text: &[u8], bytes: usize, moved: &[u8]) {
+    pub fn done(&mut self, name: &str, to: Form, text: &[u8], bytes: usize, moved: &[u8]) {
         let handed = Move { to, text: text.to_vec(), bytes };
         let answer = (0, 0, moved.len() as u32);
         self.known.push(KnownMove { name: format!("{name}, to {to:?}"), handed, answer, moved: moved.to_vec() });
     }
 
-    fn refused(&mut self, name: &str, to: Form, text: Vec<u8>, bytes: usize, answer: Triple) {
+    pub fn refused(&mut self, name: &str, to: Form, text: Vec<u8>, bytes: usize, answer: Triple) {
         let handed = Move { to, text, bytes };
         self.known.push(KnownMove { name: format!("{name}, to {to:?}"), handed, answer, moved: vec![] });
     }
 
     /// A trace in both forms, moved there and back, into bytes that are enough,
     /// just enough, too few, none; and into the form that it has.
-    fn there_and_back(&mut self, name: &str, one: &[u8], two: &[u8]) {
+    pub fn there_and_back(&mut self, name: &str, one: &[u8], two: &[u8]) {
         for (to, text, moved) in [(Form::Two, one, two), (Form::One, two, one)] {
             let needed = moved.len();
             self.done(name, to, text, PLENTY, moved);
@@ -256,7 +262,7 @@ fn moves_refused(moves: &mut Moves, to: Form) {
     let limit = other.limit();
     refused("one byte over", filled(head, line, limit + 1), (1, 1, 0));
     refused("at the limit", filled(head, line, limit), (3, 1, 802));
-    refused("over form 1's limit, not quite form 2", filled("trace\t2\t\n", line, 32_401), (1, 1, 0));
+    refused("over form 1's limit, not quite form 2", filled("trace\t2\t\n", line, MAX_TEXT + 1), (1, 1, 0));
     let mut already = |name: &str, length: usize, answer: Triple| {
         moves.refused(name, other, filled(head, line, length), PLENTY, answer);
     };
@@ -295,17 +301,18 @@ pub const WRITING_WORDS: usize = (ALL + 1) * EVENT_WORDS;
 /// What the writer is handed: the form, and the starting memory and the words of
 /// a lawful trace, with words of 0 behind them, one word changed, cut to so many
 /// words; and so many bytes.
+#[derive(Clone)]
 pub struct Writing {
     pub form: Form,
     pub text: Vec<u8>,
     pub words: usize,
-    pub change: Option<(usize, u32)>,
+    pub change: Option<(usize, Word)>,
     pub bytes: usize,
 }
 
 impl Writing {
     /// The memory and the words.
-    pub fn read(&self) -> (Memory, Vec<u32>) {
+    pub fn read(&self) -> (Memory, Vec<Word>) {
         let mut words = vec![0; WRITING_WORDS];
         let read = peer::read_trace(&self.text, &mut words);
         assert_eq!(read.answer.number, 0, "the trace is lawful");
@@ -318,24 +325,25 @@ impl Writing {
 }
 
 /// A writing, and the answer that it must get.
+#[derive(Clone)]
 pub struct KnownWriting {
     pub name: String,
     pub handed: Writing,
     pub answer: Triple,
 }
 
-struct Writings {
-    known: Vec<KnownWriting>,
+pub struct Writings {
+    pub known: Vec<KnownWriting>,
 }
 
 impl Writings {
-    fn add(&mut self, name: &str, form: Form, text: Vec<u8>, words: usize, bytes: usize, answer: Triple) {
+    pub fn add(&mut self, name: &str, form: Form, text: Vec<u8>, words: usize, bytes: usize, answer: Triple) {
         let handed = Writing { form, text, words, change: None, bytes };
         self.known.push(KnownWriting { name: format!("{name}, {form:?}"), handed, answer });
     }
 
     /// One word changed, and as many bytes as there can be.
-    fn changed(&mut self, name: &str, form: Form, lines: &str, words: usize, change: (usize, u32), answer: Triple) {
+    pub fn changed(&mut self, name: &str, form: Form, lines: &str, words: usize, change: (usize, Word), answer: Triple) {
         let handed = Writing { form, text: coded(lines), words, change: Some(change), bytes: PLENTY };
         self.known.push(KnownWriting { name: format!("{name}, {form:?}"), handed, answer });
     }
@@ -356,9 +364,9 @@ fn writings_of(list: &mut Writings, form: Form) {
     list.add("cut short", form, coded(THREE), 17, PLENTY, (18, 0, 3));
     list.add("a cleared event", form, coded(THREE), 24, PLENTY, (18, 0, 4));
     list.add("801 events", form, coded(&"lock 0 1;".repeat(800)), 4_801, PLENTY, (3, 0, 801));
-    list.changed("kind 10", form, THREE, 18, (6, 10), (18, 0, 2));
+    list.changed("kind 11", form, THREE, 18, (6, 11), (18, 0, 2));
     list.changed("code line 65536", form, THREE, 18, (5, 65_536), (18, 0, 1));
-    list.changed("the greatest word as a code line", form, THREE, 18, (17, u32::MAX), (18, 0, 3));
+    list.changed("the greatest word as a code line", form, THREE, 18, (17, Word::MAX), (18, 0, 3));
     list.changed("18 before 6", form, "load 1 0 used 0", 12, (3, 9), (18, 0, 2));
     list.changed("18 before 19", form, "lock 0 65535; lock 0 9", 12, (11, 65_536), (18, 0, 2));
     list.changed("6 before 19", form, "lock 0 7; load 1 0 used 9", 12, (9, 1), (6, 0, 2));
@@ -378,7 +386,7 @@ pub fn writings() -> Vec<KnownWriting> {
     list.add("the first code line that is lost", Form::One, coded("lock 0 0; lock 0 3; lock 0 4"), 18, PLENTY, (19, 0, 2));
     list.add("19 before 17", Form::One, coded("lock 0 3"), 6, 0, (19, 0, 1));
     list.add("form 1 read", Form::Two, trace("lock 0; store 3 4"), 12, PLENTY, (0, 0, 8 + 9 + 12));
-    list.add("longest text", Form::One, fullest(Form::One, 800, ""), 4_800, 32_218, (0, 0, 32_218));
-    list.add("longest text", Form::Two, fullest(Form::Two, 800, "65535"), 4_800, 37_018, (0, 0, 37_018));
+    list.add("longest text", Form::One, fullest(Form::One, 800, ""), 4_800, 52_378, (0, 0, 52_378));
+    list.add("longest text", Form::Two, fullest(Form::Two, 800, "65535"), 4_800, 57_178, (0, 0, 57_178));
     list.known
 }

@@ -6,13 +6,19 @@
 
 use crate::cases::Case;
 use crate::forms::{Move, Writing, PLENTY};
-use crate::peer::{self, order, Answer, Event, Form, Kind, Memory, CELLS, EVENT_WORDS, MAX_EVENTS};
+use crate::peer::{self, order, Answer, Event, Form, Kind, Memory, Word, CELLS, EVENT_WORDS, MAX_EVENTS};
 use crate::random::Random;
 use crate::{rules, texts};
 
 /// Numbers of one to three digits, in an order that differs from that of texts.
 const PLACES: [u8; 12] = [0, 1, 2, 3, 9, 10, 11, 99, 100, 199, 254, 255];
-const VALUES: [u32; 10] = [0, 1, 2, 7, 10, 99, 100, 4_294_967_290, 4_294_967_294, 4_294_967_295];
+/// Values of a counter of 32 bits, and of 64.
+const NARROW_VALUES: [Word; 10] = [0, 1, 2, 7, 10, 99, 100, 4_294_967_290, 4_294_967_294, 4_294_967_295];
+const VALUES: [Word; 14] = [
+    0, 1, 2, 10, 99, 4_294_967_294, 4_294_967_295, 4_294_967_296, 4_294_967_297, 8_589_934_591, 9_223_372_036_854_775_808,
+    18_446_744_069_414_584_320, 18_446_744_073_709_551_614, 18_446_744_073_709_551_615,
+];
+const UPDATES: [Kind; 3] = [Kind::Rmw, Kind::Add, Kind::Add64];
 const RMW_ORDERS: [u8; 5] = [order::RLX, order::ACQ, order::REL, order::AR, order::SC];
 
 /// The few locations, mutexes and values of one trace: few, so that they meet.
@@ -20,7 +26,9 @@ struct World {
     plain: Vec<u8>,
     atomic: Vec<u8>,
     mutexes: Vec<u8>,
-    values: Vec<u32>,
+    values: Vec<Word>,
+    /// What `rmw` and the additions are.
+    updates: &'static [Kind],
     /// One event in so many synchronises.
     sync_rarity: usize,
 }
@@ -37,14 +45,26 @@ impl World {
     fn new(random: &mut Random) -> World {
         let places = shuffled(random, &PLACES);
         let plain = 1 + random.below(3);
-        let mut values = shuffled(random, &VALUES);
+        // Every other world has no more than document 01 knows.
+        let wide = random.once_in(2);
+        let mut values = shuffled(random, if wide { &VALUES } else { &NARROW_VALUES });
         values.truncate(1 + random.below(3));
         World {
             plain: places[..plain].to_vec(),
             atomic: places[plain..plain + 2].to_vec(),
             mutexes: shuffled(random, &PLACES)[..2].to_vec(),
             values,
+            updates: if wide { &UPDATES } else { &UPDATES[..2] },
             sync_rarity: 3 + random.below(8),
+        }
+    }
+
+    /// All values that a fault may set.
+    fn all_values(&self) -> &'static [Word] {
+        if self.updates.contains(&Kind::Add64) {
+            &VALUES
+        } else {
+            &NARROW_VALUES
         }
     }
 
@@ -73,16 +93,19 @@ impl World {
     }
 
     fn sync_event(&self, random: &mut Random, memory: &Memory) -> Event {
-        let kind = random.pick(&[Kind::ALoad, Kind::AStore, Kind::Rmw, Kind::Add, Kind::Fence, Kind::Lock, Kind::Unlock]);
+        let others = [Kind::ALoad, Kind::AStore, Kind::Fence, Kind::Lock, Kind::Unlock];
+        let kind = random.pick(&[self.updates, &others].concat());
         let place = random.pick(&self.atomic);
         let held = memory[usize::from(place)];
         let value = random.pick(&self.values);
-        let (place, orders, first, second): (u8, &[u8], u32, u32) = match kind {
+        // What does not fit a counter of 32 bits is counted in 64.
+        let kind = if held.max(value) > kind.last_value() { Kind::Add64 } else { kind };
+        let (place, orders, first, second): (u8, &[u8], Word, Word) = match kind {
             Kind::ALoad => (place, &[order::RLX, order::ACQ, order::SC], held, 0),
             Kind::AStore => (place, &[order::RLX, order::REL, order::SC], value, 0),
             // A new value equal to the old is a compare exchange that fails.
             Kind::Rmw => (place, &RMW_ORDERS, held, random.pick(&[value, held])),
-            Kind::Add => (place, &RMW_ORDERS, held, value),
+            Kind::Add | Kind::Add64 => (place, &RMW_ORDERS, held, value),
             Kind::Fence => (0, &RMW_ORDERS[1..], 0, 0),
             _ => (random.pick(&self.mutexes), &[order::NONE], 0, 0),
         };
@@ -96,7 +119,8 @@ fn step(memory: &mut Memory, event: &Event) {
     match event.kind {
         Kind::Store | Kind::AStore => *cell = event.first,
         Kind::Rmw => *cell = event.second,
-        Kind::Add => *cell = event.first.wrapping_add(event.second),
+        Kind::Add => *cell = event.first.wrapping_add(event.second) % (1 << 32),
+        Kind::Add64 => *cell = event.first.wrapping_add(event.second),
         _ => {}
     }
 }
@@ -207,12 +231,12 @@ impl Draft {
         let at = random.below(self.target.len());
         let event = &mut self.target[at];
         match random.below(4) {
-            0 => event.first = random.pick(&VALUES),
+            0 => event.first = random.pick(self.world.all_values()),
             1 => event.place = random.pick(&PLACES),
-            2 if matches!(event.kind, Kind::Rmw | Kind::Add) => event.second = random.pick(&VALUES),
+            2 if UPDATES.contains(&event.kind) => event.second = random.pick(self.world.all_values()),
             2 if matches!(event.kind, Kind::Lock | Kind::Unlock) => event.kind = random.pick(&[Kind::Lock, Kind::Unlock]),
-            _ if matches!(event.kind, Kind::Rmw | Kind::Add) => {
-                event.kind = random.pick(&[Kind::Rmw, Kind::Add]);
+            _ if UPDATES.contains(&event.kind) => {
+                event.kind = random.pick(self.world.updates);
                 event.order = random.pick(&RMW_ORDERS);
             }
             _ => event.order = random.pick(&RMW_ORDERS).max(event.order),
@@ -235,7 +259,7 @@ impl Draft {
     fn other_start(&self, random: &mut Random) -> Memory {
         let mut start = self.start;
         let place = random.pick(&[self.world.plain.as_slice(), &self.world.atomic, &PLACES].concat());
-        start[usize::from(place)] = random.pick(&VALUES);
+        start[usize::from(place)] = random.pick(self.world.all_values());
         start
     }
 }
@@ -293,7 +317,7 @@ pub fn damage(random: &mut Random, text: &mut Vec<u8>) {
             }
         }
         _ => {
-            const BAD_LINES: [&[u8]; 5] = [b"init\t3\t0\n", b"store\t1\t4294967296\n", b"lock\t256\n", b"keep\t801\n", b"keep\t0\n"];
+            const BAD_LINES: [&[u8]; 6] = [b"init\t3\t0\n", b"store\t1\t18446744073709551616\n", b"add\t1\tsc\t0\t4294967296\n", b"lock\t256\n", b"keep\t801\n", b"keep\t0\n"];
             text.splice(line..line, random.pick(&BAD_LINES).to_vec());
         }
     }
@@ -451,7 +475,7 @@ pub fn writing_of(random: &mut Random, text: &[u8], events: usize) -> Writing {
     let change = (words > 0 && random.once_in(2)).then(|| {
         let code = words.min(EVENT_WORDS * (1 + random.below(events.max(1)))) - 1;
         let at = if random.once_in(2) { code } else { random.below(words) };
-        (at, random.pick(&[0, 1, 2, 7, 9, 255, 256, 65_535, 65_536, u32::MAX]))
+        (at, random.pick(&[0, 1, 2, 7, 9, 255, 256, 65_535, 65_536, Word::from(u32::MAX), 1 << 32, Word::MAX]))
     });
     let mut writing = Writing { form, text: text.to_vec(), words, change, bytes: 0 };
     let (memory, words) = writing.read();

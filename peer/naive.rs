@@ -1,7 +1,8 @@
 //! The same check as slowly and literally as the requirement states it: fields
 //! as strings, quadratic searches, one list of tests after another. It exists
 //! to be compared with the fast one and shares no code with it. It stays at
-//! document 01: no later request is in it. `slow.rs` puts traces of form 2 to it.
+//! document 01: no later request is in it, so its values have 32 bits and it knows
+//! no `add64`. `slow.rs` puts to it what later requests read as document 01 does.
 
 pub type Triple = (u32, u32, u32);
 

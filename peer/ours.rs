@@ -1,7 +1,7 @@
 //! The proved library, linked in as `libexport.a` and called through its C
 //! functions, with the results of `peer.rs`.
 
-use crate::peer::{Answer, Checked, Form, MatchingRead, Memory, TraceRead, CELLS};
+use crate::peer::{Answer, Checked, Entry, Form, MatchingRead, Memory, TraceRead, Word, CELLS};
 
 #[path = "../door/laprunto.rs"]
 mod door;
@@ -11,7 +11,7 @@ fn answer(number: usize, side: usize, place: usize) -> Answer {
 }
 
 /// The call itself: number, side, place, events.
-pub fn read_trace_to(text: &[u8], room: &mut [u32], memory: &mut Memory) -> [usize; 4] {
+pub fn read_trace_to(text: &[u8], room: &mut [Word], memory: &mut Memory) -> [usize; 4] {
     let mut result = [STALE; 4];
     // Each pointer is that of a slice and comes with its length.
     unsafe {
@@ -21,9 +21,9 @@ pub fn read_trace_to(text: &[u8], room: &mut [u32], memory: &mut Memory) -> [usi
 }
 
 /// The call itself: number, side, place, source events, target events, entries.
-pub fn check_to(texts: [&[u8]; 3], rooms: [&mut [u32]; 3], memories: &mut [Memory; 2]) -> [usize; 6] {
+pub fn check_to(texts: [&[u8]; 3], rooms: [&mut [Word]; 2], entry_room: &mut [Entry], memories: &mut [Memory; 2]) -> [usize; 6] {
     let [source, target, matching] = texts;
-    let [source_room, target_room, entry_room] = rooms;
+    let [source_room, target_room] = rooms;
     let [source_memory, target_memory] = memories;
     let mut result = [STALE; 6];
     unsafe {
@@ -52,13 +52,13 @@ pub fn check_to(texts: [&[u8]; 3], rooms: [&mut [u32]; 3], memories: &mut [Memor
 const STALE: usize = 77_777;
 const STALE_MEMORY: Memory = [77_777; CELLS];
 
-pub fn read_trace(text: &[u8], room: &mut [u32]) -> TraceRead {
+pub fn read_trace(text: &[u8], room: &mut [Word]) -> TraceRead {
     let mut memory = STALE_MEMORY;
     let [number, side, place, events] = read_trace_to(text, room, &mut memory);
     TraceRead { answer: answer(number, side, place), events, memory }
 }
 
-pub fn read_matching(text: &[u8], room: &mut [u32]) -> MatchingRead {
+pub fn read_matching(text: &[u8], room: &mut [Entry]) -> MatchingRead {
     let mut result = [STALE; 4];
     unsafe {
         door::laprunto_read_matching(text.as_ptr(), text.len(), room.as_mut_ptr(), room.len(), &mut result);
@@ -80,7 +80,7 @@ pub fn trace_form(text: &[u8]) -> u32 {
     unsafe { door::laprunto_trace_form(text.as_ptr(), text.len()) }
 }
 
-pub fn write_trace(form: Form, memory: &Memory, room: &[u32], out: &mut [u8]) -> Answer {
+pub fn write_trace(form: Form, memory: &Memory, room: &[Word], out: &mut [u8]) -> Answer {
     let mut result = [STALE; 3];
     unsafe {
         let form = form_number(form);
@@ -99,9 +99,9 @@ pub fn move_to(to: Form, text: &[u8], out: &mut [u8]) -> Answer {
     answer(number, side, place)
 }
 
-pub fn check(texts: [&[u8]; 3], rooms: [&mut [u32]; 3]) -> Checked {
+pub fn check(texts: [&[u8]; 3], rooms: [&mut [Word]; 2], entry_room: &mut [Entry]) -> Checked {
     let mut memories = [STALE_MEMORY; 2];
-    let [number, side, place, source_events, target_events, entries] = check_to(texts, rooms, &mut memories);
+    let [number, side, place, source_events, target_events, entries] = check_to(texts, rooms, entry_room, &mut memories);
     let answer = answer(number, side, place);
     let [source_memory, target_memory] = memories;
     Checked { answer, source_events, target_events, entries, source_memory, target_memory }

@@ -10,10 +10,12 @@
 
 // ---------------------------------------------------------------- constants
 
-/// The longest matching, and the longest trace of form 1, in bytes.
-pub const MAX_TEXT: usize = 32_400;
+/// The longest matching, in bytes.
+pub const MAX_MATCHING: usize = 32_400;
+/// The longest trace of form 1, in bytes.
+pub const MAX_TEXT: usize = 52_500;
 /// The longest trace of form 2, in bytes.
-pub const MAX_CODED_TEXT: usize = 37_200;
+pub const MAX_CODED_TEXT: usize = 57_300;
 /// The most events of a trace, and the most entries of a matching.
 pub const MAX_EVENTS: usize = 800;
 /// Locations are numbered 0 to 255, and so are mutexes.
@@ -22,17 +24,17 @@ pub const CELLS: usize = 256;
 pub const EVENT_WORDS: usize = 6;
 
 /// The highest location or mutex.
-const MAX_PLACE: u32 = 255;
+const MAX_PLACE: Word = 255;
 /// The highest code line.
-const MAX_CODE: u32 = 65_535;
-/// Ten digits are enough for every lawful number; more are always too many.
-const MAX_DIGITS: usize = 10;
+const MAX_CODE: Word = 65_535;
+/// Twenty digits are enough for every value.
+const MAX_DIGITS: usize = 20;
 /// `lock`, tab, one digit, LF: bounds the events that a text can hold.
 const SHORTEST_EVENT_LINE: usize = 7;
 /// `gone`, LF: bounds the entries that a text can hold.
 const SHORTEST_ENTRY_LINE: usize = 5;
-/// No line that the writer makes is longer: an `rmw` of form 2 with all fields full.
-const LONGEST_LINE: usize = 40;
+/// No line that the writer makes is longer: an `add64` of form 2 with all fields full.
+const LONGEST_LINE: usize = 62;
 
 const TAB: u8 = b'\t';
 const LF: u8 = b'\n';
@@ -126,8 +128,12 @@ pub fn form_of(text: &[u8]) -> Form {
     }
 }
 
+/// A value, and a word of an event.
+pub type Word = u64;
+/// An entry of a matching: the target number, or 0 for gone.
+pub type Entry = u32;
 /// The value of every location.
-pub type Memory = [u32; CELLS];
+pub type Memory = [Word; CELLS];
 
 const ZERO_MEMORY: Memory = [0; CELLS];
 
@@ -196,10 +202,11 @@ pub enum Kind {
     Fence = 7,
     Lock = 8,
     Unlock = 9,
+    Add64 = 10,
 }
 
 /// The kinds in the order of their numbers, from 1.
-const KINDS: [Kind; 9] = [
+const KINDS: [Kind; 10] = [
     Kind::Load,
     Kind::Store,
     Kind::ALoad,
@@ -209,6 +216,7 @@ const KINDS: [Kind; 9] = [
     Kind::Fence,
     Kind::Lock,
     Kind::Unlock,
+    Kind::Add64,
 ];
 
 impl Kind {
@@ -227,6 +235,7 @@ impl Kind {
             Kind::Fence => b"fence",
             Kind::Lock => b"lock",
             Kind::Unlock => b"unlock",
+            Kind::Add64 => b"add64",
         }
     }
 
@@ -237,7 +246,7 @@ impl Kind {
             Kind::Load => 1 << order::USED | 1 << order::UNUSED,
             Kind::ALoad => 1 << order::RLX | 1 << order::ACQ | 1 << order::SC,
             Kind::AStore => 1 << order::RLX | 1 << order::REL | 1 << order::SC,
-            Kind::Rmw | Kind::Add => EACH,
+            Kind::Rmw | Kind::Add | Kind::Add64 => EACH,
             Kind::Fence => EACH & !(1 << order::RLX),
             Kind::Store | Kind::Lock | Kind::Unlock => 1 << order::NONE,
         }
@@ -255,8 +264,16 @@ impl Kind {
     fn values(self) -> usize {
         match self {
             Kind::Load | Kind::Store | Kind::ALoad | Kind::AStore => 1,
-            Kind::Rmw | Kind::Add => 2,
+            Kind::Rmw | Kind::Add | Kind::Add64 => 2,
             Kind::Fence | Kind::Lock | Kind::Unlock => 0,
+        }
+    }
+
+    /// The greatest value that the kind has: `add` counts in 32 bits.
+    pub fn last_value(self) -> Word {
+        match self {
+            Kind::Add => Word::from(u32::MAX),
+            _ => Word::MAX,
         }
     }
 }
@@ -270,33 +287,34 @@ pub struct Event {
     pub place: u8,
     /// The order, or the mark of a load.
     pub order: u8,
-    /// The value; for `rmw` and `add` the old one.
-    pub first: u32,
-    /// `rmw`'s new value, `add`'s operand.
-    pub second: u32,
+    /// The value; for `rmw`, `add` and `add64` the old one.
+    pub first: Word,
+    /// `rmw`'s new value, the operand of `add` and `add64`.
+    pub second: Word,
     /// The code line.
     pub code: u16,
 }
 
 impl Event {
     /// The six words of the event in a room.
-    pub fn words(self) -> [u32; EVENT_WORDS] {
-        [self.kind as u32, self.place.into(), self.order.into(), self.first, self.second, self.code.into()]
+    pub fn words(self) -> [Word; EVENT_WORDS] {
+        [self.kind as Word, self.place.into(), self.order.into(), self.first, self.second, self.code.into()]
     }
 
     /// The event of six words, if they are of the layout.
-    pub fn from_words(words: &[u32]) -> Option<Event> {
+    pub fn from_words(words: &[Word]) -> Option<Event> {
         let &[kind, place, order, first, second, code] = words else {
             return None;
         };
-        let kind = *KINDS.get((kind as usize).checked_sub(1)?)?;
+        let kind = *KINDS.get(usize::try_from(kind).ok()?.checked_sub(1)?)?;
         let place = u8::try_from(place).ok()?;
         let order = u8::try_from(order).ok().filter(|&order| order <= order::UNUSED)?;
         let code = u16::try_from(code).ok()?;
         let lawful = kind.suits(order)
             && (kind.has_place() || place == 0)
             && (kind.values() >= 1 || first == 0)
-            && (kind.values() == 2 || second == 0);
+            && (kind.values() == 2 || second == 0)
+            && first.max(second) <= kind.last_value();
         lawful.then_some(Event { kind, place, order, first, second, code })
     }
 
@@ -323,7 +341,7 @@ struct Cursor<'a> {
 
 /// One line of a trace after the first.
 enum Record {
-    Init { location: u8, value: u32 },
+    Init { location: u8, value: Word },
     Event(Event),
 }
 
@@ -331,8 +349,8 @@ impl Cursor<'_> {
     /// A decimal number of at most `limit` without leading zeros, and the byte
     /// `end` that closes its field.
     #[inline]
-    fn number(&mut self, limit: u32, end: u8) -> Option<u32> {
-        let mut value = 0u64;
+    fn number(&mut self, limit: Word, end: u8) -> Option<Word> {
+        let mut value: Word = 0;
         let mut digits = 0;
         loop {
             let &byte = self.rest.get(digits)?;
@@ -343,18 +361,15 @@ impl Cursor<'_> {
                 }
                 break;
             }
-            if digits == MAX_DIGITS {
-                return None;
-            }
-            value = value * 10 + u64::from(digit);
+            value = value.checked_mul(10)?.checked_add(digit.into())?;
             digits += 1;
         }
         let leading_zero = digits > 1 && self.rest[0] == b'0';
-        if digits == 0 || leading_zero || value > u64::from(limit) {
+        if digits == 0 || leading_zero || value > limit {
             return None;
         }
         self.rest = &self.rest[digits + 1..];
-        Some(value as u32)
+        Some(value)
     }
 
     #[inline]
@@ -363,8 +378,8 @@ impl Cursor<'_> {
     }
 
     #[inline]
-    fn value(&mut self, end: u8) -> Option<u32> {
-        self.number(u32::MAX, end)
+    fn value(&mut self, end: u8) -> Option<Word> {
+        self.number(Word::MAX, end)
     }
 
     /// An order that suits the kind, and the byte that closes its field.
@@ -396,7 +411,7 @@ impl Cursor<'_> {
 
     /// The event of these fields, after which form 2 has the code line.
     #[inline]
-    fn event(&mut self, kind: Kind, place: u8, order: u8, first: u32, second: u32) -> Option<Record> {
+    fn event(&mut self, kind: Kind, place: u8, order: u8, first: Word, second: Word) -> Option<Record> {
         let code = match self.form {
             Form::One => 0,
             Form::Two => self.number(MAX_CODE, LF)? as u16,
@@ -413,6 +428,7 @@ impl Cursor<'_> {
             [b'a', b's', b't', b'o', b'r', b'e', TAB, rest @ ..] => self.after(rest).atomic(Kind::AStore),
             [b'r', b'm', b'w', TAB, rest @ ..] => self.after(rest).atomic_pair(Kind::Rmw),
             [b'a', b'd', b'd', TAB, rest @ ..] => self.after(rest).atomic_pair(Kind::Add),
+            [b'a', b'd', b'd', b'6', b'4', TAB, rest @ ..] => self.after(rest).atomic_pair(Kind::Add64),
             [b'f', b'e', b'n', b'c', b'e', TAB, rest @ ..] => self.after(rest).fence(),
             [b'l', b'o', b'c', b'k', TAB, rest @ ..] => self.after(rest).mutex(Kind::Lock),
             [b'u', b'n', b'l', b'o', b'c', b'k', TAB, rest @ ..] => self.after(rest).mutex(Kind::Unlock),
@@ -456,8 +472,8 @@ impl<'a> Cursor<'a> {
     fn atomic_pair(&mut self, kind: Kind) -> Option<Record> {
         let place = self.place(TAB)?;
         let order = self.order(kind, TAB)?;
-        let first = self.value(TAB)?;
-        let second = self.value(self.form.close())?;
+        let first = self.number(kind.last_value(), TAB)?;
+        let second = self.number(kind.last_value(), self.form.close())?;
         self.event(kind, place, order, first, second)
     }
 
@@ -491,7 +507,7 @@ impl<'a> Cursor<'a> {
             }
             [b'k', b'e', b'e', b'p', TAB, rest @ ..] => {
                 self.rest = rest;
-                let target = self.number(MAX_EVENTS as u32, LF).filter(|&target| target != 0)?;
+                let target = self.number(MAX_EVENTS as Word, LF).filter(|&target| target != 0)?;
                 Some(target as u16)
             }
             _ => None,
@@ -560,7 +576,8 @@ fn replay(start: &Memory, events: &[Event], side: u32) -> Result<(), Answer> {
             Kind::ALoad => (ATOMIC_USE, true, event.first),
             Kind::AStore => (ATOMIC_USE, false, event.first),
             Kind::Rmw => (ATOMIC_USE, true, event.second),
-            Kind::Add => (ATOMIC_USE, true, event.first.wrapping_add(event.second)),
+            Kind::Add => (ATOMIC_USE, true, (event.first + event.second) % (1 << 32)),
+            Kind::Add64 => (ATOMIC_USE, true, event.first.wrapping_add(event.second)),
             Kind::Fence | Kind::Lock | Kind::Unlock => continue,
         };
         let place = usize::from(event.place);
@@ -594,7 +611,7 @@ fn parse_trace(text: &[u8], side: u32, room: usize, memory: &mut Memory) -> Resu
 
 /// Answers 1 to 3 and 17 of a matching, for a room of `room` entries.
 fn parse_matching(text: &[u8], room: usize) -> Result<Vec<u16>, Answer> {
-    within(MAX_TEXT, text, side::MATCHING)?;
+    within(MAX_MATCHING, text, side::MATCHING)?;
     let mut cursor = body(text, MATCHING_HEADER, Form::One, side::MATCHING)?;
     let mut entries = Vec::with_capacity((text.len() / SHORTEST_ENTRY_LINE).min(MAX_EVENTS));
     let mut line = 1;
@@ -615,21 +632,21 @@ fn parse_matching(text: &[u8], room: usize) -> Result<Vec<u16>, Answer> {
 }
 
 /// Puts the events at the front of a room that is long enough.
-fn store_events(events: &[Event], room: &mut [u32]) {
+fn store_events(events: &[Event], room: &mut [Word]) {
     for (event, words) in events.iter().zip(room.chunks_exact_mut(EVENT_WORDS)) {
         words.copy_from_slice(&event.words());
     }
 }
 
 /// Puts the entries at the front of a room that is long enough.
-fn store_entries(entries: &[u16], room: &mut [u32]) {
+fn store_entries(entries: &[u16], room: &mut [Entry]) {
     for (entry, word) in entries.iter().zip(room) {
-        *word = u32::from(*entry);
+        *word = Entry::from(*entry);
     }
 }
 
 /// Reads a trace alone.
-pub fn read_trace(text: &[u8], room: &mut [u32]) -> TraceRead {
+pub fn read_trace(text: &[u8], room: &mut [Word]) -> TraceRead {
     let mut read = TraceRead { answer: Answer::DONE, events: 0, memory: ZERO_MEMORY };
     match parse_trace(text, side::SOURCE, room.len(), &mut read.memory) {
         Ok(events) => {
@@ -642,7 +659,7 @@ pub fn read_trace(text: &[u8], room: &mut [u32]) -> TraceRead {
 }
 
 /// Reads a matching alone.
-pub fn read_matching(text: &[u8], room: &mut [u32]) -> MatchingRead {
+pub fn read_matching(text: &[u8], room: &mut [Entry]) -> MatchingRead {
     match parse_matching(text, room.len()) {
         Ok(entries) => {
             store_entries(&entries, room);
@@ -654,7 +671,7 @@ pub fn read_matching(text: &[u8], room: &mut [u32]) -> MatchingRead {
 
 // ------------------------------------------------------------------ writing
 
-fn push_number(text: &mut Vec<u8>, mut number: u32) {
+fn push_number(text: &mut Vec<u8>, mut number: Word) {
     let mut digits = [0u8; MAX_DIGITS];
     let mut start = MAX_DIGITS;
     loop {
@@ -668,7 +685,7 @@ fn push_number(text: &mut Vec<u8>, mut number: u32) {
     text.extend_from_slice(&digits[start..]);
 }
 
-fn push_number_field(text: &mut Vec<u8>, number: u32) {
+fn push_number_field(text: &mut Vec<u8>, number: Word) {
     text.push(TAB);
     push_number(text, number);
 }
@@ -711,9 +728,9 @@ fn push_event(text: &mut Vec<u8>, form: Form, event: Event) {
     text.push(LF);
 }
 
-fn push_init(text: &mut Vec<u8>, location: usize, value: u32) {
+fn push_init(text: &mut Vec<u8>, location: usize, value: Word) {
     text.extend_from_slice(b"init");
-    push_number_field(text, location as u32);
+    push_number_field(text, location as Word);
     push_number_field(text, value);
     text.push(LF);
 }
@@ -760,7 +777,7 @@ fn wrote(written: Result<usize, Answer>) -> Answer {
 
 /// Answers 3 and 18 of the writer. An event cut short at the end of the part
 /// counts as an event; it has fewer than six words, so it is not of the layout.
-fn unpack(room: &[u32]) -> Result<Vec<Event>, Answer> {
+fn unpack(room: &[Word]) -> Result<Vec<Event>, Answer> {
     if room.len().div_ceil(EVENT_WORDS) > MAX_EVENTS {
         return Err(Answer::new(number::TOO_MANY, side::NONE, MAX_EVENTS + 1));
     }
@@ -774,7 +791,7 @@ fn unpack(room: &[u32]) -> Result<Vec<Event>, Answer> {
 
 /// Writes the text of the events in a part of a room, with `init` lines made
 /// from the starting memory.
-pub fn write_trace(form: Form, memory: &Memory, room: &[u32], out: &mut [u8]) -> Answer {
+pub fn write_trace(form: Form, memory: &Memory, room: &[Word], out: &mut [u8]) -> Answer {
     wrote(unpack(room).and_then(|events| {
         replay(memory, &events, side::NONE)?;
         keep_codes(form, &events, side::NONE)?;
@@ -892,7 +909,7 @@ struct Spot {
     witnessed: bool,
     /// The value of the last kept access or, with none yet, of the first
     /// access if that is a load.
-    witness: u32,
+    witness: Word,
 }
 
 const UNTOUCHED: [Spot; CELLS] = [Spot { highest: 0, stretch: 0, witnessed: false, witness: 0 }; CELLS];
@@ -1021,9 +1038,9 @@ pub fn check(
     source: &[u8],
     target: &[u8],
     matching: &[u8],
-    source_room: &mut [u32],
-    target_room: &mut [u32],
-    entry_room: &mut [u32],
+    source_room: &mut [Word],
+    target_room: &mut [Word],
+    entry_room: &mut [Entry],
 ) -> Checked {
     let mut checked = Checked::refused(Answer::DONE);
     let source = match parse_trace(source, side::SOURCE, source_room.len(), &mut checked.source_memory) {

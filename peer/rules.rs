@@ -1,7 +1,7 @@
 //! The rules of change, word by word, each read on a trace as it stands.
 //! Nothing here is shared with the checker but the type of an event.
 
-use crate::peer::{order, Event, Kind};
+use crate::peer::{order, Event, Kind, Word};
 
 /// The access to the location nearest before position `at`, if it is near.
 fn near_before(trace: &[Event], at: usize, location: u8) -> Option<Event> {
@@ -51,6 +51,6 @@ pub fn may_swap(trace: &[Event], at: usize) -> bool {
 }
 
 /// The value of a load of the location that may be inserted at index `at`.
-pub fn insertable_value(trace: &[Event], at: usize, location: u8) -> Option<u32> {
+pub fn insertable_value(trace: &[Event], at: usize, location: u8) -> Option<Word> {
     near_before(trace, at, location).map(|near| near.first)
 }

@@ -19,7 +19,7 @@ mod rules;
 mod texts;
 
 use cases::Case;
-use peer::{Form, Memory, CELLS, EVENT_WORDS, MAX_CODED_TEXT, MAX_EVENTS};
+use peer::{Entry, Form, Memory, Word, CELLS, EVENT_WORDS, MAX_CODED_TEXT, MAX_EVENTS};
 use random::Random;
 use std::arch::asm;
 use std::hint::black_box;
@@ -34,9 +34,9 @@ const ROUND_NANOS: f64 = 800_000.0;
 
 /// The rooms that every call is lent.
 struct Rooms {
-    source: Vec<u32>,
-    target: Vec<u32>,
-    entries: Vec<u32>,
+    source: Vec<Word>,
+    target: Vec<Word>,
+    entries: Vec<Entry>,
     bytes: Vec<u8>,
     memories: [Memory; 2],
 }
@@ -53,7 +53,7 @@ impl Rooms {
 struct Input {
     case: Case,
     memory: Memory,
-    words: Vec<u32>,
+    words: Vec<Word>,
 }
 
 impl Input {
@@ -123,8 +123,8 @@ const MOVE: Work = Work {
 const CHECK: Work = Work {
     name: "the whole check",
     ours: |input, rooms| {
-        let lent: [&mut [u32]; 3] = [&mut rooms.source, &mut rooms.target, &mut rooms.entries];
-        black_box(ours::check_to(input.case.texts().map(black_box), lent, &mut rooms.memories))[0] as u32
+        let lent: [&mut [Word]; 2] = [&mut rooms.source, &mut rooms.target];
+        black_box(ours::check_to(input.case.texts().map(black_box), lent, &mut rooms.entries, &mut rooms.memories))[0] as u32
     },
     peer: |input, rooms| {
         let [a, b, c] = input.case.texts().map(black_box);

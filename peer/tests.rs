@@ -3,6 +3,7 @@
 //! writer; moves; and random triples against the slow checker.
 
 mod cases;
+mod counters;
 mod forms;
 #[allow(dead_code)]
 mod generate;
@@ -16,11 +17,13 @@ mod texts;
 
 use cases::{Case, Triple};
 use forms::{KnownMove, KnownWriting};
-use peer::{form_of, number, side, Answer, Checked, Form, Memory, CELLS, EVENT_WORDS, MAX_EVENTS};
+use peer::{form_of, number, side, Answer, Checked, Entry, Form, Memory, Word, CELLS, EVENT_WORDS, MAX_EVENTS};
 use random::Random;
+use std::fmt::Debug;
 
 /// What the rooms hold before a call: no lawful word of an event or entry.
-const MARKER: u32 = 0xdead_beef;
+const MARKER: Word = 0xdead_beef_dead_beef;
+const ENTRY_MARKER: Entry = 0xdead_beef;
 /// Words beyond the last whole event of a room. They make room for nothing.
 const SPARE_WORDS: usize = EVENT_WORDS - 1;
 /// What bytes hold before a call.
@@ -37,29 +40,45 @@ fn triple(answer: Answer) -> Triple {
 }
 
 struct Rooms {
-    source: Vec<u32>,
-    target: Vec<u32>,
-    entries: Vec<u32>,
+    source: Vec<Word>,
+    target: Vec<Word>,
+    entries: Vec<Entry>,
 }
 
 fn check(case: &Case) -> (Checked, Rooms) {
     let words = |events: usize| vec![MARKER; events * EVENT_WORDS + SPARE_WORDS];
     let mut rooms =
-        Rooms { source: words(case.rooms[0]), target: words(case.rooms[1]), entries: vec![MARKER; case.rooms[2]] };
+        Rooms { source: words(case.rooms[0]), target: words(case.rooms[1]), entries: vec![ENTRY_MARKER; case.rooms[2]] };
     let checked =
         peer::check(&case.source, &case.target, &case.matching, &mut rooms.source, &mut rooms.target, &mut rooms.entries);
     (checked, rooms)
 }
 
-fn assert_front(room: &[u32], front: &[u32], what: &str) {
+fn assert_front<T: Copy + PartialEq + Debug>(room: &[T], front: &[T], marker: T, what: &str) {
     assert_eq!(&room[..front.len()], front, "{what}: front of the room");
-    assert!(room[front.len()..].iter().all(|&word| word == MARKER), "{what}: rest of the room");
+    assert!(room[front.len()..].iter().all(|&word| word == marker), "{what}: rest of the room");
 }
 
-/// Everything that a check leaves behind, against the slow checker.
-fn compare(case: &Case, what: &str) -> Triple {
+/// The answer to a check, and whether the slow checker gives it too.
+struct Compared {
+    answer: Triple,
+    is_slow: bool,
+}
+
+/// Everything that a check leaves behind, against the slow checker if it knows
+/// such texts; and the readers alone.
+fn compare(case: &Case, what: &str) -> Compared {
     let (checked, rooms) = check(case);
-    let outcome = slow::check(case.texts(), case.rooms);
+    let slow = slow::check(case.texts(), case.rooms);
+    let is_slow = slow.is_some();
+    if let Some(outcome) = slow {
+        compare_slow(case, &checked, &rooms, outcome, what);
+    }
+    compare_readings(case, what);
+    Compared { answer: triple(checked.answer), is_slow }
+}
+
+fn compare_slow(case: &Case, checked: &Checked, rooms: &Rooms, outcome: slow::Outcome, what: &str) {
     assert_eq!(triple(checked.answer), outcome.answer, "{what}: answer");
     let line = peer::offending_line(&case.source, &case.target, checked.answer);
     assert_eq!(line, outcome.line, "{what}: offending line");
@@ -75,11 +94,9 @@ fn compare(case: &Case, what: &str) -> Triple {
     };
     let counts = (checked.source_events, checked.target_events, checked.entries);
     assert_eq!(counts, (source.len() / EVENT_WORDS, target.len() / EVENT_WORDS, entries.len()), "{what}: counts");
-    assert_front(&rooms.source, &source, what);
-    assert_front(&rooms.target, &target, what);
-    assert_front(&rooms.entries, &entries, what);
-    compare_readings(case, what);
-    triple(checked.answer)
+    assert_front(&rooms.source, &source, MARKER, what);
+    assert_front(&rooms.target, &target, MARKER, what);
+    assert_front(&rooms.entries, &entries, ENTRY_MARKER, what);
 }
 
 /// The readers alone, against the check of which they are parts.
@@ -100,7 +117,7 @@ fn compare_readings(case: &Case, what: &str) {
         }
         compare_moves(text, what);
     }
-    let mut room = vec![MARKER; case.rooms[2]];
+    let mut room = vec![ENTRY_MARKER; case.rooms[2]];
     let read = peer::read_matching(&case.matching, &mut room);
     let alone = Case { source: cases::trace(""), target: cases::trace(""), matching: case.matching.clone(), rooms: [0, 0, case.rooms[2]] };
     let (checked, rooms) = check(&alone);
@@ -123,7 +140,7 @@ fn written(what: &str, bytes: usize, write: impl Fn(&mut [u8]) -> Answer) -> (Tr
 }
 
 /// The writer gives back the very text that was read.
-fn write_back(read: &peer::TraceRead, room: &[u32], text: &[u8], what: &str) {
+fn write_back(read: &peer::TraceRead, room: &[Word], text: &[u8], what: &str) {
     let part = &room[..read.events * EVENT_WORDS];
     let write = |bytes| written(what, bytes, |out| peer::write_trace(form_of(text), &read.memory, part, out));
     let size = text.len() as u32;
@@ -135,7 +152,9 @@ fn write_back(read: &peer::TraceRead, room: &[u32], text: &[u8], what: &str) {
 
 fn move_to(to: Form, text: &[u8], bytes: usize, what: &str) -> (Triple, Vec<u8>) {
     let moved = written(what, bytes, |out| peer::move_to(to, text, out));
-    assert_eq!(moved, slow::moved(to == Form::Two, text, bytes), "{what}: move to {to:?}");
+    if let Some(slow) = slow::moved(to == Form::Two, text, bytes) {
+        assert_eq!(moved, slow, "{what}: move to {to:?}");
+    }
     moved
 }
 
@@ -151,9 +170,9 @@ fn compare_moves(text: &[u8], what: &str) {
 }
 
 fn known_cases() -> usize {
-    let known = [cases::all(), forms::checks()].concat();
+    let known = [cases::all(), forms::checks(), counters::checks()].concat();
     for known in &known {
-        assert_eq!(compare(&known.case, &known.name), known.answer, "{}: answer by hand", known.name);
+        assert_eq!(compare(&known.case, &known.name).answer, known.answer, "{}: answer by hand", known.name);
     }
     known.len()
 }
@@ -180,7 +199,7 @@ fn parts_of_texts() {
 }
 
 fn known_moves() -> usize {
-    let moves = forms::moves();
+    let moves = [forms::moves(), counters::moves()].concat();
     for KnownMove { name, handed, answer, moved } in &moves {
         let what = format!("move: {name}");
         assert_eq!(move_to(handed.to, &handed.text, handed.bytes, &what), (*answer, moved.clone()), "{what}");
@@ -190,7 +209,7 @@ fn known_moves() -> usize {
 
 /// The writings that are known by hand; what is written is read back.
 fn known_writings() -> usize {
-    let writings = forms::writings();
+    let writings = [forms::writings(), counters::writings()].concat();
     for KnownWriting { name, handed, answer: by_hand } in &writings {
         let what = format!("writing: {name}");
         let (memory, words) = handed.read();
@@ -209,18 +228,20 @@ fn known_writings() -> usize {
 /// The refusals of the writer, with words that no reader makes.
 fn writer_cases() -> usize {
     let lock = [8, 0, 0, 0, 0, 0];
-    let bad: &[[u32; 6]] = &[
-        [0, 0, 0, 0, 0, 0], [10, 0, 0, 0, 0, 0], [u32::MAX, 0, 0, 0, 0, 0], [257, 0, 0, 0, 0, 0],
+    const LAST_32: Word = u32::MAX as Word;
+    let bad: &[[Word; 6]] = &[
+        [0, 0, 0, 0, 0, 0], [11, 0, 0, 0, 0, 0], [Word::MAX, 0, 0, 0, 0, 0], [(1 << 32) + 8, 0, 0, 0, 0, 0], [257, 0, 0, 0, 0, 0],
         [1, 0, 0, 0, 0, 0], [1, 0, 5, 0, 0, 0], [1, 0, 8, 0, 0, 0], [1, 256, 6, 0, 0, 0], [1, 0, 6, 0, 1, 0], [1, 0, 6, 0, 0, 65_536],
         [2, 0, 1, 0, 0, 0], [2, 0, 6, 0, 0, 0], [2, 256, 0, 0, 0, 0], [2, 0, 0, 0, 7, 0], [2, 0, 256, 0, 0, 0],
         [3, 0, 0, 0, 0, 0], [3, 0, 3, 0, 0, 0], [3, 0, 4, 0, 0, 0], [3, 0, 1, 0, 1, 0], [3, 0, 257, 0, 0, 0],
         [4, 0, 2, 0, 0, 0], [4, 0, 4, 0, 0, 0], [4, 0, 1, 0, 1, 0], [5, 0, 0, 0, 0, 0], [5, 0, 6, 0, 0, 0], [5, 300, 1, 0, 0, 0],
-        [5, 0, 1, 0, 0, 99_999], [6, 0, 7, 0, 0, 0], [6, 0, u32::MAX, 0, 0, 0], [7, 0, 1, 0, 0, 0], [7, 1, 2, 0, 0, 0],
+        [5, 0, 1, 0, 0, 99_999], [6, 0, 7, 0, 0, 0], [6, 0, LAST_32, 0, 0, 0], [6, 0, 1, 0, LAST_32 + 1, 0], [6, 0, 1, LAST_32 + 1, 0, 0], [6, 0, 1, Word::MAX, 1, 0], [7, 0, 1, 0, 0, 0], [7, 1, 2, 0, 0, 0],
         [7, 0, 2, 1, 0, 0], [7, 0, 2, 0, 1, 0], [7, 0, 0, 0, 0, 0], [8, 256, 0, 0, 0, 0], [8, 0, 1, 0, 0, 0], [8, 0, 0, 1, 0, 0],
-        [9, 0, 0, 0, 1, 0], [9, 0, 0, 0, 0, u32::MAX], [9, 0, 5, 0, 0, 0],
+        [9, 0, 0, 0, 1, 0], [9, 0, 0, 0, 0, Word::MAX], [9, 0, 5, 0, 0, 0],
+        [10, 0, 0, 0, 0, 0], [10, 0, 6, 0, 0, 0], [10, 256, 1, 0, 0, 0], [10, 0, 1, 0, 0, 65_536], [2, 1 << 32, 0, 0, 0, 0], [8, 0, 1 << 32, 0, 0, 0],
     ];
-    let write_in = |form, memory: &Memory, room: &[u32]| written("writer", 100, |out| peer::write_trace(form, memory, room, out)).0;
-    let write = |memory: &Memory, room: &[u32]| write_in(Form::One, memory, room);
+    let write_in = |form, memory: &Memory, room: &[Word]| written("writer", 100, |out| peer::write_trace(form, memory, room, out)).0;
+    let write = |memory: &Memory, room: &[Word]| write_in(Form::One, memory, room);
     for words in bad {
         for form in FORMS {
             assert_eq!(write_in(form, &ZERO, words), (number::BAD_FIELDS, 0, 1), "{words:?}");
@@ -246,16 +267,19 @@ fn writer_cases() -> usize {
     bad.len()
 }
 
-/// Random triples, every other of traces of both forms.
-fn random_cases(seed: u64, count: usize) -> [usize; ANSWERS] {
+/// Random triples, every other of traces of both forms: how many have each answer,
+/// and how many the slow checker knows.
+fn random_cases(seed: u64, count: usize) -> ([usize; ANSWERS], usize) {
     let mut random = Random::new(seed);
     let mut answers = [0; ANSWERS];
+    let mut slow = 0;
     for index in 0..count {
         let case = if index % 2 == 0 { generate::case(&mut random) } else { generate::mixed_case(&mut random) };
-        let answer = compare(&case, &format!("random case {index} of seed {seed}"));
-        answers[answer.0 as usize] += 1;
+        let compared = compare(&case, &format!("random case {index} of seed {seed}"));
+        answers[compared.answer.0 as usize] += 1;
+        slow += usize::from(compared.is_slow);
     }
-    answers
+    (answers, slow)
 }
 
 /// Runs of the rules on longer traces are accepted.
@@ -267,7 +291,7 @@ fn lawful_cases(seed: u64, count: usize) {
             generate::add_codes(&mut random, &mut case.source);
             generate::add_codes(&mut random, &mut case.target);
         }
-        assert_eq!(compare(&case, &format!("lawful case {index} of seed {seed}")), (0, 0, 0));
+        assert_eq!(compare(&case, &format!("lawful case {index} of seed {seed}")).answer, (0, 0, 0));
     }
 }
 
@@ -283,6 +307,6 @@ fn main() {
     println!("{} moves and {} writings known by hand: ok", known_moves(), known_writings());
     lawful_cases(seed, LAWFUL);
     println!("{LAWFUL} lawful changes of up to 119 events: accepted");
-    let answers = random_cases(seed, count);
-    println!("{count} random cases agree with the slow checker; by answer {answers:?}");
+    let (answers, slow) = random_cases(seed, count);
+    println!("{count} random cases, {slow} of them agree with the slow checker; by answer {answers:?}");
 }

@@ -16,6 +16,7 @@ pub fn event_line(event: &Event) -> String {
         Kind::AStore => format!("astore\t{place}\t{order}\t{first}\n"),
         Kind::Rmw => format!("rmw\t{place}\t{order}\t{first}\t{second}\n"),
         Kind::Add => format!("add\t{place}\t{order}\t{first}\t{second}\n"),
+        Kind::Add64 => format!("add64\t{place}\t{order}\t{first}\t{second}\n"),
         Kind::Fence => format!("fence\t{order}\n"),
         Kind::Lock => format!("lock\t{place}\n"),
         Kind::Unlock => format!("unlock\t{place}\n"),
