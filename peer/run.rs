@@ -19,46 +19,33 @@ mod steps;
 #[allow(dead_code)]
 mod texts;
 
-use peer::{check, offending_line, Event, EVENT_WORDS, MAX_EVENTS};
+use peer::{offending_line, EVENT_WORDS, MAX_EVENTS};
 use random::Random;
 use std::io::Write;
 use std::process::{exit, Command};
 
-fn events(room: &[u32], count: usize) -> Vec<Event> {
-    room.chunks(EVENT_WORDS).take(count).map(|words| Event::from_words(words).expect("a room holds events")).collect()
-}
-
 /// What is printed of three texts, and how many steps it has.
-fn printed(source: &[u8], target: &[u8], matching: &[u8]) -> Result<(Vec<u8>, usize), String> {
-    let mut rooms = [vec![0; MAX_EVENTS * EVENT_WORDS], vec![0; MAX_EVENTS * EVENT_WORDS], vec![0; MAX_EVENTS]];
-    let [source_room, target_room, entry_room] = &mut rooms;
-    let checked = check(source, target, matching, source_room, target_room, entry_room);
-    let answer = checked.answer;
+fn printed(texts: [&[u8]; 3]) -> Result<(Vec<u8>, usize), String> {
+    let run = steps::run(texts)?;
+    let answer = run.answer;
     let word = if answer.number == 0 { "accepted" } else { "refused" };
     let mut out = format!("{word}\t{}\t{}\t{}\n", answer.number, answer.side, answer.place).into_bytes();
-    let line = offending_line(source, target, answer);
+    let line = offending_line(texts[0], texts[1], answer);
     if !line.is_empty() {
         out.extend_from_slice(line);
         out.push(b'\n');
     }
-    if answer.number != 0 {
-        return Ok((out, 0));
-    }
-    let source = events(source_room, checked.source_events);
-    let target = events(target_room, checked.target_events);
-    let entries: Vec<usize> = entry_room[..checked.entries].iter().map(|&entry| entry as usize).collect();
-    let steps = steps::steps(&source, &target, &entries).ok_or("a gone event is stuck")?;
-    out.extend_from_slice(steps::lines(&source, &target, &steps).as_bytes());
-    Ok((out, steps.len()))
+    out.extend_from_slice(steps::lines(&run).as_bytes());
+    Ok((out, run.steps.len()))
 }
 
 /// The replay of the steps that another program printed.
 fn replayed(source: &[u8], target: &[u8], lines: &[u8]) -> Result<(), String> {
     let mut room = vec![0; MAX_EVENTS * EVENT_WORDS];
     let count = peer::read_trace(source, &mut room).events;
-    let source = events(&room, count);
+    let source = steps::events(&room, count);
     let count = peer::read_trace(target, &mut room).events;
-    let target = events(&room, count);
+    let target = steps::events(&room, count);
     let number = |field: &str| field.parse::<usize>().map_err(|_| format!("no number: {field}"));
     let mut steps = Vec::new();
     for line in String::from_utf8_lossy(lines).lines().skip(1) {
@@ -81,7 +68,7 @@ fn compared(program: &str, texts: [&[u8]; 3]) -> Result<usize, String> {
         std::fs::write(name, text).map_err(|error| error.to_string())?;
     }
     let ours = Command::new(program).args(&names).output().map_err(|error| error.to_string())?.stdout;
-    let (peers, count) = printed(texts[0], texts[1], texts[2])?;
+    let (peers, count) = printed(texts)?;
     if ours != peers {
         return Err(format!("ours\n{}\npeer\n{}", String::from_utf8_lossy(&ours), String::from_utf8_lossy(&peers)));
     }
@@ -114,7 +101,7 @@ fn main() {
         ["--beside", program, count, seed] => beside(program, count.parse().expect("a count"), seed.parse().expect("a seed")),
         [source, target, matching] => {
             let texts = [source, target, matching].map(|name| std::fs::read(name).unwrap_or_default());
-            printed(&texts[0], &texts[1], &texts[2])
+            printed([&texts[0], &texts[1], &texts[2]])
                 .and_then(|(out, _)| std::io::stdout().write_all(&out).map_err(|error| error.to_string()))
         }
         _ => Err(String::from("usage: run SOURCE TARGET MATCHING, or run --beside PROGRAM COUNT [SEED]")),

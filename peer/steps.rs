@@ -1,7 +1,7 @@
 //! The run of an accepted matching in the fixed order, and a replay of steps by
 //! the rules alone. Ordinary Rust, beside the proved one.
 
-use crate::peer::{Event, Kind};
+use crate::peer::{check, Answer, Event, Kind, Word, EVENT_WORDS, MAX_EVENTS};
 use crate::rules::{insertable_value, may_remove, may_swap};
 use crate::texts::event_line;
 use std::fmt::Write;
@@ -12,6 +12,35 @@ pub enum Step {
     Remove { place: usize, number: usize },
     Swap { place: usize },
     Insert { place: usize },
+}
+
+/// What a check of three texts gives: its answer, the events and the steps,
+/// which a refused matching has none of.
+pub struct Run {
+    pub answer: Answer,
+    pub source: Vec<Event>,
+    pub target: Vec<Event>,
+    pub steps: Vec<Step>,
+}
+
+/// The events of a room.
+pub fn events(room: &[Word], count: usize) -> Vec<Event> {
+    room.chunks(EVENT_WORDS).take(count).map(|words| Event::from_words(words).expect("a room holds events")).collect()
+}
+
+/// The run of three texts, checked in rooms that hold the most.
+pub fn run([source, target, matching]: [&[u8]; 3]) -> Result<Run, String> {
+    let [mut source_room, mut target_room] = [(); 2].map(|()| vec![0; MAX_EVENTS * EVENT_WORDS]);
+    let mut entry_room = vec![0; MAX_EVENTS];
+    let checked = check(source, target, matching, &mut source_room, &mut target_room, &mut entry_room);
+    if checked.answer.number != 0 {
+        return Ok(Run { answer: checked.answer, source: vec![], target: vec![], steps: vec![] });
+    }
+    let source = events(&source_room, checked.source_events);
+    let target = events(&target_room, checked.target_events);
+    let entries: Vec<usize> = entry_room[..checked.entries].iter().map(|&entry| entry as usize).collect();
+    let steps = steps(&source, &target, &entries).ok_or("a gone event is stuck")?;
+    Ok(Run { answer: checked.answer, source, target, steps })
 }
 
 /// The gone events, the highest first of those that may be removed now.
@@ -45,7 +74,7 @@ fn swaps(numbers: &mut [usize], steps: &mut Vec<Step>) {
 }
 
 /// The whole run, or nothing if a gone event cannot be removed.
-pub fn steps(source: &[Event], target: &[Event], entries: &[usize]) -> Option<Vec<Step>> {
+fn steps(source: &[Event], target: &[Event], entries: &[usize]) -> Option<Vec<Step>> {
     let mut steps = Vec::new();
     let mut numbers = entries.to_vec();
     if !removals(&mut source.to_vec(), &mut numbers, &mut steps) {
@@ -105,8 +134,8 @@ pub fn replay(source: &[Event], target: &[Event], steps: &[Step]) -> Result<(), 
     if ended { Ok(()) } else { Err(String::from("the run does not end at the target")) }
 }
 
-/// The lines that the program prints for the steps.
-pub fn lines(source: &[Event], target: &[Event], steps: &[Step]) -> String {
+/// The lines that the program prints for the steps of a run.
+pub fn lines(Run { source, target, steps, .. }: &Run) -> String {
     let mut text = String::new();
     for &step in steps {
         let done = match step {

@@ -38,6 +38,17 @@
 //!
 //! The raw bytes are the trace and the written text.
 //!
+//! `runs` holds whole runs, in rooms that hold the most:
+//!
+//!   source length, target length, matching length (bytes),
+//!   source room, target room, entry room (words: 4,800, 4,800 and 800),
+//!   answer number, side, place, length of the lines of the steps (0 if refused),
+//!   the name.
+//!
+//! The raw bytes are the source, the target, the matching and the lines of the
+//! steps, as `laprunto_run` prints them after the answer. The replay of
+//! `steps.rs`, which knows the rules alone, accepts each run.
+//!
 //! The cases known by hand come first, then random ones until every answer has
 //! its share. Each answer to a check or a move of texts that document 01 reads
 //! alike is given by the fast checker and the slow one, or the program stops.
@@ -55,9 +66,10 @@ mod random;
 mod rules;
 #[allow(dead_code)]
 mod slow;
+mod steps;
 mod texts;
 
-use cases::{Case, Known, Triple};
+use cases::{Case, Known, Triple, ALL, DONE};
 use forms::{KnownMove, KnownWriting, Move, Writing};
 use peer::{form_of, Answer, Form};
 use random::Random;
@@ -136,6 +148,36 @@ const MOVE_SHARES: [((u32, u32), usize); 7] =
 
 const WRITING_SHARES: [((u32, u32), usize); 6] =
     [((0, 0), 80), ((5, 0), 10), ((6, 0), 20), ((17, 0), 40), ((18, 0), 60), ((19, 0), 60)];
+
+/// Runs that are accepted, most with steps of every kind, and a few that are not.
+const RUN_SHARES: [((u32, u32), usize); 9] = [
+    ((0, 0), 300),
+    ((2, 1), 4),
+    ((6, 2), 4),
+    ((9, 3), 4),
+    ((11, 1), 4),
+    ((12, 1), 4),
+    ((13, 1), 4),
+    ((14, 1), 4),
+    ((16, 2), 4),
+];
+
+/// A lawful triple of a run has up to so many events.
+const RUN_EVENTS: usize = 40;
+
+/// So many stores, all in the other order, are swapped each with each.
+const BACKWARDS: usize = 100;
+
+/// The three texts of an example.
+macro_rules! example {
+    ($name:literal) => {
+        [
+            include_bytes!(concat!("../examples/", $name, "/source")),
+            include_bytes!(concat!("../examples/", $name, "/target")),
+            include_bytes!(concat!("../examples/", $name, "/matching")).as_slice(),
+        ]
+    };
+}
 
 /// The words of the rooms of a case: six for each event, one for each entry;
 /// in every third vector some words to spare, too few for one more event.
@@ -278,6 +320,22 @@ fn writing_vector(writing: &Writing, _: usize) -> Vector<'_> {
     }
 }
 
+/// A run, which the rules must allow.
+fn run_vector(case: &Case, _: usize) -> Vector<'_> {
+    let run = steps::run(case.texts()).expect("no gone event is stuck");
+    if run.answer.number == peer::number::DONE {
+        steps::replay(&run.source, &run.target, &run.steps).expect("the rules allow the run");
+    }
+    let lengths = case.texts().map(<[u8]>::len);
+    let rooms = [peer::MAX_EVENTS * peer::EVENT_WORDS, peer::MAX_EVENTS * peer::EVENT_WORDS, peer::MAX_EVENTS];
+    Vector {
+        numbers: [lengths, rooms].concat(),
+        handed: case.texts().to_vec(),
+        answer: triple(run.answer),
+        given: steps::lines(&run).into_bytes(),
+    }
+}
+
 fn add_known_checks(file: &mut File, known: &[Known]) {
     for Known { name, case, answer } in known {
         let vector = check_vector(case, file.vectors + 1);
@@ -365,13 +423,76 @@ fn writings(random: &mut Random) -> File {
     file
 }
 
+fn all_room([source, target, matching]: [&[u8]; 3]) -> Case {
+    Case { source: source.to_vec(), target: target.to_vec(), matching: matching.to_vec(), rooms: [ALL; 3] }
+}
+
+fn examples() -> Vec<Known> {
+    let known = |name: &str, texts, answer| Known { name: format!("example {name}"), case: all_room(texts), answer };
+    vec![
+        known("lock", example!("lock"), (12, 1, 2)),
+        known("task", example!("task"), DONE),
+        known("code", example!("code"), (14, 1, 7)),
+        known("count", example!("count"), DONE),
+    ]
+}
+
+fn backwards() -> Known {
+    let stores = |locations: &mut dyn Iterator<Item = usize>| {
+        let lines: String = locations.map(|location| format!("store {location} 1;")).collect();
+        cases::trace(&lines)
+    };
+    let keeps: String = (1..=BACKWARDS).rev().map(|number| format!("keep {number};")).collect();
+    let texts = [stores(&mut (0..BACKWARDS)), stores(&mut (0..BACKWARDS).rev()), cases::matching(&keeps)];
+    Known { name: format!("{BACKWARDS} stores backwards"), case: all_room([&texts[0], &texts[1], &texts[2]]), answer: DONE }
+}
+
+/// A lawful triple with a removal, a swap and an insertion, each of its traces in one of the forms.
+fn changed_case(random: &mut Random) -> Case {
+    loop {
+        let events = 3 + random.below(RUN_EVENTS - 2);
+        let mut case = generate::lawful_case(random, events);
+        for text in [&mut case.source, &mut case.target] {
+            if random.once_in(2) {
+                generate::add_codes(random, text);
+            }
+        }
+        let lines = String::from_utf8(run_vector(&case, 0).given).expect("lines are ASCII");
+        if ["remove", "swap", "insert"].iter().all(|word| lines.contains(word)) {
+            return case;
+        }
+    }
+}
+
+/// Whole runs: those of the requirement and the examples, every other one known
+/// by hand that has a step, and random ones.
+fn runs(random: &mut Random) -> File {
+    let mut file = File::default();
+    let requirement = cases::runs();
+    let others = [cases::all().split_off(requirement.len()), forms::checks(), counters::checks()].concat();
+    let has_step = |known: &Known| known.answer == DONE && !run_vector(&known.case, 0).given.is_empty();
+    let first = requirement.into_iter().chain(examples()).chain([backwards()]);
+    for Known { name, case, answer } in first.chain(others.into_iter().filter(has_step)) {
+        file.add_known(&name, &run_vector(&case, 0), answer);
+    }
+    let draw = || if random.once_in(2) { changed_case(random) } else { generate::mixed_case(random) };
+    file.add_random(&RUN_SHARES, draw, run_vector);
+    file
+}
+
 fn main() {
     let mut arguments = std::env::args().skip(1);
     let folder = arguments.next().expect("the folder to write the files in");
     let folder = Path::new(&folder);
     let seed = arguments.next().map_or(1, |seed| seed.parse().expect("the seed is a number"));
-    let files: [(&str, fn(&mut Random) -> File); 5] =
-        [("vectors", checks), ("forms", form_checks), ("counters", counter_checks), ("moves", moves), ("writes", writings)];
+    let files: [(&str, fn(&mut Random) -> File); 6] = [
+        ("vectors", checks),
+        ("forms", form_checks),
+        ("counters", counter_checks),
+        ("moves", moves),
+        ("writes", writings),
+        ("runs", runs),
+    ];
     for (name, make) in files {
         make(&mut Random::new(seed)).write(folder, name);
     }

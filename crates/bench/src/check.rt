@@ -204,9 +204,9 @@ pub(crate) fn run_check(data: &[u8], at: usize, ordinal: usize) -> Ran {
     let outcome = outcome_of(
         between(data, vector.source, vector.target),
         between(data, vector.target, vector.matching),
-        between(data, vector.matching, vector.line),
+        between(data, vector.matching, vector.given),
         header,
-        between(data, vector.line, vector.end),
+        between(data, vector.given, vector.end),
     );
     let answer = outcome.answer;
     let source_back = outcome.source_back;

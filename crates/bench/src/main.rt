@@ -1,8 +1,9 @@
-// Checks the files of the examples as the program does, then runs every vector of five files and prints which differ.
+// Checks the files of the examples as the program does, then runs every vector of six files and prints which differ.
 mod back;
 mod check;
 mod lent;
 mod moves;
+mod runs;
 mod tell;
 mod vector;
 mod writes;
@@ -18,6 +19,7 @@ use files::print::print;
 use files::print::print_number;
 use files::read::read_file;
 use moves::run_move;
+use runs::run_steps;
 use tell::Ran;
 use tell::and_more;
 use vector::forth;
@@ -31,9 +33,10 @@ enum Task {
     Check,
     Move,
     Write,
+    Run,
 }
 
-// How many vectors were run, how many differ, and how many texts came back as they were.
+// How many vectors were run, how many differ, and how many texts came back as they were or steps were followed.
 struct Totals {
     vectors: usize,
     differing: usize,
@@ -84,6 +87,7 @@ fn run_at(task: Task, data: &[u8], at: usize, ordinal: usize) -> Ran {
         Task::Check => run_check(data, at, ordinal),
         Task::Move => run_move(data, at, ordinal),
         Task::Write => run_write(data, at, ordinal),
+        Task::Run => run_steps(data, at, ordinal),
     }
 }
 
@@ -145,7 +149,7 @@ fn print_counts(counts: &[usize; ANSWERS]) {
     }
 }
 
-// Every vector of a file run, and the totals printed; `back` says what it is for a text to come back.
+// Every vector of a file run, and the totals printed; `back` says what it is for a text to come back, or that steps were followed.
 fn run_file(task: Task, name: &[u8], back: &[u8]) {
     let mut counts: [usize; ANSWERS] = [0; ANSWERS];
     let mut data = vectors_buffer();
@@ -169,4 +173,5 @@ fn main() {
     run_file(Task::Check, b"counters", b"written back");
     run_file(Task::Move, b"moves", b"moved back");
     run_file(Task::Write, b"writes", b"written back");
+    run_file(Task::Run, b"runs", b"steps");
 }

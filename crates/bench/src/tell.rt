@@ -10,7 +10,7 @@ use files::print::print;
 use files::print::print_answer;
 use files::print::print_number;
 
-// What a vector gives: its answer, whether all is as the vector says, how many texts came back, and where the vector ends.
+// What a vector gives: its answer, whether all is as the vector says, how many texts came back or steps were followed, and where the vector ends.
 pub(crate) struct Ran {
     pub answer: Answer,
     pub right: bool,

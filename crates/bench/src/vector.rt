@@ -10,7 +10,7 @@ const BLANK: u8 = 32;
 // No number of a header is greater: a word of an event may be one.
 const MOST: u64 = 18446744073709551615;
 
-// Which number of a check's header is which.
+// Which number of a check's and a run's header is which.
 pub(crate) const SOURCE_BYTES: usize = 0;
 
 pub(crate) const TARGET_BYTES: usize = 1;
@@ -47,13 +47,13 @@ pub(crate) const GIVEN_BYTES: usize = 9;
 
 const NAME: usize = 10;
 
-// Where the parts of a check begin; each ends where the next begins. The offending line is what comes back.
+// Where the parts of a check or a run begin; each ends where the next begins. What comes back is the offending line, or the lines of the steps.
 pub(crate) struct CheckVector {
     pub header_end: usize,
     pub source: usize,
     pub target: usize,
     pub matching: usize,
-    pub line: usize,
+    pub given: usize,
     pub end: usize,
 }
 
@@ -115,21 +115,21 @@ pub(crate) fn name_of(header: &[u8]) -> &[u8] {
     between(header, from, header.len())
 }
 
-// The check that begins at a place.
+// The check or the run that begins at a place.
 pub(crate) fn check_vector(data: &[u8], at: usize) -> CheckVector {
     let header_end = line_end(data, at);
     let header = between(data, at, header_end);
     let source = forth(data, header_end, 1);
     let target = forth(data, source, number_at(header, SOURCE_BYTES));
     let matching = forth(data, target, number_at(header, TARGET_BYTES));
-    let line = forth(data, matching, number_at(header, MATCHING_BYTES));
-    let end = forth(data, line, number_at(header, GIVEN_BYTES));
+    let given = forth(data, matching, number_at(header, MATCHING_BYTES));
+    let end = forth(data, given, number_at(header, GIVEN_BYTES));
     CheckVector {
         header_end,
         source,
         target,
         matching,
-        line,
+        given,
         end,
     }
 }

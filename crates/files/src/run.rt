@@ -23,7 +23,7 @@ use trace::writing::write_event;
 const MOST_STEPS: usize = 321200;
 
 // The most bytes of a step's line.
-const LINE: usize = 64;
+pub const LINE: usize = 64;
 
 // Bytes put at a place; what comes back is the place after those that fit.
 fn put(out: &mut [u8], at: usize, bytes: &[u8]) -> usize {
@@ -68,7 +68,7 @@ fn put_event(out: &mut [u8], at: usize, room: &[Word], number: usize) -> usize {
 }
 
 // The line of a step.
-fn put_step(out: &mut [u8], at: usize, step: Step, source: &[Word], target: &[Word]) -> usize {
+pub fn put_step(out: &mut [u8], at: usize, step: Step, source: &[Word], target: &[Word]) -> usize {
     match step {
         Step::Remove { place, number } => {
             let word = put(out, at, b"remove");
@@ -103,7 +103,7 @@ fn with_room(out: &[u8], at: usize) -> usize {
 }
 
 // The place of a swap; 0 of another step.
-fn swap_place(step: Step) -> usize {
+pub fn swap_place(step: Step) -> usize {
     match step {
         Step::Remove { place, number } => 0,
         Step::Swap { place } => place,
@@ -145,7 +145,7 @@ fn print_steps(
 }
 
 // The part of a room that holds its events.
-fn events_of(room: &[Word], events: usize) -> &[Word] {
+pub fn events_of(room: &[Word], events: usize) -> &[Word] {
     if room.len() / WORDS < events {
         return room;
     }
@@ -154,7 +154,7 @@ fn events_of(room: &[Word], events: usize) -> &[Word] {
 }
 
 // The part of a room that holds its entries.
-fn entries_of(room: &[Entry], entries: usize) -> &[Entry] {
+pub fn entries_of(room: &[Entry], entries: usize) -> &[Entry] {
     if room.len() < entries {
         return room;
     }
