@@ -1,4 +1,4 @@
--- P1 to P12 of document 01, and C-13's cases: the check's own definition computes on their texts, and its answers are the tables'. Assumes nothing.
+-- P1 to P12 of document 01, and the cases of C-13 and C-15: the check's own definition computes on their texts, and its answers are the tables'. Assumes nothing.
 use mathlib.Core.Path.{_≡_, refl}
 use mathlib.Core.Bool.{true}
 use Rattle.event.specs.Answer.{answer}
@@ -8,9 +8,10 @@ use Rattle.text.specs.Cut.{cut}
 use Rattle.text.specs.Number.{allDigits, valueOn, digitsOn, numberOf}
 use Rattle.text.specs.Word.{bytes, sameBytes}
 use Rattle.record.specs.Layout.{numberIn}
-use Rattle.record.specs.Record.{numberIf, orderIf, eventRest, initRest, recordOf}
-use Rattle.trace.specs.Fault.{uses, eventFault}
-use Rattle.trace.specs.Reading.{formOf, startIn, faultOf, surveyOf, eventsOf, readOf}
+use Rattle.record.specs.Record.{numberIf, orderIf, eventRest, initRest, unlessSilent, recordOf}
+use Rattle.trace.specs.Cover.{lined, coverFault}
+use Rattle.trace.specs.Fault.{uses, firstBad, eventFault}
+use Rattle.trace.specs.Reading.{formOf, startIn, faultOf, surveyOf, eventsOf, initsOf, readOf}
 use Rattle.matching.specs.Entry.{keepRest, goneRest, entryOf}
 use Rattle.frame.specs.Reading.{headFault, linesFault, textFault}
 use Rattle.matching.specs.Reading.{entriesOf, surveyOf as matchingSurvey, readOf as matchingRead}
@@ -18,20 +19,23 @@ use Rattle.text.specs.Line.{saidIn}
 use Rattle.rules.specs.Verdict.{startAnswer, countAnswer, entryAnswer, sourceAnswer, targetAnswer, verdict}
 use Rattle.checker.specs.Check.{readingAnswer, verdictOf, checkOf}
 use Rattle.checker.specs.Line.{counted, nthLine, lineOf, faultSide, offending, offendingLine, standing}
-use Rattle.checker.specs.Cases.{table, counters, all-hold}
+use Rattle.checker.specs.Cases.{table, counters, zeros, all-hold}
 
-cases : (all-hold table ≡ true) × (all-hold counters ≡ true)
+cases : (all-hold table ≡ true) × ((all-hold counters ≡ true) × (all-hold zeros ≡ true))
 unfolding checkOf readingAnswer verdictOf verdict startAnswer countAnswer entryAnswer sourceAnswer targetAnswer readOf surveyOf
-    formOf faultOf textFault headFault linesFault saidIn startIn eventsOf eventFault uses recordOf eventRest initRest
+    formOf faultOf textFault headFault linesFault saidIn startIn eventsOf initsOf coverFault lined firstBad eventFault uses recordOf eventRest initRest unlessSilent
     numberIf orderIf numberIn matchingRead matchingSurvey entriesOf
     entryOf keepRest goneRest numberOf digitsOn valueOn allDigits cut sameBytes stepped after latest lawful takes row
-cases = (refl, refl)
+cases = (refl, (refl, refl))
 
 pub P1-to-P12 : all-hold table ≡ true
 P1-to-P12 = cases .0
 
 pub counters-hold : all-hold counters ≡ true
-counters-hold = cases .1
+counters-hold = cases .1 .0
+
+pub zeros-hold : all-hold zeros ≡ true
+zeros-hold = cases .1 .1
 
 -- The lines that the program prints for P10: of form 1, and of form 2 with its code line, against a target of form 1.
 pub P10-lines :

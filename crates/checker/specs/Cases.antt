@@ -93,5 +93,26 @@ counters =
     ∷ kept "trace\t1\nadd\t3\trlx\t0\t4294967296\n" "match\t1\nkeep\t1\n" (answer 2 1 2)
     ∷ kept "trace\t1\ninit\t3\t4294967296\nadd\t3\trlx\t4294967296\t1\n" "match\t1\nkeep\t1\n" (answer 2 1 3)
     -- the old value is compared
-    ∷ kept "trace\t2\nadd64\t3\trlx\t4294967296\t1\t7\n" "match\t1\nkeep\t1\n" (answer 6 1 1)
+    ∷ kept "trace\t2\ninit\t3\t0\nadd64\t3\trlx\t4294967296\t1\t7\n" "match\t1\nkeep\t1\n" (answer 6 1 1)
+    ∷ []
+
+-- C-15.
+abbrev pub zeros : List Case
+zeros =
+    -- a touched location has its line, and 0 may stand there
+    kept "trace\t2\ninit\t3\t0\nload\t3\t0\tused\t7\n" "match\t1\nkeep\t1\n" done
+    ∷ kept "trace\t2\nload\t3\t0\tused\t7\n" "match\t1\nkeep\t1\n" (answer 20 1 1)
+    ∷ given "trace\t1\nload\t3\t0\tused\n" "trace\t2\nload\t3\t0\tused\t7\n" "match\t1\nkeep\t1\n" (answer 20 2 1)
+    -- form 1 stays
+    ∷ kept "trace\t1\ninit\t3\t0\nload\t3\t0\tused\n" "match\t1\nkeep\t1\n" (answer 2 1 2)
+    -- a zero line for an untouched location, which another value may have
+    ∷ kept "trace\t2\ninit\t3\t5\ninit\t4\t0\nstore\t3\t5\t7\n" "match\t1\nkeep\t1\n" (answer 21 1 3)
+    ∷ kept "trace\t2\ninit\t3\t5\nlock\t3\t7\n" "match\t1\nkeep\t1\n" done
+    -- a mutex is no location
+    ∷ kept "trace\t2\nlock\t3\t7\n" "match\t1\nkeep\t1\n" done
+    ∷ kept "trace\t2\ninit\t3\t0\nlock\t3\t7\n" "match\t1\nkeep\t1\n" (answer 21 1 2)
+    -- 2 first, then 20, then 21, then 6
+    ∷ kept "trace\t2\nload\t4\t0\tused\t7\nload\n" "match\t1\nkeep\t1\n" (answer 2 1 3)
+    ∷ kept "trace\t2\ninit\t3\t0\nload\t4\t0\tused\t7\n" "match\t1\nkeep\t1\n" (answer 20 1 1)
+    ∷ kept "trace\t2\ninit\t3\t0\ninit\t4\t0\nload\t4\t1\tused\t7\n" "match\t1\nkeep\t1\n" (answer 21 1 2)
     ∷ []

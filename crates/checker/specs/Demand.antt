@@ -28,7 +28,7 @@ targetOf l = eventsOf (l .target)
 abbrev pub entriesFor : Lent → List ℕ
 entriesFor l = entriesOf (l .matching)
 
--- "A matching that passes answers 1 to 9 and 17": no reading refuses, and neither do 7, 8 and 9.
+-- "A matching that passes answers 1 to 9 and 17": no reading refuses, be it by 20 or 21 (document 02, C-15), and neither do 7, 8 and 9.
 pub record Admitted (l : Lent) : Type 0 where
   pub reading : readingAnswer l .number ≡ 0
   pub start : startAnswer 0 (sourceRead l .memory .cells) (targetRead l .memory .cells) ≡ done
@@ -37,7 +37,7 @@ pub record Admitted (l : Lent) : Type 0 where
 
 -- The same by what the check answers.
 abbrev pub premise : List ℕ
-premise = 1 ∷ 2 ∷ 3 ∷ 4 ∷ 5 ∷ 6 ∷ 7 ∷ 8 ∷ 9 ∷ 17 ∷ []
+premise = 1 ∷ 2 ∷ 3 ∷ 4 ∷ 5 ∷ 6 ∷ 7 ∷ 8 ∷ 9 ∷ 17 ∷ 20 ∷ 21 ∷ []
 
 abbrev pub AdmittedExactly : Type 0
 AdmittedExactly = (l : Lent) → Admitted l ↔ (has (checkOf l .answer .number) premise ≡ false)

@@ -16,9 +16,9 @@ use Rattle.event.proofs.Has.{has-every}
 use Rattle.event.specs.Answer.{answer, done, first, answers, InTable, Where, nowhere, ordinal, location, amount}
 use Rattle.event.specs.declared.Answer.{Answer}
 
--- the table has the numbers 0 to 19
-twenty : length answers ≡ 20
-twenty = refl
+-- the table has the numbers 0 to 21
+all-rows : length answers ≡ 22
+all-rows = refl
 
 -- the table has a number with a side and a place from 1 on
 abbrev pub isOrdinal : Where → Bool
@@ -64,6 +64,11 @@ module _ (ns : List ℕ) (side : ℕ) where
       let i : has side (row .0) ≡ true = and-left _ _ r in
       let j : row .1 ≡ ordinal = an-ordinal _ (and-right (has side (row .0)) _ r) in
       rw (i, j) (le-leb 1 p q)
+
+-- of more numbers too
+pub given-more : (ns ms : List ℕ) (side : ℕ) {a : Answer} → every (λ n. has n ms) ns ≡ true → Given ns side a → Given ms side a
+given-more ns ms side t none = none
+given-more ns ms side t (one {n = n} h q) = one (has-every (λ k. has k ms) ns t n h) q
 
 pub in-cond : (c : Bool) (a b : Answer) → InTable a → InTable b → InTable (cond c a b)
 in-cond c a b h k = by-cond InTable c h k

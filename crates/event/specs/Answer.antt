@@ -1,4 +1,4 @@
--- Document 01, "Numbers that come back", and document 02, C-11: a number, a side and a place; and the table. Assumes nothing.
+-- Document 01, "Numbers that come back", and document 02, C-11 and C-15: a number, a side and a place; and the table. Assumes nothing.
 use Prim.Native.Nat.{ℕ}
 use mathlib.Core.Bool.{Bool, true, cond, _&&_}
 use mathlib.Core.List.{List, [], _∷_}
@@ -52,6 +52,8 @@ answers =
     ∷ (0 ∷ 1 ∷ 2 ∷ 3 ∷ [], amount)  -- 17 lent room too short
     ∷ (0 ∷ [], ordinal)  -- 18 fields outside the layout
     ∷ (0 ∷ 1 ∷ [], ordinal)  -- 19 code line would be lost
+    ∷ (1 ∷ 2 ∷ [], ordinal)  -- 20 touched location without a line
+    ∷ (1 ∷ 2 ∷ [], ordinal)  -- 21 zero line for an untouched location
     ∷ []
 
 -- An answer is a row of it.

@@ -21,10 +21,10 @@ use Rattle.text.proofs.Numbers.{low}
 use Rattle.text.proofs.Parts.{cut-glue, glue-cut}
 use Rattle.text.proofs.Round.{round, read-back, decimal-free}
 use Rattle.text.proofs.Words.{same-eq, same-self}
-use Rattle.record.specs.Form.{coded, loses}
+use Rattle.record.specs.Form.{coded, loses, silent}
 use Rattle.record.specs.Layout.{kindWords, orderWords, initWord, wordAt, kindOf, orderOf, shapeOf, parts, fieldIf, there}
 use Rattle.record.specs.Layout.{eventFields, eventLine, initLine}
-use Rattle.record.specs.Record.{Fit, eventRest, initRest, lawfulLine, numberIf, orderIf, recordOf}
+use Rattle.record.specs.Record.{Fit, eventRest, initRest, unlessSilent, lawfulLine, numberIf, orderIf, recordOf}
 use Rattle.record.specs.declared.form.Form.{Form}
 use Rattle.record.specs.declared.form.Form.the-variants.{One, Two}
 use Rattle.record.specs.declared.shape.Shape.{Shape}
@@ -101,14 +101,14 @@ event-read f e i =
     rw (cut-glue 9 _ _ (event-free f 9 (omega arith) e), kind-not-init (e .kind), kind-number (e .kind) (shaped f e (i .law) .listed))
     (rest-read f e i)
 
-pub init-read : (f : Form) (p v : ℕ) → p ≤ lastPlace → v ≤ lastValue → (v ≡ 0 → ⊥) → recordOf f (initLine p v) ≡ Init p v
-unfolding recordOf initLine initRest numberIf
+pub init-read : (f : Form) (p v : ℕ) → p ≤ lastPlace → v ≤ lastValue → silent f v ≡ false → recordOf f (initLine p v) ≡ Init p v
+unfolding recordOf initLine initRest unlessSilent numberIf
 init-read f p v a b z =
-    rw (cut-glue 9 _ _ (init-free 9 (omega arith) p v), same-self initWord, round lastPlace p a, round lastValue v b, ne-eqb v 0 z)
+    rw (cut-glue 9 _ _ (init-free 9 (omega arith) p v), same-self initWord, round lastPlace p a, round lastValue v b, z)
 
 -- what a record that was read says of the fields: they are its print, and it is in range
 abbrev pub Says : Form → List (List ℕ) → Record → Type 0
-Says f fs (Init p v) = (fs ≡ initWord ∷ decimal p ∷ decimal v ∷ []) × ((p ≤ lastPlace) × ((v ≤ lastValue) × (v ≡ 0 → ⊥)))
+Says f fs (Init p v) = (fs ≡ initWord ∷ decimal p ∷ decimal v ∷ []) × ((p ≤ lastPlace) × ((v ≤ lastValue) × (silent f v ≡ false)))
 Says f fs (AnEvent e) = (fs ≡ eventFields f e) × Fit f e
 Says f fs Refused = Unit {0}
 
@@ -164,20 +164,20 @@ event-says f w fs =
     (rw (q₁, q₂, q₃, d .0, q₄, q₅, q₆, d .1, q₇, i), record { law = h; kept = none-lost f c z }))
     (λ _. tt))))))))
 
-init-says : (f : Form) (w : List ℕ) (fs : List (List ℕ)) → w ≡ initWord → Says f (w ∷ fs) (initRest fs)
-unfolding initRest
+init-says : (f : Form) (w : List ℕ) (fs : List (List ℕ)) → w ≡ initWord → Says f (w ∷ fs) (unlessSilent f (initRest fs))
+unfolding initRest unlessSilent
 init-says f w fs i =
-    let P : Record → Type 0 = Says f (w ∷ fs) in
+    let P : Record → Type 0 = λ r. Says f (w ∷ fs) (unlessSilent f r) in
     on-number P tt true lastPlace fs _ (λ p fs₁ a _ q₁.
     on-number P tt true lastValue fs₁ _ (λ v fs₂ b _ q₂.
     on-end P tt fs₂ _ (λ q₃.
-    on-if P tt (eqb v 0) Refused (Init p v) (λ _. tt) (λ z. (rw (i, q₁, q₂, q₃), (a, (b, eqb-false v 0 z)))))))
+    on-if (Says f (w ∷ fs)) tt (silent f v) Refused (Init p v) (λ _. tt) (λ z. (rw (i, q₁, q₂, q₃), (a, (b, z)))))))
 
 fields-say : (f : Form) (fs : List (List ℕ))
-    → Says f fs (onField Refused fs (λ word rest. cond (sameBytes word initWord) (initRest rest) (eventRest f (kindOf word) rest)))
+    → Says f fs (onField Refused fs (λ word rest. cond (sameBytes word initWord) (unlessSilent f (initRest rest)) (eventRest f (kindOf word) rest)))
 fields-say f [] = tt
 fields-say f (w ∷ fs) =
-    on-if (Says f (w ∷ fs)) tt (sameBytes w initWord) (initRest fs) (eventRest f (kindOf w) fs) (λ h. init-says f w fs (same-eq w initWord h))
+    on-if (Says f (w ∷ fs)) tt (sameBytes w initWord) (unlessSilent f (initRest fs)) (eventRest f (kindOf w) fs) (λ h. init-says f w fs (same-eq w initWord h))
     (λ _. event-says f w fs)
 
 pub says : (f : Form) (l : List ℕ) → Says f (fields l) (recordOf f l)
@@ -193,7 +193,7 @@ line-says f l e h =
 
 -- a line that is read as a starting value is its line, and the value is in range
 pub init-back : (f : Form) (l : List ℕ) (p v : ℕ) → recordOf f l ≡ Init p v
-    → (l ≡ initLine p v) × ((p ≤ lastPlace) × ((v ≤ lastValue) × (v ≡ 0 → ⊥)))
+    → (l ≡ initLine p v) × ((p ≤ lastPlace) × ((v ≤ lastValue) × (silent f v ≡ false)))
 unfolding initLine
 init-back f l p v h =
     let s : Says f (fields l) (Init p v) = rw h at (says f l) in

@@ -6,6 +6,7 @@ use Rattle.record.proofs.shape.shape_of.Reads as shape-of
 use Rattle.record.proofs.form.is_coded.Reads as is-coded
 use Rattle.record.proofs.form.limit_of.Reads as limit-of
 use Rattle.record.proofs.form.does_lose.Reads as does-lose
+use Rattle.record.proofs.form.is_silent.Reads as is-silent
 use Rattle.record.proofs.word.word_in.Reads as word-in
 
 record-of-one : OneAnswer record-of.Post
@@ -22,6 +23,9 @@ is-coded-one κ a x y s t h k = h ∙ sym k
 
 limit-of-one : OneAnswer limit-of.Post
 limit-of-one κ a x y s t h k = h ∙ sym k
+
+is-silent-one : OneAnswer is-silent.Post
+is-silent-one κ a x y s t h k = h ∙ sym k
 
 does-lose-one : OneAnswer does-lose.Post
 does-lose-one κ a x y s t h k = h ∙ sym k

@@ -2,10 +2,9 @@
 -- Assumes nothing.
 use Prim.Native.Nat.{ℕ, _+_, _-_, _<_, _^_}
 use mathlib.Core.Path.{_≡_, refl, sym, _∙_}
-use mathlib.Core.Bool.{true, cond}
+use mathlib.Core.Bool.{true}
 use mathlib.Core.List.{List}
 use native.Mathlib.Omega.{arith}
-use lib.Dec.{eqb}
 use lib.ListN.{length, take, drop}
 use Rattle.event.specs.Kind.{lastPlace, lastValue}
 use Rattle.text.specs.Field.{fieldAt, fieldsFrom, onEnd}
@@ -40,9 +39,9 @@ pub part-given : (l : List ℕ) (a b max n : ℕ) → numberOf max (take (b - a)
 unfolding fieldPart
 part-given l a b max n h = rw h
 
--- both fields are numbers: what is left is the end, and that the value is not 0
+-- both fields are numbers: what is left is the end
 pub init-given : (l : List ℕ) (place value : FieldStep) (p e v next : ℕ) {x y : Part} → x ≡ fieldPart l place lastPlace → x ≡ Given p e
-    → y ≡ fieldPart l value lastValue → y ≡ Given v next → initOf l place value ≡ onEnd Refused (fieldsFrom l next) (cond (eqb v 0) Refused (Init p v))
+    → y ≡ fieldPart l value lastValue → y ≡ Given v next → initOf l place value ≡ onEnd Refused (fieldsFrom l next) (Init p v)
 unfolding initOf
 init-given l place value p e v next f g h k = rw (sym f ∙ g, sym h ∙ k)
 
@@ -61,7 +60,7 @@ field-number l at max K LineEnd q = rw (line-end l at q)
 
 -- what is left after the place and the value
 abbrev after-value : ℕ → ℕ → List (List ℕ) → Record
-after-value place value fs = onEnd Refused fs (cond (eqb value 0) Refused (Init place value))
+after-value place value fs = onEnd Refused fs (Init place value)
 
 walked-from : (l : List ℕ) (at : ℕ) (s : FieldStep) → fieldAt l at ≡ s → initOf l s (fieldAt l (behind s)) ≡ initRest (fieldsFrom l at)
 unfolding initOf initRest fieldPart numberIf

@@ -1,4 +1,4 @@
--- Document 02, C-11 and C-13: the two forms of a trace text. Assumes nothing.
+-- Document 02, C-11, C-13 and C-15: the two forms of a trace text. Assumes nothing.
 use Prim.Native.Nat.{ℕ}
 use mathlib.Core.Bool.{Bool, true, false, not}
 use mathlib.Core.List.{List}
@@ -26,6 +26,11 @@ coded Two = true
 abbrev pub loses : Form → ℕ → Bool
 loses One code = not (eqb code 0)
 loses Two code = false
+
+-- Whether a starting value is a silent zero: it has no line, and a location without a line has it.
+abbrev pub silent : Form → ℕ → Bool
+silent One value = eqb value 0
+silent Two value = false
 
 -- The form that a move to a form starts from.
 abbrev pub other : Form → Form

@@ -1,9 +1,8 @@
 -- Document 01, "Trace text": a field that a line has or has not, taken at a place of the line; and an `init` line by the two fields that the reader
 -- hands out, each with the place behind it. Assumes nothing.
 use Prim.Native.Nat.{ℕ, _+_, _-_, _≤_}
-use mathlib.Core.Bool.{Bool, true, false, cond}
+use mathlib.Core.Bool.{Bool, true, false}
 use mathlib.Core.List.{List}
-use lib.Dec.{eqb}
 use lib.ListN.{length, take, drop}
 use Rattle.event.specs.Kind.{lastPlace, lastValue}
 use Rattle.text.specs.Field.{fieldAt, fieldsFrom, onEnd}
@@ -57,9 +56,9 @@ abbrev pub onPart : Part → (ℕ → ℕ → Record) → Record
 onPart (Given n next) k = k n next
 onPart Bad k = Refused
 
--- An `init` line by its two fields: location, value, and nothing more; the value is never 0.
+-- An `init` line by its two fields: location, value, and nothing more.
 unfoldable pub initOf : List ℕ → FieldStep → FieldStep → Record
 initOf line place value =
     onPart (fieldPart line place lastPlace) (λ p _.
     onPart (fieldPart line value lastValue) (λ v next.
-    onEnd Refused (fieldsFrom line next) (cond (eqb v 0) Refused (Init p v))))
+    onEnd Refused (fieldsFrom line next) (Init p v)))

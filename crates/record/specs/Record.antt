@@ -1,15 +1,14 @@
--- Document 01, "Trace text", and document 02, C-11 and C-13: what a line is, read field by field. Assumes nothing.
+-- Document 01, "Trace text", and document 02, C-11, C-13 and C-15: what a line is, read field by field. Assumes nothing.
 use Prim.Native.Nat.{ℕ}
 use mathlib.Core.Bool.{Bool, true, false, cond}
 use mathlib.Core.List.{List}
 use mathlib.Core.Path.{_≡_}
-use lib.Dec.{eqb}
 use Rattle.event.specs.Kind.{lastPlace, lastValue, lastCode, made, lawful}
 use Rattle.event.specs.declared.Event.{Event}
 use Rattle.text.specs.Field.{fields, onField, onEnd}
 use Rattle.text.specs.Number.{numberOf, onNumber}
 use Rattle.text.specs.Word.{sameBytes}
-use Rattle.record.specs.Form.{loses}
+use Rattle.record.specs.Form.{loses, silent}
 use Rattle.record.specs.Layout.{initWord, kindOf, orderOf, shapeOf}
 use Rattle.record.specs.declared.form.Form.{Form}
 use Rattle.record.specs.declared.form.Form.the-variants.{One, Two}
@@ -54,13 +53,19 @@ eventRest f kind fs =
     numberIf (shapeOf f kind .code) lastCode fs₅ (λ code fs₆.
     onEnd Refused fs₆ (lawfulLine (made kind place mark first second code))))))))
 
--- An `init` line, after its word: location, value, and nothing more; the value is never 0.
+-- An `init` line, after its word: location, value, and nothing more.
 unfoldable pub initRest : List (List ℕ) → Record
 initRest fs =
     numberIf true lastPlace fs (λ place fs₁.
     numberIf true lastValue fs₁ (λ value fs₂.
-    onEnd Refused fs₂ (cond (eqb value 0) Refused (Init place value))))
+    onEnd Refused fs₂ (Init place value)))
+
+-- A line, if it is not that of a silent zero.
+unfoldable pub unlessSilent : Form → Record → Record
+unlessSilent f (Init place value) = cond (silent f value) Refused (Init place value)
+unlessSilent f (AnEvent e) = AnEvent e
+unlessSilent f Refused = Refused
 
 -- What a line is: a starting value, an event, or not of the layout.
 unfoldable pub recordOf : Form → List ℕ → Record
-recordOf f line = onField Refused (fields line) (λ word fs. cond (sameBytes word initWord) (initRest fs) (eventRest f (kindOf word) fs))
+recordOf f line = onField Refused (fields line) (λ word fs. cond (sameBytes word initWord) (unlessSilent f (initRest fs)) (eventRest f (kindOf word) fs))

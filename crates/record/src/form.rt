@@ -1,6 +1,6 @@
 // The forms of a trace text, told by its line 1. A line's reader, its print and the limit depend on the form, and nothing else does.
 ghost use mathlib.Core.Path.{_≡_};
-ghost use Rattle.record.specs.Form.{coded, limitOf, loses};
+ghost use Rattle.record.specs.Form.{coded, limitOf, loses, silent};
 use event::Word;
 
 pub enum Form {
@@ -29,6 +29,16 @@ pub fn does_lose(form: Form, code: Word) -> bool
 {
     match form {
         Form::One => code != 0,
+        Form::Two => false,
+    }
+}
+
+// Whether a starting value is a silent zero: it has no line, and a location without a line has it.
+pub fn is_silent(form: Form, value: Word) -> bool
+    ensures { λ r. ⌜ r ≡ silent form value ⌝ }
+{
+    match form {
+        Form::One => value == 0,
         Form::Two => false,
     }
 }

@@ -7,7 +7,7 @@ pub mod word;
 ghost use mathlib.Core.Path.{_≡_};
 ghost use Rattle.text.specs.Field.{fieldsFrom};
 ghost use Rattle.record.specs.Part.{Within, initOf};
-ghost use Rattle.record.specs.Record.{eventRest, initRest, recordOf};
+ghost use Rattle.record.specs.Record.{eventRest, initRest, unlessSilent, recordOf};
 use event::Event;
 use event::Word;
 use event::kind::LAST_CODE;
@@ -15,6 +15,7 @@ use event::kind::LAST_PLACE;
 use event::kind::LAST_VALUE;
 use event::kind::suits;
 use form::Form;
+use form::is_silent;
 use part::Part;
 use part::number_if;
 use part::number_of_field;
@@ -51,9 +52,6 @@ fn init_of(line: &[u8], place: FieldStep, value: FieldStep) -> Record
     if !ends_at(line, next) {
         return Record::Refused;
     }
-    if v == 0 {
-        return Record::Refused;
-    }
     Record::Init { place: p, value: v }
 }
 
@@ -65,6 +63,22 @@ fn init_rest(line: &[u8], at: usize) -> Record
     let place = next(reader);
     let value = next(moved(reader, place_behind(place)));
     init_of(line, place, value)
+}
+
+// A line, if it is not that of a silent zero.
+fn unless_silent(form: Form, line: Record) -> Record
+    ensures { λ r. ⌜ r ≡ unlessSilent form line ⌝ }
+{
+    match line {
+        Record::Init { place, value } => {
+            if is_silent(form, value) {
+                return Record::Refused;
+            }
+            Record::Init { place, value }
+        }
+        Record::AnEvent(e) => Record::AnEvent(e),
+        Record::Refused => Record::Refused,
+    }
 }
 
 // An event's line from the field after its word on.
@@ -136,7 +150,7 @@ pub fn record_of(form: Form, line: &[u8]) -> Record
     };
     let word = &line[from..to];
     if same_bytes(word, b"init") {
-        return init_rest(line, to + 1);
+        return unless_silent(form, init_rest(line, to + 1));
     }
     event_rest(form, kind_of(word), line, to + 1)
 }

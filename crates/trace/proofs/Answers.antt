@@ -1,4 +1,4 @@
--- Which answers a trace's reading gives: 1 to 6 and 17, with its side; the writer: 3, 5, 6, 17, 18 and 19, with side 0; and a move: the reading's and
+-- Which answers a trace's reading gives: 1 to 6, 17, 20 and 21, with its side; the writer: 3, 5, 6, 17, 18 and 19, with side 0; and a move: the reading's and
 -- 19 with side 1, and 17 with side 0. Assumes nothing.
 use Prim.Native.Nat.{ℕ, _+_, _≤_, _/_}
 use mathlib.Core.Bool.{Bool, true}
@@ -17,7 +17,7 @@ use Rattle.event.specs.Memory.{stepped}
 use Rattle.event.specs.declared.Answer.{Answer}
 use Rattle.event.specs.declared.Event.{Event}
 use Rattle.event.specs.declared.memory.Memory.{Memory}
-use Rattle.event.proofs.Answers.{Among, Given, none, one, among-first, among-more, given-among, given-cond, given-first, given-in, in-cond, in-first, ranked}
+use Rattle.event.proofs.Answers.{Among, Given, none, one, among-first, among-more, given-among, given-cond, given-more, given-first, given-in, in-cond, in-first, ranked}
 use Rattle.text.specs.Line.{split, body}
 use Rattle.frame.specs.Reading.{headed, headFault, linesFault, textFault}
 use Rattle.frame.proofs.Answers.{lines-given, head-among, head-in}
@@ -26,18 +26,22 @@ use Rattle.record.specs.Record.{recordOf}
 use Rattle.record.specs.declared.form.Form.{Form}
 use Rattle.record.specs.declared.Record.{Record}
 use Rattle.record.specs.declared.Record.the-variants.{Init, AnEvent, Refused}
-use Rattle.trace.specs.Fault.{clashes, faultAt, eventFault}
-use Rattle.trace.specs.Reading.{SoFar, formOf, eventLimit, lineFault, traceLayout, startOf, eventsOf, faultOf, surveyOf, readOf}
+use Rattle.trace.specs.Cover.{touched, lined, lacksLine, isIdle, coverFault}
+use Rattle.trace.specs.Fault.{clashes, faultAt, eventFault, firstBad}
+use Rattle.trace.specs.Reading.{SoFar, formOf, eventLimit, lineFault, traceLayout, startOf, initsOf, eventsOf, faultOf, surveyOf, readOf}
 use Rattle.trace.specs.Moving.{movedText, moveHead, moveFault, moveOf}
-use Rattle.trace.specs.Writing.{countOf, roomEvents, firstBad, layoutFault, lost, traceText, roomFault, inOut, writeFault, writeOf}
+use Rattle.trace.specs.Writing.{countOf, roomEvents, layoutFault, lost, traceText, roomFault, inOut, writeFault, writeOf}
 use Rattle.trace.specs.declared.reading.TraceRead.{TraceRead}
 
--- the numbers of a reading's refusals, and those of lines and of events
+-- the numbers of a reading's refusals, and those of lines, of starting values and of events
 abbrev pub traceFaults : List ℕ
-traceFaults = 1 ∷ 2 ∷ 3 ∷ 4 ∷ 5 ∷ 6 ∷ 17 ∷ []
+traceFaults = 1 ∷ 2 ∷ 3 ∷ 4 ∷ 5 ∷ 6 ∷ 17 ∷ 20 ∷ 21 ∷ []
 
 abbrev lineFaults : List ℕ
 lineFaults = 2 ∷ 3 ∷ 4 ∷ []
+
+abbrev coverFaults : List ℕ
+coverFaults = 20 ∷ 21 ∷ []
 
 abbrev eventFaults : List ℕ
 eventFaults = 5 ∷ 6 ∷ []
@@ -55,12 +59,22 @@ events-given side k m before (e ∷ es) h =
     (given-cond _ side (clashes before e) (one refl h) (given-cond _ side (stepped m e .right) none (one refl h)))
     (events-given side (k + 1) (stepped m e .memory) (e ∷ before) es (omega arith))
 
+-- the first that is bad, of whatever
+bad-given : {A : Type 0} (bad : A → Bool) (number side k : ℕ) (es : List A) → 1 ≤ k → Given (number ∷ []) side (firstBad bad number side k es)
+unfolding firstBad
+bad-given bad number side k [] h = none
+bad-given bad number side k (e ∷ es) h =
+    given-cond _ side (bad e) (one (rw (eq-eqb number number refl)) h) (bad-given bad number side (k + 1) es (omega arith))
+
 module _ (side : ℕ) (t room : List ℕ) where
   abbrev head : Answer
   head = headFault side (limitOf (formOf t)) (header (formOf t)) t
 
   abbrev lines : Answer
   lines = linesFault (traceLayout (formOf t)) side 2 (record { low = 0; events = 0 }) (body (split t))
+
+  abbrev cover : Answer
+  cover = coverFault (formOf t) side (initsOf t) (eventsOf t)
 
   abbrev events : Answer
   events = eventFault side 1 (startOf t) [] (eventsOf t)
@@ -71,50 +85,51 @@ module _ (side : ℕ) (t room : List ℕ) where
   events-are : Given eventFaults side events
   events-are = events-given side 1 (startOf t) [] (eventsOf t) (omega arith)
 
+  cover-is : Given coverFaults side cover
+  unfolding coverFault
+  cover-is =
+      given-first coverFaults side {a = firstBad (lacksLine (formOf t) (lined (initsOf t))) 20 side 1 (eventsOf t)}
+      (given-more _ _ side refl (bad-given (lacksLine (formOf t) (lined (initsOf t))) 20 side 1 (eventsOf t) (omega arith)))
+      (given-more _ _ side refl (bad-given (isIdle (formOf t) (touched (eventsOf t))) 21 side 2 (initsOf t) (omega arith)))
+
   -- what holds of its first refusal, and of 17, holds of what it answers
-  by-fault : (P : Answer → Type 0) → P done → P (first (first head lines) events) → ((n : ℕ) → P (answer 17 side n)) → P (readOf side t room .answer)
+  by-fault : (P : Answer → Type 0) → P done → P (first (first head lines) (first cover events)) → ((n : ℕ) → P (answer 17 side n)) → P (readOf side t room .answer)
   unfolding readOf surveyOf faultOf textFault
   by-fault P z h f =
-      let s = by-cond (λ (r : TraceRead). P (r .answer)) (eqb (first (first head lines) events .number) 0) z h in
+      let s = by-cond (λ (r : TraceRead). P (r .answer)) (eqb (first (first head lines) (first cover events) .number) 0) z h in
       by-cond (λ (r : TraceRead). P (r .answer)) (leb (surveyOf side t .events) (length room / 6)) s (f _)
 
   pub read-among : Among traceFaults (readOf side t room .answer)
   read-among =
       by-fault (Among traceFaults) none
-      (among-first _ (first head lines) events
+      (among-first _ (first head lines) (first cover events)
       (among-first _ head lines (among-more _ _ refl (head-among side (limitOf (formOf t)) (header (formOf t)) t)) (among-more _ _ refl (given-among _ side lines-are)))
-      (among-more _ _ refl (given-among _ side events-are)))
+      (among-first _ cover events (among-more _ _ refl (given-among _ side cover-is)) (among-more _ _ refl (given-among _ side events-are))))
       (λ n. one refl)
 
   -- every answer of a trace's reading is a row of the table, for a side that the table has there
-  refusal-in : has side (1 ∷ 2 ∷ 3 ∷ []) ≡ true → every (ranked side) lineFaults ≡ true → every (ranked side) eventFaults ≡ true
-      → InTable (first (first head lines) events)
-  refusal-in s l e =
-      in-first (first head lines) events (in-first head lines (head-in side (limitOf (formOf t)) (header (formOf t)) t s) (given-in _ side l lines-are))
-      (given-in _ side e events-are)
+  refusal-in : has side (1 ∷ 2 ∷ 3 ∷ []) ≡ true → every (ranked side) lineFaults ≡ true → every (ranked side) coverFaults ≡ true
+      → every (ranked side) eventFaults ≡ true → InTable (first (first head lines) (first cover events))
+  refusal-in s l c e =
+      in-first (first head lines) (first cover events)
+      (in-first head lines (head-in side (limitOf (formOf t)) (header (formOf t)) t s) (given-in _ side l lines-are))
+      (in-first cover events (given-in _ side c cover-is) (given-in _ side e events-are))
 
-  known-in : has side (1 ∷ 2 ∷ 3 ∷ []) ≡ true → every (ranked side) lineFaults ≡ true → every (ranked side) eventFaults ≡ true
-      → ((n : ℕ) → InTable (answer 17 side n)) → InTable (readOf side t room .answer)
-  known-in s l e f = by-fault InTable refl (refusal-in s l e) f
+  known-in : has side (1 ∷ 2 ∷ 3 ∷ []) ≡ true → every (ranked side) lineFaults ≡ true → every (ranked side) coverFaults ≡ true
+      → every (ranked side) eventFaults ≡ true → ((n : ℕ) → InTable (answer 17 side n)) → InTable (readOf side t room .answer)
+  known-in s l c e f = by-fault InTable refl (refusal-in s l c e) f
 
 pub source-in : (t room : List ℕ) → InTable (readOf 1 t room .answer)
-source-in t room = known-in 1 t room refl refl refl (λ n. refl)
+source-in t room = known-in 1 t room refl refl refl refl (λ n. refl)
 
 pub target-in : (t room : List ℕ) → InTable (readOf 2 t room .answer)
-target-in t room = known-in 2 t room refl refl refl (λ n. refl)
+target-in t room = known-in 2 t room refl refl refl refl (λ n. refl)
 
 fault-in : (t : List ℕ) → InTable (faultOf 1 t)
 unfolding faultOf textFault
-fault-in t = refusal-in 1 t [] refl refl refl
+fault-in t = refusal-in 1 t [] refl refl refl refl
 
--- every answer of the writer is
-bad-given : (bad : Event → Bool) (number side k : ℕ) (es : List Event) → 1 ≤ k → Given (number ∷ []) side (firstBad bad number side k es)
-unfolding firstBad
-bad-given bad number side k [] h = none
-bad-given bad number side k (e ∷ es) h =
-    given-cond _ side (bad e) (one (rw (eq-eqb number number refl)) h) (bad-given bad number side (k + 1) es (omega arith))
-
--- 17 is told alike of all texts that are handed back
+-- every answer of the writer is; 17 is told alike of all texts that are handed back
 out-in : (n : ℕ) (out : List ℕ) → InTable (inOut n out)
 out-in n out = in-cond (leb n (length out)) (answer 0 0 n) (answer 17 0 n) refl refl
 

@@ -1,6 +1,7 @@
--- The events of a room one by one: the first of those that are left, the first that is bad (18, 19), and what 5 and 6 say. Assumes nothing.
+-- The events of a room one by one: the first of those that are left, the first that is bad (18, 19; 20 and 21 alike), and what 5 and 6 say. Assumes
+-- nothing.
 use Prim.Native.Nat.{ℕ, suc, _+_, _-_, _≤_, _<_}
-use mathlib.Core.Bool.{Bool, true, false, _||_, not, false≢true}
+use mathlib.Core.Bool.{Bool, true, false, cond, _||_, not, false≢true}
 use mathlib.Core.Path.{_≡_, refl, sym, _∙_, ap}
 use mathlib.Core.List.{List, [], _∷_, _++_}
 use native.Mathlib.Omega.{arith}
@@ -16,8 +17,7 @@ use Rattle.event.specs.declared.Answer.{Answer}
 use Rattle.event.specs.declared.Event.{Event}
 use Rattle.event.specs.declared.memory.Memory.{Memory}
 use Rattle.frame.proofs.Settled.{first-done}
-use Rattle.trace.specs.Fault.{clashes, faultAt, eventFault}
-use Rattle.trace.specs.Writing.{firstBad}
+use Rattle.trace.specs.Fault.{clashes, faultAt, eventFault, firstBad}
 
 module _ (room : List ℕ) (i n : ℕ) where
   pub onward-next : i < n → onward room i (n - i) ≡ eventAt room i ∷ onward room (i + 1) (n - (i + 1))
@@ -34,9 +34,9 @@ module _ (room : List ℕ) (i n : ℕ) where
 pub onward-all : (room : List ℕ) (n : ℕ) → onward room 0 (n - 0) ≡ onward room 0 n
 onward-all room n = let k : n - 0 ≡ n = omega arith in rw k
 
--- the first event that is bad
-module _ (bad : Event → Bool) (number side : ℕ) where
-  module _ (k : ℕ) (e : Event) (es : List Event) where
+-- the first of a list that is bad
+module _ {A : Type 0} (bad : A → Bool) (number side : ℕ) where
+  module _ (k : ℕ) (e : A) (es : List A) where
     pub bad-go : bad e ≡ false → firstBad bad number side k (e ∷ es) ≡ firstBad bad number side (k + 1) es
     unfolding firstBad
     bad-go h = rw h
@@ -55,14 +55,19 @@ module _ (bad : Event → Bool) (number side : ℕ) where
   unfolding firstBad
   bad-end k = refl
 
-  pub bad-done : (k : ℕ) (es : List Event) → Each (λ e. bad e ≡ false) es → firstBad bad number side k es ≡ done
+  -- none is: each is not
+  pub bad-each : (number ≡ 0 → ⊥) → (k : ℕ) (es : List A) → firstBad bad number side k es .number ≡ 0 → Each (λ e. bad e ≡ false) es
+  bad-each n k [] h = tt
+  bad-each n k (e ∷ es) h = let b = bad-none k e es n h in (b .0, bad-each n (k + 1) es (b .1))
+
+  pub bad-done : (k : ℕ) (es : List A) → Each (λ e. bad e ≡ false) es → firstBad bad number side k es ≡ done
   unfolding firstBad
   bad-done k [] h = refl
   bad-done k (e ∷ es) h = rw (h .0) (bad-done (k + 1) es (h .1))
 
   -- of two lists one after the other, the first of what is found in each
   module _ (z : eqb number 0 ≡ false) where
-    bad-append : (k : ℕ) (xs ys : List Event)
+    bad-append : (k : ℕ) (xs ys : List A)
         → firstBad bad number side k (xs ++ ys) ≡ first (firstBad bad number side k xs) (firstBad bad number side (k + length xs) ys)
     unfolding firstBad
     bad-append k [] ys = let o : k + 0 ≡ k = omega arith in rw o
@@ -70,11 +75,19 @@ module _ (bad : Event → Bool) (number side : ℕ) where
         let o : k + suc (length xs) ≡ k + 1 + length xs = omega arith in
         cases (either (bad e)) (λ y. rw (y, z)) (λ y. rw (y, o) (bad-append (k + 1) xs ys))
 
-    pub bad-parted : (k : ℕ) (xs ys : List Event) {zs : List Event} {a : Answer} → zs ≡ xs ++ ys → a ≡ firstBad bad number side k xs
+    pub bad-parted : (k : ℕ) (xs ys : List A) {zs : List A} {a : Answer} → zs ≡ xs ++ ys → a ≡ firstBad bad number side k xs
         → firstBad bad number side k zs ≡ first a (firstBad bad number side (k + length xs) ys)
     bad-parted k xs ys p q = rw (p, q) (bad-append k xs ys)
 
-  -- in a room, event by event: none of those before the i-th is
+    -- one more, with what was found so far
+    pub bad-found : (k : ℕ) (e : A) (es : List A) (a : Answer)
+        → first a (firstBad bad number side k (e ∷ es)) ≡ first (cond (bad e) (first a (answer number side k)) a) (firstBad bad number side (k + 1) es)
+    unfolding firstBad
+    bad-found k e es a =
+        cases (either (bad e)) (λ y. rw y (cases (either (eqb (a .number) 0)) (λ i. rw (i, z)) (λ i. rw (i, i)))) (λ y. rw y)
+
+-- in a room, event by event: none of those before the i-th is
+module _ (bad : Event → Bool) (number side : ℕ) where
   pub record Sought (room : List ℕ) (n i : ℕ) : Type 0 where
     pub few : i ≤ n
     pub same : firstBad bad number side 1 (onward room 0 n) ≡ firstBad bad number side (i + 1) (onward room i (n - i))
@@ -87,13 +100,13 @@ module _ (bad : Event → Bool) (number side : ℕ) where
     at-hand h = s .same ∙ rw (onward-next room i n h)
 
     pub sought-next : i < n → bad (eventAt room i) ≡ false → Sought room n (i + 1)
-    sought-next h b = record { few = omega arith; same = at-hand h ∙ bad-go (i + 1) (eventAt room i) (onward room (i + 1) (n - (i + 1))) b }
+    sought-next h b = record { few = omega arith; same = at-hand h ∙ bad-go bad number side (i + 1) (eventAt room i) (onward room (i + 1) (n - (i + 1))) b }
 
     pub sought-here : i < n → bad (eventAt room i) ≡ true → firstBad bad number side 1 (onward room 0 n) ≡ answer number side (i + 1)
-    sought-here h b = at-hand h ∙ bad-here (i + 1) (eventAt room i) (onward room (i + 1) (n - (i + 1))) b
+    sought-here h b = at-hand h ∙ bad-here bad number side (i + 1) (eventAt room i) (onward room (i + 1) (n - (i + 1))) b
 
     pub sought-end : n ≤ i → firstBad bad number side 1 (onward room 0 n) ≡ done
-    sought-end h = s .same ∙ rw (onward-end room i n h) (bad-end (i + 1))
+    sought-end h = s .same ∙ rw (onward-end room i n h) (bad-end bad number side (i + 1))
 
 -- what 5 and 6 say, by what they say of the first event
 module _ (side k : ℕ) (m : Memory) (before : List Event) (e : Event) (es : List Event) where

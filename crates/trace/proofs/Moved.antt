@@ -24,16 +24,17 @@ use Rattle.record.specs.Form.{header, limitOf, loses, other}
 use Rattle.record.specs.Record.{Fit}
 use Rattle.record.specs.declared.form.Form.{Form}
 use Rattle.record.specs.declared.form.Form.the-variants.{One, Two}
+use Rattle.trace.specs.Cover.{touched}
 use Rattle.trace.specs.Fault.{eventFault}
 use Rattle.trace.specs.Moving.{movedText, moveHead, moveFault, moveSurvey}
 use Rattle.trace.specs.Reading.{formOf, startOf, eventsOf, faultOf, refused, readAs, surveyOf}
 use Rattle.trace.specs.Text.{Fits, longestText}
-use Rattle.trace.specs.Writing.{initLines, lost, traceText}
+use Rattle.trace.specs.Writing.{lost, traceText}
 use Rattle.trace.specs.declared.reading.TraceRead.{TraceRead}
 use Rattle.trace.proofs.Cycle.{fault-none, lost-done}
 use Rattle.trace.proofs.Judged.{bad-none}
 use Rattle.trace.proofs.OneText.{Sound, text-whole, line-one, memory-is, written-read}
-use Rattle.trace.proofs.ReadBack.{tail, some-lines, form-written, text-parts, read-written}
+use Rattle.trace.proofs.ReadBack.{its-lines, some-lines, form-written, text-parts, read-written}
 use Rattle.trace.proofs.Range.{text-length, longest-short}
 use Rattle.trace.proofs.Readings.{survey-done}
 
@@ -137,12 +138,12 @@ module _ (to : Form) (t : List ℕ) (h : moveFault to t .number ≡ 0) where
 
   pub moved-length : length (movedText to t) ≤ longestText to
   unfolding movedText
-  moved-length = text-length to (startOf t) (eventsOf t) moved-fits
+  moved-length = text-length to (touched (eventsOf t)) (startOf t) (eventsOf t) moved-fits
 
   not-headed-moved : headed (header (other to)) (split (movedText to t)) ≡ false
   unfolding movedText
   not-headed-moved =
-      rw (text-parts to (startOf t) (eventsOf t)) (not-headed to (initLines 0 (startOf t .cells) ++ tail to (eventsOf t)) (some-lines to (startOf t) (eventsOf t)))
+      rw (text-parts to (startOf t) (eventsOf t)) (not-headed to (its-lines to (startOf t) (eventsOf t)) (some-lines to (startOf t) (eventsOf t)))
 
   back : (surveyOf 1 (movedText to t) ≡ readAs (length (eventsOf t)) (startOf t)) × (eventsOf (movedText to t) ≡ eventsOf t)
   unfolding movedText

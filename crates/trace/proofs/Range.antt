@@ -1,15 +1,13 @@
 -- The text of a trace that has one is short, as no line of it is long. The events of a room that is not refused have a text.
 -- Assumes nothing.
 use Prim.Native.Nat.{ℕ, zero, suc, _+_, _*_, _≤_, _<_}
-use mathlib.Core.Bool.{not}
+use mathlib.Core.Bool.{Bool, not}
 use mathlib.Core.Path.{_≡_, refl, ap}
 use mathlib.Core.List.{List, [], _∷_, _++_, map}
 use native.Mathlib.Nat.{mul-le-mul-right}
 use native.Mathlib.Omega.{arith}
-use lib.Dec.{eqb}
 use lib.ListN.{length, getD, length-append}
 use borrow.Author.Tests.{not-false}
-use Rattle.laws.proofs.Cases.{cases, either}
 use Rattle.laws.specs.Each.{Each}
 use Rattle.event.specs.Kind.{lawful}
 use Rattle.event.specs.Room.{inRoom, eventAt, onward}
@@ -21,11 +19,14 @@ use Rattle.record.specs.Record.{Fit, longestEvent, longestInit}
 use Rattle.record.proofs.Prints.{event-length, init-length}
 use Rattle.record.specs.declared.form.Form.{Form}
 use Rattle.record.specs.declared.form.Form.the-variants.{One, Two}
+use Rattle.trace.specs.Cover.{Start, starts}
 use Rattle.trace.specs.Reading.{eventLimit}
 use Rattle.trace.specs.Put.{Small}
-use Rattle.trace.specs.Writing.{layoutFault, lost, textOf, initLines, traceText}
+use Rattle.trace.specs.Writing.{layoutFault, lost, textOf, hasLine, startLine, textBy}
 use Rattle.trace.specs.Text.{places, Valued, Fits, longestText}
+use Rattle.trace.proofs.Covered.{Heard, each-heard}
 use Rattle.trace.proofs.Judged.{bad-none}
+use Rattle.trace.proofs.Starts.{Rising, rising-starts}
 
 -- each line has an LF after it
 events-length : (f : Form) (es : List Event) → Each (Fit f) es → length (textOf (map (eventLine f) es)) ≤ length es * suc (longestEvent f)
@@ -34,22 +35,36 @@ events-length f [] h = omega arith
 events-length f (e ∷ es) h =
     omega (arith, length-append (eventLine f e) (10 ∷ textOf (map (eventLine f) es)), event-length f e (h .0), events-length f es (h .1))
 
-inits-length : (l : ℕ) (vs : List ℕ) (ts : List (List ℕ)) → l + length vs ≤ places → Valued vs
-    → length (textOf (initLines l vs ++ ts)) ≤ length vs * suc longestInit + length (textOf ts)
-unfolding textOf initLines
-inits-length l [] ts b h = omega arith
-inits-length l (v ∷ vs) ts b h =
-    let i = inits-length (l + 1) vs ts (omega arith) (h .1) in
-    cases (either (eqb v 0)) (λ e. rw e (omega arith))
-    (λ e. rw e (omega (arith, length-append (initLine l v) (10 ∷ textOf (initLines (l + 1) vs ++ ts)), init-length l v (omega arith) (h .0))))
+inits-length : (f : Form) (low : ℕ) (is : List Start) (ts : List (List ℕ)) → low ≤ places → Rising low is → Each (Heard f) is
+    → low * suc longestInit + length (textOf (map startLine is ++ ts)) ≤ places * suc longestInit + length (textOf ts)
+unfolding textOf
+inits-length f low [] ts b r h = omega arith
+inits-length f low ((p, v) ∷ is) ts b r h =
+    omega (
+      arith,
+      r .0,
+      length-append (initLine p v) (10 ∷ textOf (map startLine is ++ ts)),
+      init-length p v (omega (arith, r .0)) (h .0 .value),
+      inits-length f (p + 1) is ts (omega (arith, r .0)) (r .1) (h .1),
+    )
 
-pub text-length : (f : Form) (m : Memory) (es : List Event) → Fits f m es → length (traceText f m es) ≤ longestText f
-unfolding traceText textOf
-text-length f m es i =
-    let a = inits-length 0 (m .cells) (map (eventLine f) es) (omega arith) (i .values) in
-    let b = events-length f es (i .events) in
-    let c = mul-le-mul-right (suc (longestEvent f)) (i .few) in
-    omega (arith, length-append (header f) (10 ∷ textOf (initLines 0 (m .cells) ++ map (eventLine f) es)))
+-- the text of starting values that ascend and of events
+pub lines-length : (f : Form) (is : List Start) (es : List Event) → Rising 0 is → Each (Heard f) is → length es ≤ eventLimit → Each (Fit f) es
+    → length (textOf (header f ∷ map startLine is ++ map (eventLine f) es)) ≤ longestText f
+unfolding textOf
+lines-length f is es r h few fit =
+    let ls : List (List ℕ) = map startLine is ++ map (eventLine f) es in
+    let a = inits-length f 0 is (map (eventLine f) es) (omega arith) r h in
+    let b = events-length f es fit in
+    let c = mul-le-mul-right (suc (longestEvent f)) few in
+    omega (arith, length-append (header f) (10 ∷ textOf ls))
+
+-- that of a trace, whatever locations it has lines for
+pub text-length : (f : Form) (has : ℕ → Bool) (m : Memory) (es : List Event) → Fits f m es → length (textBy f has m es) ≤ longestText f
+unfolding textBy
+text-length f has m es i =
+    lines-length f (starts (hasLine f has) 0 (m .cells)) es
+    (rising-starts (hasLine f has) 0 0 (m .cells) (omega arith) (omega (arith, i .size))) (each-heard f has 0 (m .cells) (i .values)) (i .few) (i .events)
 
 -- Document 02, C-13: under 52,500 bytes in form 1 and under 57,300 in form 2.
 pub longest-short : (f : Form) → longestText f < limitOf f

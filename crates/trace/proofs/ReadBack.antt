@@ -1,13 +1,12 @@
 -- What is written is read back: each line is read as the record that it is the print of, so the starting values fill an empty memory up to
--- the one that was written, and the events come one by one. Assumes nothing.
+-- the one that was written, and the events come one by one; each location that they touch has its line. Assumes nothing.
 use Prim.Native.Nat.{ℕ, _+_, _/_, _≤_}
 use mathlib.Core.Path.{_≡_, refl, _∙_}
-use mathlib.Core.Bool.{cond, not, true}
-use mathlib.Core.List.{List, [], _∷_, _++_, map, append-assoc}
+use mathlib.Core.Bool.{Bool, cond, not, true, false, true≢false}
+use mathlib.Core.List.{List, [], _∷_, _++_, map, append-assoc, append-nil}
 use native.Mathlib.Omega.{arith}
 use lib.Dec.{eqb}
-use lib.ListN.{length, set, replicate, length-append}
-use lib.Seq.{append-snoc, set-append-seam}
+use lib.ListN.{length}
 use borrow.Author.Tests.{eqb-true, eqb-false, le-ltb, lt-leb, not-true}
 use Rattle.laws.proofs.Cases.{cases, either}
 use Rattle.laws.proofs.Lists.{Each, Free, each-append, every, every-each}
@@ -23,18 +22,21 @@ use Rattle.text.proofs.Walk.{Some}
 use Rattle.record.specs.Form.{header, limitOf}
 use Rattle.record.specs.Layout.{eventLine, initLine}
 use Rattle.record.specs.Record.{Fit, recordOf}
+use Rattle.trace.specs.Cover.{Start, touched, coverFault, starts}
 use Rattle.trace.specs.Fault.{eventFault}
 use Rattle.frame.specs.Reading.{headed, linesFault}
 use Rattle.frame.proofs.Heads.{by-lines}
 use Rattle.frame.proofs.Lines.{lines-end, lines-go}
-use Rattle.trace.specs.Reading.{SoFar, formOf, traceLayout, eventsIn, startIn, readAs, faultOf, surveyOf, eventsOf, readOf, front, roomAfter, eventLimit}
-use Rattle.trace.specs.Writing.{textOf, initLines, traceText}
-use Rattle.trace.specs.Text.{Valued, Fits}
+use Rattle.trace.specs.Reading.{SoFar, formOf, traceLayout, eventsIn, initsIn, startIn, readAs, faultOf, surveyOf, eventsOf, initsOf, readOf, front, roomAfter, eventLimit}
+use Rattle.trace.specs.Writing.{textOf, hasLine, startLine, textBy, traceText}
+use Rattle.trace.specs.Text.{Fits}
 use Rattle.record.specs.declared.form.Form.{Form}
 use Rattle.record.specs.declared.form.Form.the-variants.{One, Two}
 use Rattle.record.specs.declared.Record.the-variants.{Init, AnEvent}
 use Rattle.record.proofs.Layouts.{event-read, init-read}
 use Rattle.record.proofs.Prints.{event-no-lf, init-no-lf}
+use Rattle.trace.proofs.Covered.{Heard, each-heard, fit-inside, covered}
+use Rattle.trace.proofs.Starts.{Rising, rising-starts, filled-starts}
 use Rattle.trace.proofs.Range.{text-length, longest-short}
 use Rattle.trace.proofs.Readings.{read-done}
 use Rattle.record.proofs.Records.{blank}
@@ -47,12 +49,9 @@ some-after : (ls ts : List (List ℕ)) → Some ts → Some (ls ++ ts)
 some-after [] ts h = h
 some-after (l ∷ ls) ts h = tt
 
-inits-free : (l : ℕ) (vs : List ℕ) → Each (Free 10) (initLines l vs)
-unfolding initLines
-inits-free l [] = tt
-inits-free l (v ∷ vs) =
-    let i = inits-free (l + 1) vs in
-    cases (either (eqb v 0)) (λ e. rw e i) (λ e. rw e (init-no-lf l v, i))
+inits-free : (is : List Start) → Each (Free 10) (map startLine is)
+inits-free [] = tt
+inits-free (i ∷ is) = (init-no-lf (i .0) (i .1), inits-free is)
 
 no-lf : (f : Form) → every (λ b. not (eqb b 10)) (header f) ≡ true
 no-lf One = refl
@@ -92,100 +91,98 @@ module _ (f : Form) where
   tail-events [] h = rw (blank f)
   tail-events (e ∷ es) h = rw (event-read f e (h .0), tail-events es (h .1))
 
-  tail-start : (cells : List ℕ) (es : List Event) → Each (Fit f) es → startIn f cells (tail es) ≡ cells
-  unfolding startIn
-  tail-start cells [] h = rw (blank f)
-  tail-start cells (e ∷ es) h = rw (event-read f e (h .0), startIn) (tail-start cells es (h .1))
+  tail-inits : (es : List Event) → Each (Fit f) es → initsIn f (tail es) ≡ []
+  unfolding saidIn
+  tail-inits [] h = rw (blank f)
+  tail-inits (e ∷ es) h = rw (event-read f e (h .0)) (tail-inits es (h .1))
 
-  pub start-init : (cells l : List ℕ) (ls : List (List ℕ)) (p v : ℕ) → recordOf f l ≡ Init p v → startIn f cells (l ∷ ls) ≡ startIn f (set cells p v) ls
-  unfolding startIn
-  start-init cells l ls p v h = rw (h, startIn)
-
-  pub start-event : (cells l : List ℕ) (ls : List (List ℕ)) (e : Event) → recordOf f l ≡ AnEvent e → startIn f cells (l ∷ ls) ≡ startIn f cells ls
-  unfolding startIn
-  start-event cells l ls e h = rw (h, startIn)
-
-  -- lines of starting values before other lines ts: none is refused, none is an event, and they fill cells that are 0
+  -- lines of starting values that ascend, before other lines ts: none is refused, and they are read as those values
   module _ (ts : List (List ℕ)) where
-    inits-lines : (side : ℕ) → Some ts → ((k low : ℕ) → linesFault (traceLayout f) side k (record { low = low; events = 0 }) ts ≡ done) → (k low l : ℕ) (vs : List ℕ)
-        → low ≤ l → l + length vs ≤ 256 → Valued vs → linesFault (traceLayout f) side k (record { low = low; events = 0 }) (initLines l vs ++ ts) ≡ done
-    unfolding initLines
-    inits-lines side s g k low l [] o b h = g k low
-    inits-lines side s g k low l (v ∷ vs) o b h =
-        cases (either (eqb v 0)) (λ e. rw e (inits-lines side s g k low (l + 1) vs (omega arith) (omega arith) (h .1)))
-        (λ e. let q = init-read f l v (omega arith) (h .0) (eqb-false v 0 e) in
-        rw e
-        (lines-go (traceLayout f) side k (record { low = low; events = 0 }) (initLine l v) (initLines (l + 1) vs ++ ts) (some-after (initLines (l + 1) vs) ts s)
-        (rw (q, le-ltb l low o))
-        ∙ rw q (inits-lines side s g (k + 1) (l + 1) (l + 1) vs (omega arith) (omega arith) (h .1))))
+    inits-lines : (side : ℕ) → Some ts → ((k low : ℕ) → linesFault (traceLayout f) side k (record { low = low; events = 0 }) ts ≡ done) → (k low : ℕ) (is : List Start)
+        → Rising low is → Each (Heard f) is → linesFault (traceLayout f) side k (record { low = low; events = 0 }) (map startLine is ++ ts) ≡ done
+    inits-lines side s g k low [] r h = g k low
+    inits-lines side s g k low ((p, v) ∷ is) r h =
+        let q = init-read f p v (omega (arith, r .0)) (h .0 .value) (h .0 .loud) in
+        lines-go (traceLayout f) side k (record { low = low; events = 0 }) (initLine p v) (map startLine is ++ ts) (some-after (map startLine is) ts s)
+        (rw (q, le-ltb p low (r .0 .0)))
+        ∙ rw q (inits-lines side s g (k + 1) (p + 1) is (r .1) (h .1))
 
-    inits-events : (l : ℕ) (vs : List ℕ) → l + length vs ≤ 256 → Valued vs → eventsIn f (initLines l vs ++ ts) ≡ eventsIn f ts
-    unfolding initLines saidIn
-    inits-events l [] b h = refl
-    inits-events l (v ∷ vs) b h =
-        let i = inits-events (l + 1) vs (omega arith) (h .1) in
-        cases (either (eqb v 0)) (λ e. rw e i) (λ e. rw (e, init-read f l v (omega arith) (h .0) (eqb-false v 0 e)) i)
-
-    inits-start : (w vs : List ℕ) → length w + length vs ≤ 256 → Valued vs → ((cells : List ℕ) → startIn f cells ts ≡ cells)
-        → startIn f (w ++ replicate (length vs) 0) (initLines (length w) vs ++ ts) ≡ w ++ vs
-    unfolding initLines startIn
-    inits-start w [] b h g = g (w ++ [])
-    inits-start w (v ∷ vs) b h g =
-        let n : length (w ++ (v ∷ [])) ≡ length w + 1 = length-append w (v ∷ []) in
-        let i : startIn f ((w ++ (v ∷ [])) ++ replicate (length vs) 0) (initLines (length w + 1) vs ++ ts) ≡ (w ++ (v ∷ [])) ++ vs =
-        rw n at (inits-start (w ++ (v ∷ [])) vs (omega arith) (h .1) g) in
-        let j : startIn f (w ++ v ∷ replicate (length vs) 0) (initLines (length w + 1) vs ++ ts) ≡ w ++ v ∷ vs = simp append-snoc at i in
-        cases (either (eqb v 0)) (λ e. rw (e, eqb-true v 0 e) (rw (eqb-true v 0 e) at j))
-        (λ e. rw e
-        (start-init (w ++ replicate (length (v ∷ vs)) 0) (initLine (length w) v) (initLines (length w + 1) vs ++ ts) (length w) v
-        (init-read f (length w) v (omega arith) (h .0) (eqb-false v 0 e))
-        ∙ rw (set-append-seam w 0 (replicate (length vs) 0) v) j))
+    inits-read : (low : ℕ) (is : List Start) → Rising low is → Each (Heard f) is
+        → (initsIn f (map startLine is ++ ts) ≡ is ++ initsIn f ts) × (eventsIn f (map startLine is ++ ts) ≡ eventsIn f ts)
+    unfolding saidIn
+    inits-read low [] r h = (refl, refl)
+    inits-read low ((p, v) ∷ is) r h =
+        let q = init-read f p v (omega (arith, r .0)) (h .0 .value) (h .0 .loud) in
+        let i = inits-read (p + 1) is (r .1) (h .1) in
+        (rw (q, i .0), rw (q, i .1))
 
   map-free : (es : List Event) → Each (Free 10) (map (eventLine f) es)
   map-free [] = tt
   map-free (e ∷ es) = (event-no-lf f e, map-free es)
 
-  -- the parts of a trace's text
-  pub text-parts : (m : Memory) (es : List Event) → split (traceText f m es) ≡ header f ∷ (initLines 0 (m .cells) ++ tail es)
-  unfolding traceText
+  -- the starting values of a trace that have a line, and the parts of its text
+  abbrev pub its-inits : Memory → List Event → List Start
+  its-inits m es = starts (hasLine f (touched es)) 0 (m .cells)
+
+  abbrev pub its-lines : Memory → List Event → List (List ℕ)
+  its-lines m es = map startLine (its-inits m es) ++ tail es
+
+  pub text-parts : (m : Memory) (es : List Event) → split (traceText f m es) ≡ header f ∷ its-lines m es
+  unfolding textBy
   text-parts m es =
-      split-text (header f ∷ initLines 0 (m .cells) ++ map (eventLine f) es)
-      (header-free f, each-append (Free 10) (initLines 0 (m .cells)) (map (eventLine f) es) (inits-free 0 (m .cells)) (map-free es))
+      let ls : List (List ℕ) = map startLine (its-inits m es) in
+      split-text (header f ∷ ls ++ map (eventLine f) es)
+      (header-free f, each-append (Free 10) ls (map (eventLine f) es) (inits-free (its-inits m es)) (map-free es))
       ∙ rw append-assoc
 
-  pub some-lines : (m : Memory) (es : List Event) → Some (initLines 0 (m .cells) ++ tail es)
-  some-lines m es = some-after (initLines 0 (m .cells)) (tail es) (some-end (map (eventLine f) es))
+  pub some-lines : (m : Memory) (es : List Event) → Some (its-lines m es)
+  some-lines m es = some-after (map startLine (its-inits m es)) (tail es) (some-end (map (eventLine f) es))
 
   -- a text written in a form is of that form
   pub form-written : (m : Memory) (es : List Event) → formOf (traceText f m es) ≡ f
   unfolding formOf
-  form-written m es = rw (text-parts m es) (form-of f (initLines 0 (m .cells) ++ tail es) (some-lines m es))
+  form-written m es = rw (text-parts m es) (form-of f (its-lines m es) (some-lines m es))
+
+  -- a value that is to have no line is 0
+  zero-by : (has : ℕ → Bool) (l v : ℕ) → hasLine f has l v ≡ false → v ≡ 0
+  zero-by has l v h = cases (either (eqb v 0)) (λ z. eqb-true v 0 z) (λ z. absurd (true≢false (rw z at h)))
 
   module _ (side : ℕ) (m : Memory) (es : List Event) (i : Fits f m es) where
-    the-events : eventsIn f (initLines 0 (m .cells) ++ tail es) ≡ es
-    the-events = inits-events (tail es) 0 (m .cells) (omega arith) (i .values) ∙ tail-events es (i .events)
+    ascend : Rising 0 (its-inits m es)
+    ascend = rising-starts (hasLine f (touched es)) 0 0 (m .cells) (omega arith) (omega (arith, i .size))
 
-    the-start : startIn f (empty .cells) (initLines 0 (m .cells) ++ tail es) ≡ m .cells
-    the-start =
-        rw (i .size) at (inits-start (tail es) [] (m .cells) (omega arith) (i .values) (λ cells. tail-start cells es (i .events)))
+    heard : Each (Heard f) (its-inits m es)
+    heard = each-heard f (touched es) 0 (m .cells) (i .values)
 
-    the-lines : linesFault (traceLayout f) side 2 (traceLayout f .start) (initLines 0 (m .cells) ++ tail es) ≡ done
+    the-inits : initsIn f (its-lines m es) ≡ its-inits m es
+    the-inits = inits-read (tail es) 0 (its-inits m es) ascend heard .0 ∙ rw (tail-inits es (i .events)) (append-nil (its-inits m es))
+
+    the-events : eventsIn f (its-lines m es) ≡ es
+    the-events = inits-read (tail es) 0 (its-inits m es) ascend heard .1 ∙ tail-events es (i .events)
+
+    the-start : startIn f (empty .cells) (its-lines m es) ≡ m .cells
+    unfolding startIn
+    the-start = rw the-inits (rw (i .size) at (filled-starts (hasLine f (touched es)) (zero-by (touched es)) [] (m .cells)))
+
+    the-lines : linesFault (traceLayout f) side 2 (traceLayout f .start) (its-lines m es) ≡ done
     the-lines =
         inits-lines (tail es) side (some-end (map (eventLine f) es))
-        (λ k low. tail-lines side k (record { low = low; events = 0 }) es (omega (arith, i .few)) (i .events)) 2 0 0 (m .cells) (omega arith)
-        (omega arith) (i .values)
+        (λ k low. tail-lines side k (record { low = low; events = 0 }) es (omega (arith, i .few)) (i .events)) 2 0 (its-inits m es) ascend heard
+
+    -- and each location that an event touches has its line
+    the-cover : coverFault f side (its-inits m es) es ≡ done
+    the-cover = covered f side (m .cells) es (fit-inside f (length (m .cells)) es (i .size) (i .events))
 
     -- Document 01, "Lent room": "The writer makes the `init` lines from that memory and fills exactly the bytes that it counts." What is
     -- written so is read back as that memory and those events, without refusal.
     pub read-written : eventFault side 1 m [] es ≡ done
         → (surveyOf side (traceText f m es) ≡ readAs (length es) m) × (eventsOf (traceText f m es) ≡ es)
-    unfolding surveyOf faultOf eventsOf
+    unfolding surveyOf faultOf eventsOf initsOf
     read-written h =
-        let short : length (traceText f m es) ≤ limitOf f = omega (arith, text-length f m es i, longest-short f) in
+        let short : length (traceText f m es) ≤ limitOf f = omega (arith, text-length f (touched es) m es i, longest-short f) in
         let p = text-parts m es in
-        let ls : List (List ℕ) = initLines 0 (m .cells) ++ tail es in
-        let t = by-lines (traceLayout f) side (traceText f m es) ls short p (some-lines m es) in
-        (rw (form-written m es, t, the-lines, p, the-start, the-events, h), rw (form-written m es, p) the-events)
+        let t = by-lines (traceLayout f) side (traceText f m es) (its-lines m es) short p (some-lines m es) in
+        (rw (form-written m es, t, the-lines, p, the-start, the-inits, the-events, the-cover, h), rw (form-written m es, p) the-events)
 
     -- so a room that holds the events has them at its front
     pub read-into : (room : List ℕ) → eventFault side 1 m [] es ≡ done → length es ≤ length room / 6

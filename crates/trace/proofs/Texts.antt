@@ -3,10 +3,7 @@ use Prim.Native.Nat.{ℕ, _+_, _-_, _≤_, _<_}
 use mathlib.Core.Bool.{Bool, true, false}
 use mathlib.Core.Path.{_≡_, refl, sym, _∙_}
 use mathlib.Core.List.{List, [], _∷_, _++_, map, append-assoc, append-nil}
-use native.Mathlib.Numerals.{add-one}
-use lib.Dec.{eqb}
-use lib.ListN.{length, getD, drop, drop-of-length-le}
-use lib.Seq.{drop-cons}
+use lib.ListN.{length, getD, drop}
 use Rattle.laws.proofs.Cases.{cases, either}
 use Rattle.event.specs.Room.{eventAt, onward}
 use Rattle.event.specs.declared.Event.{Event}
@@ -19,8 +16,9 @@ use Rattle.record.specs.Layout.{kindWords, wordAt, initWord, shapeOf, parts, th
 use Rattle.record.specs.declared.shape.Shape.{Shape}
 use Rattle.record.specs.declared.form.Form.{Form}
 use Rattle.trace.specs.Put.{tabIf, initPart, startText}
-use Rattle.trace.specs.Writing.{textOf, initLines, traceText}
+use Rattle.trace.specs.Writing.{textOf, hasLine, initLines, textBy}
 use Rattle.trace.proofs.Puts.{all}
+use Rattle.trace.proofs.Starts.{starts-next, starts-end}
 use Rattle.trace.proofs.Judged.{onward-next, onward-end}
 
 -- fields that are there or not, each with the TAB before it
@@ -64,32 +62,32 @@ text-append [] ms = refl
 text-append (l ∷ ls) ms = rw (text-append ls ms) (sym (append-assoc l (10 ∷ textOf ls) (textOf ms)))
 
 -- what stands before the events: the header, the `init` lines
-abbrev pub startParts : Form → Memory → List (List ℕ)
-startParts f m = (header f ++ 10 ∷ []) ∷ textOf (initLines 0 (m .cells)) ∷ []
+abbrev pub startParts : Form → (ℕ → Bool) → Memory → List (List ℕ)
+startParts f has m = (header f ++ 10 ∷ []) ∷ textOf (initLines (hasLine f has) 0 (m .cells)) ∷ []
 
-pub start-parts : (f : Form) (m : Memory) → startText f m ≡ all (startParts f m)
+pub start-parts : (f : Form) (has : ℕ → Bool) (m : Memory) → startText f has m ≡ all (startParts f has m)
 unfolding startText
-start-parts f m = text-cons (header f) (initLines 0 (m .cells)) ∙ rw (append-nil (textOf (initLines 0 (m .cells))))
+start-parts f has m =
+    let ls : List (List ℕ) = initLines (hasLine f has) 0 (m .cells) in text-cons (header f) ls ∙ rw (append-nil (textOf ls))
 
 -- that, and the events' lines
-pub trace-parts : (f : Form) (m : Memory) (es : List Event) → traceText f m es ≡ startText f m ++ textOf (map (eventLine f) es)
-unfolding traceText startText
-trace-parts f m es = text-append (header f ∷ initLines 0 (m .cells)) (map (eventLine f) es)
+pub trace-parts : (f : Form) (has : ℕ → Bool) (m : Memory) (es : List Event) → textBy f has m es ≡ startText f has m ++ textOf (map (eventLine f) es)
+unfolding textBy startText
+trace-parts f has m es = text-append (header f ∷ initLines (hasLine f has) 0 (m .cells)) (map (eventLine f) es)
 
 -- the `init` lines from a location on
-pub init-cons : (l v : ℕ) (vs : List ℕ) → textOf (initLines l (v ∷ vs)) ≡ initPart l v ++ textOf (initLines (l + 1) vs)
-unfolding initLines
-init-cons l v vs =
-    cases (either (eqb v 0)) (λ z. rw z) (λ z. rw z (text-cons (initLine l v) (initLines (l + 1) vs)))
-
-module _ (cells : List ℕ) (i : ℕ) where
+module _ (has : ℕ → ℕ → Bool) (cells : List ℕ) (i : ℕ) where
   pub inits-next : i < length cells
-      → textOf (initLines i (drop i cells)) ≡ initPart i (getD cells i 0) ++ textOf (initLines (i + 1) (drop (i + 1) cells))
-  inits-next h = rw (add-one i, drop-cons cells i 0 h, ← add-one i) (init-cons i (getD cells i 0) (drop (i + 1) cells))
+      → textOf (initLines has i (drop i cells))
+      ≡ initPart (has i (getD cells i 0)) i (getD cells i 0) ++ textOf (initLines has (i + 1) (drop (i + 1) cells))
+  inits-next h =
+      let v : ℕ = getD cells i 0 in
+      let ls : List (List ℕ) = initLines has (i + 1) (drop (i + 1) cells) in
+      rw (starts-next has cells i h) (cases (either (has i v)) (λ z. rw z (text-cons (initLine i v) ls)) (λ z. rw z))
 
-  pub inits-end : length cells ≤ i → textOf (initLines i (drop i cells)) ≡ []
-  unfolding textOf initLines
-  inits-end h = rw (drop-of-length-le cells h)
+  pub inits-end : length cells ≤ i → textOf (initLines has i (drop i cells)) ≡ []
+  unfolding textOf
+  inits-end h = rw (starts-end has cells i h)
 
 -- the lines of the events from an index on
 module _ (f : Form) (room : List ℕ) (i n : ℕ) where

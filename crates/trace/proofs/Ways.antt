@@ -1,19 +1,21 @@
 -- An array that says how each location was used, and one event more. While no event has clashed, each location was used in one way
--- at most, so that one number for each location tells all. Assumes nothing.
+-- at most, so that one number for each location tells all; and whether it was touched at all it tells always. Assumes nothing.
 use Prim.Native.Nat.{ℕ, _<_}
-use mathlib.Core.Path.{_≡_, refl, sym, _∙_}
-use mathlib.Core.Bool.{Bool, true, false, cond, not, _&&_, _||_, and-true, and-false, or-false}
+use mathlib.Core.Path.{_≡_, refl, sym, _∙_, fun-ext}
+use mathlib.Core.Bool.{Bool, true, false, cond, not, _&&_, _||_, and-true, and-false, or-false, or-assoc, or-comm}
 use mathlib.Core.List.{List, [], _∷_}
 use native.Mathlib.Omega.{arith}
 use lib.Dec.{eqb}
-use lib.ListN.{length, getD, replicate, getD-replicate}
+use lib.ListN.{length, getD, replicate, getD-replicate, length-set, List·getD-eq-default}
 use lib.Seq.{getD-set-same, getD-set-other}
-use borrow.Author.Tests.{eqb-true, eqb-false, eq-eqb}
-use Rattle.laws.proofs.Cases.{cases, either}
+use borrow.Author.Tests.{eqb-true, eqb-false, eq-eqb, lt-ltb}
+use Rattle.laws.proofs.Cases.{cases, either, side}
+use Rattle.laws.specs.Each.{Each}
 use Rattle.event.specs.Kind.{row, isLocation, plain, atomic}
 use Rattle.event.specs.declared.Event.{Event}
+use Rattle.trace.specs.Cover.{touches, touched}
 use Rattle.trace.specs.Fault.{uses, clashes}
-use Rattle.trace.specs.Way.{wayOf, opposed, joined, clashing, waysAfter}
+use Rattle.trace.specs.Way.{wayOf, opposed, joined, clashing, isUsed, waysAfter, waysOf}
 
 -- the array says how the events used each location
 abbrev pub Marks : List ℕ → List Event → Type 0
@@ -80,3 +82,50 @@ module _ (ways : List ℕ) (before : List Event) (e : Event) (inside : e .place 
         (λ i. let g : getD (waysAfter ways e) l 0 ≡ getD ways l 0 =
         getD-set-other ways (e .place) l way-now 0 (λ y. eqb-false (e .place) l i (sym y)) in
         rw g (rw (i, and-false, and-false) (marks l h)))
+
+-- whatever clashes, the array says which locations were touched
+abbrev pub Touch : List ℕ → List Event → Type 0
+Touch ways before = (l : ℕ) → isUsed ways l ≡ touched before l
+
+pub touch-told : (es : List Event) {ways ways′ : List ℕ} → ways ≡ ways′ → Touch ways′ es → Touch ways es
+touch-told es p t = rw p t
+
+pub touch-start : Touch (replicate 256 0) []
+unfolding uses
+touch-start l = cases (side l 256) (λ h. rw (getD-replicate {A = ℕ} 256 l 0 0 h)) (λ h. rw (List·getD-eq-default {A = ℕ} (replicate 256 0) 0 h))
+
+used-at : (a s : Bool) (w : ℕ) → not (eqb (joined w (way a s)) 0) ≡ (a || not (eqb w 0))
+unfolding joined
+used-at false s w = refl
+used-at true true w = refl
+used-at true false w = refl
+
+module _ (ways : List ℕ) (e : Event) (inside : e .place < 256) (size : length ways ≡ 256) where
+  used-next : (l : ℕ) → isUsed (waysAfter ways e) l ≡ ((touches e && eqb (e .place) l) || isUsed ways l)
+  unfolding wayOf
+  used-next l =
+      let now : ℕ = joined (getD ways (e .place) 0) (wayOf (e .kind)) in
+      cases (either (eqb (e .place) l))
+      (λ i. let j : e .place ≡ l = eqb-true (e .place) l i in
+      let g : getD (waysAfter ways e) l 0 ≡ now = rw (← j) (getD-set-same ways (e .place) now 0 (omega arith)) in
+      rw (g, i, and-true (touches e), ← j) (used-at (isLocation (row (e .kind) .place)) (row (e .kind) .sync) (getD ways (e .place) 0)))
+      (λ i. let g : getD (waysAfter ways e) l 0 ≡ getD ways l 0 = getD-set-other ways (e .place) l now 0 (λ y. eqb-false (e .place) l i (sym y)) in
+      rw (g, i, and-false (touches e)))
+
+  pub touch-next : (before : List Event) → Touch ways before → Touch (waysAfter ways e) (e ∷ before)
+  unfolding uses
+  touch-next before t l = used-next l ∙ rw (t l)
+
+-- and after many events
+used-all : (ways : List ℕ) (es : List Event) → length ways ≡ 256 → Each (λ e. e .place < 256) es → (l : ℕ) → isUsed (waysOf ways es) l ≡ (isUsed ways l || touched es l)
+unfolding waysOf uses
+used-all ways [] q h l = sym (or-false (isUsed ways l))
+used-all ways (e ∷ es) q h l =
+    let i = used-all (waysAfter ways e) es (length-set ways (e .place) _ ∙ q) (h .1) l in
+    rw (lt-ltb (e .place) 256 (h .0))
+    (i ∙ rw (used-next ways e (h .0) q l, or-comm (touches e && eqb (e .place) l) (isUsed ways l))
+    (or-assoc (isUsed ways l) (touches e && eqb (e .place) l) (touched es l)))
+
+pub used-by : (es : List Event) → Each (λ e. e .place < 256) es → isUsed (waysOf (replicate 256 0) es) ≡ touched es
+unfolding uses
+used-by es h = fun-ext (λ l. used-all (replicate 256 0) es refl h l ∙ rw (touch-start l))

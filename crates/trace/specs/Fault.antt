@@ -10,6 +10,11 @@ use Rattle.event.specs.declared.Answer.{Answer}
 use Rattle.event.specs.declared.Event.{Event}
 use Rattle.event.specs.declared.memory.Memory.{Memory}
 
+-- The first of a list of which a test says that it is bad, the first of the list having the number k; an answer of this number and side.
+unfoldable pub firstBad : {A : Type 0} → (A → Bool) → ℕ → ℕ → ℕ → List A → Answer
+firstBad bad number side k [] = done
+firstBad bad number side k (a ∷ bs) = cond (bad a) (answer number side k) (firstBad bad number side (k + 1) bs)
+
 -- Whether some event of a list is of a class and at a location.
 unfoldable pub uses : (Event → Bool) → ℕ → List Event → Bool
 uses class l [] = false

@@ -1,6 +1,7 @@
--- What a reader has to believe, by page: answers 5 and 6, the reading of a whole text, the writing of a whole text, its move to the other form, which
+-- What a reader has to believe, by page: answers 5 and 6, answers 20 and 21, the reading of a whole text, the writing of a whole text, its move to the other form, which
 -- traces have a text.
 pub mod Fault
+pub mod Cover
 pub mod Reading
 pub mod Writing
 pub mod Moving

@@ -3,7 +3,6 @@ use Prim.Native.Nat.{ℕ, _+_, _<_}
 use mathlib.Core.Bool.{Bool, true, false, cond}
 use mathlib.Core.Path.{_≡_}
 use mathlib.Core.List.{List, [], _∷_, _++_}
-use lib.Dec.{eqb}
 use lib.ListN.{length}
 use lib.Seq.{sets}
 use Rattle.event.specs.Kind.{lawful}
@@ -13,7 +12,7 @@ use Rattle.record.specs.Form.{header}
 use Rattle.record.specs.Layout.{eventLine, initLine}
 use Rattle.record.specs.declared.form.Form.{Form}
 use Rattle.record.specs.declared.form.Form.the-variants.{One}
-use Rattle.trace.specs.Writing.{textOf, initLines}
+use Rattle.trace.specs.Writing.{textOf, hasLine, initLines}
 
 -- Of a room, a place and bytes: the room after them, and the place after them.
 pub record Put (room : List ℕ) (at : ℕ) (bytes : List ℕ) (after : List ℕ) (next : ℕ) : Type 0 where
@@ -29,9 +28,9 @@ abbrev pub tabIf : Bool → List ℕ → List ℕ
 tabIf true f = 9 ∷ f
 tabIf false f = []
 
--- The `init` line of a location with its LF; none for the value 0.
-abbrev pub initPart : ℕ → ℕ → List ℕ
-initPart place value = cond (eqb value 0) [] (initLine place value ++ 10 ∷ [])
+-- The `init` line of a location with its LF, if it is to be there.
+abbrev pub initPart : Bool → ℕ → ℕ → List ℕ
+initPart has place value = cond has (initLine place value ++ 10 ∷ []) []
 
 -- An event without its code line, and its line of form 1 with its LF; none for an event outside the layout.
 abbrev pub bare : Event → Event
@@ -41,5 +40,5 @@ abbrev pub bareLine : Event → List ℕ
 bareLine e = cond (lawful (bare e)) (eventLine One (bare e) ++ 10 ∷ []) []
 
 -- Line 1 and the `init` lines, each with its LF.
-unfoldable pub startText : Form → Memory → List ℕ
-startText f m = textOf (header f ∷ initLines 0 (m .cells))
+unfoldable pub startText : Form → (ℕ → Bool) → Memory → List ℕ
+startText f has m = textOf (header f ∷ initLines (hasLine f has) 0 (m .cells))

@@ -1,4 +1,4 @@
--- Document 01, "Numbers that come back" and "Lent room", and document 02, C-11: the reading of a trace text. Its form comes from the text.
+-- Document 01, "Numbers that come back" and "Lent room", and document 02, C-11 and C-15: the reading of a trace text. Its form comes from the text.
 -- Assumes nothing.
 use Prim.Native.Nat.{ℕ, _+_, _*_, _/_}
 use mathlib.Core.Bool.{cond}
@@ -15,6 +15,7 @@ use Rattle.text.specs.Line.{split, body, saidIn}
 use Rattle.frame.specs.Reading.{Layout, headed, textFault, settle, fitted}
 use Rattle.record.specs.Form.{header, limitOf}
 use Rattle.record.specs.Record.{recordOf}
+use Rattle.trace.specs.Cover.{Start, coverFault}
 use Rattle.trace.specs.Fault.{eventFault}
 use Rattle.record.specs.declared.form.Form.{Form}
 use Rattle.record.specs.declared.form.Form.the-variants.{One, Two}
@@ -70,15 +71,25 @@ eventsIn f ls = saidIn (λ l. eventsOn (recordOf f l)) ls
 unfoldable pub eventsOf : List ℕ → List Event
 eventsOf t = eventsIn (formOf t) (body (split t))
 
--- The memory after the lines' starting values.
-abbrev pub onInit : Record → List ℕ → List ℕ
-onInit Refused cells = cells
-onInit (Init p v) cells = set cells p v
-onInit (AnEvent e) cells = cells
+-- Its starting values, likewise.
+abbrev pub initsOn : Record → List Start
+initsOn Refused = []
+initsOn (Init p v) = (p, v) ∷ []
+initsOn (AnEvent e) = []
+
+abbrev pub initsIn : Form → List (List ℕ) → List Start
+initsIn f ls = saidIn (λ l. initsOn (recordOf f l)) ls
+
+unfoldable pub initsOf : List ℕ → List Start
+initsOf t = initsIn (formOf t) (body (split t))
+
+-- Cells with starting values in them, and those after the lines' starting values.
+abbrev pub filled : List ℕ → List Start → List ℕ
+filled cells [] = cells
+filled cells (i ∷ is) = filled (set cells (i .0) (i .1)) is
 
 unfoldable pub startIn : Form → List ℕ → List (List ℕ) → List ℕ
-startIn f cells [] = cells
-startIn f cells (l ∷ ls) = startIn f (onInit (recordOf f l) cells) ls
+startIn f cells ls = filled cells (initsIn f ls)
 
 abbrev pub startFrom : Form → Memory → List (List ℕ) → Memory
 startFrom f m ls = record { cells = startIn f (m .cells) ls }
@@ -87,9 +98,11 @@ startFrom f m ls = record { cells = startIn f (m .cells) ls }
 abbrev pub startOf : List ℕ → Memory
 startOf t = startFrom (formOf t) empty (body (split t))
 
--- The first refusal of a text: 1, then line by line 2, 4, 3, then event by event 5, 6.
+-- The first refusal of a text: 1, then line by line 2, 4, 3, then 20, 21, then event by event 5, 6.
 unfoldable pub faultOf : ℕ → List ℕ → Answer
-faultOf side t = first (textFault (traceLayout (formOf t)) side t) (eventFault side 1 (startOf t) [] (eventsOf t))
+faultOf side t =
+    first (textFault (traceLayout (formOf t)) side t)
+    (first (coverFault (formOf t) side (initsOf t) (eventsOf t)) (eventFault side 1 (startOf t) [] (eventsOf t)))
 
 -- What a refusal hands back, no event and an empty memory; and what a reading of n events does.
 abbrev pub refused : Answer → TraceRead
@@ -98,7 +111,7 @@ refused a = record { answer = a; events = 0; memory = empty }
 abbrev pub readAs : ℕ → Memory → TraceRead
 readAs n m = record { answer = done; events = n; memory = m }
 
--- Answers 1 to 6 of a text, with its number of events and its starting memory.
+-- Those answers of a text, with its number of events and its starting memory.
 unfoldable pub surveyOf : ℕ → List ℕ → TraceRead
 surveyOf side t = settle refused (faultOf side t) (readAs (length (eventsOf t)) (startOf t))
 

@@ -1,11 +1,11 @@
 -- Document 01, answer 5: how a location is used, as one number. Assumes nothing.
 use Prim.Native.Nat.{ℕ}
-use mathlib.Core.Bool.{Bool, cond, _&&_, _||_}
-use mathlib.Core.List.{List}
-use lib.Dec.{eqb}
+use mathlib.Core.Bool.{Bool, cond, not, _&&_, _||_}
+use mathlib.Core.List.{List, [], _∷_}
+use lib.Dec.{eqb, ltb}
 use lib.ListN.{getD, set}
 use Rattle.event.specs.declared.Event.{Event}
-use Rattle.event.specs.Kind.{row, isLocation}
+use Rattle.event.specs.Kind.{row, isLocation, places}
 
 -- 0 not at all, 1 by a plain event, 2 by an atomic one.
 unfoldable pub wayOf : ℕ → ℕ
@@ -19,9 +19,20 @@ opposed was way = (eqb was 1 && eqb way 2) || (eqb was 2 && eqb way 1)
 unfoldable pub joined : ℕ → ℕ → ℕ
 joined was way = cond (eqb way 0) was way
 
--- By the ways in which the locations were used: whether an event clashes, and the ways after it.
+-- By the ways in which the locations were used: whether an event clashes, whether a location was used at all, and the ways after an event.
 abbrev pub clashing : List ℕ → Event → Bool
 clashing ways e = opposed (getD ways (e .place) 0) (wayOf (e .kind))
 
+abbrev pub isUsed : List ℕ → ℕ → Bool
+isUsed ways l = not (eqb (getD ways l 0) 0)
+
 abbrev pub waysAfter : List ℕ → Event → List ℕ
 waysAfter ways e = set ways (e .place) (joined (getD ways (e .place) 0) (wayOf (e .kind)))
+
+-- The ways after several; what is at no location of the ways is passed over.
+abbrev pub waysWith : List ℕ → Event → List ℕ
+waysWith ways e = cond (ltb (e .place) places) (waysAfter ways e) ways
+
+unfoldable pub waysOf : List ℕ → List Event → List ℕ
+waysOf ways [] = ways
+waysOf ways (e ∷ es) = waysOf (waysWith ways e) es

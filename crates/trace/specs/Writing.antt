@@ -1,6 +1,6 @@
--- Document 01, "Lent room" and "The writer", and document 02, C-11: a starting memory and a room written as a text of a form. Assumes nothing.
+-- Document 01, "Lent room" and "The writer", and document 02, C-11 and C-15: a starting memory and a room written as a text of a form. Assumes nothing.
 use Prim.Native.Nat.{ℕ, _+_, _/_}
-use mathlib.Core.Bool.{Bool, cond, not}
+use mathlib.Core.Bool.{Bool, cond, not, _&&_, _||_}
 use mathlib.Core.List.{List, [], _∷_, _++_, map}
 use lib.Dec.{eqb, leb, ltb}
 use lib.ListN.{length, drop}
@@ -10,10 +10,11 @@ use Rattle.event.specs.Room.{onward}
 use Rattle.event.specs.declared.Answer.{Answer}
 use Rattle.event.specs.declared.Event.{Event}
 use Rattle.event.specs.declared.memory.Memory.{Memory}
-use Rattle.record.specs.Form.{header, loses}
+use Rattle.record.specs.Form.{header, loses, silent}
 use Rattle.record.specs.Layout.{initLine, eventLine}
 use Rattle.record.specs.declared.form.Form.{Form}
-use Rattle.trace.specs.Fault.{eventFault}
+use Rattle.trace.specs.Cover.{Start, touched, starts}
+use Rattle.trace.specs.Fault.{eventFault, firstBad}
 use Rattle.trace.specs.Reading.{eventLimit}
 
 -- How many events a part of a room has: one that is cut short at its end counts.
@@ -23,11 +24,6 @@ countOf room = (length room + 5) / 6
 -- Its events; one that is cut short is no event, which is not lawful.
 abbrev pub roomEvents : List ℕ → List Event
 roomEvents room = onward room 0 (countOf room)
-
--- The first event of which a test says that it is bad, the first of the list having the number k; an answer of this number and side.
-unfoldable pub firstBad : (Event → Bool) → ℕ → ℕ → ℕ → List Event → Answer
-firstBad bad number side k [] = done
-firstBad bad number side k (e ∷ es) = cond (bad e) (answer number side k) (firstBad bad number side (k + 1) es)
 
 -- 18: the first event that is outside the layout.
 abbrev pub layoutFault : ℕ → List Event → Answer
@@ -42,14 +38,23 @@ unfoldable pub textOf : List (List ℕ) → List ℕ
 textOf [] = []
 textOf (l ∷ ls) = l ++ 10 ∷ textOf ls
 
--- The `init` lines of the cells from a location on: none for a cell of 0.
-unfoldable pub initLines : ℕ → List ℕ → List (List ℕ)
-initLines l [] = []
-initLines l (v ∷ vs) = cond (eqb v 0) (initLines (l + 1) vs) (initLine l v ∷ initLines (l + 1) vs)
+-- Whether a starting value has a line, by which locations are touched: one that is not 0, and a zero that is not silent for a location that is.
+abbrev pub hasLine : Form → (ℕ → Bool) → ℕ → ℕ → Bool
+hasLine f has l v = not (eqb v 0) || (not (silent f 0) && has l)
 
--- The text of a trace.
-unfoldable pub traceText : Form → Memory → List Event → List ℕ
-traceText f m es = textOf (header f ∷ initLines 0 (m .cells) ++ map (eventLine f) es)
+-- The `init` lines of a memory's cells.
+abbrev pub startLine : Start → List ℕ
+startLine i = initLine (i .0) (i .1)
+
+abbrev pub initLines : (ℕ → ℕ → Bool) → ℕ → List ℕ → List (List ℕ)
+initLines has l vs = map startLine (starts has l vs)
+
+-- The text of a trace, by which locations are touched; they are those that its events touch.
+unfoldable pub textBy : Form → (ℕ → Bool) → Memory → List Event → List ℕ
+textBy f has m es = textOf (header f ∷ initLines (hasLine f has) 0 (m .cells) ++ map (eventLine f) es)
+
+abbrev pub traceText : Form → Memory → List Event → List ℕ
+traceText f m es = textBy f (touched es) m es
 
 -- Answers 3, 18, 5 and 6 of the writer.
 unfoldable pub roomFault : Memory → List ℕ → Answer

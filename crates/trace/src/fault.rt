@@ -73,7 +73,7 @@ pub(crate) fn use_place(ways: &mut [Way; 256], e: Event) -> bool
 }
 
 // The first of two answers that refuses.
-fn first_of(a: Answer, b: Answer) -> Answer
+pub(crate) fn first_of(a: Answer, b: Answer) -> Answer
     ensures { λ r. ⌜ r ≡ first a b ⌝ }
 {
     if a.number != 0 {

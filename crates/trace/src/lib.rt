@@ -1,4 +1,5 @@
 // Trace texts: read into a room (`read`), written from one (`write`), moved from one form to the other (`moving::move_to`).
+pub mod cover;
 pub mod fault;
 pub mod form;
 pub mod moving;
@@ -8,9 +9,12 @@ pub mod writing;
 ghost use mathlib.Core.Path.{_≡_};
 ghost use Rattle.trace.specs.Reading.{readOf, roomAfter};
 ghost use Rattle.trace.specs.Writing.{writeOf, outAfter};
+use cover::touch_all;
 use event::Answer;
 use event::Word;
 use event::memory::Memory;
+use fault::UNTOUCHED;
+use fault::Way;
 use reading::TraceRead;
 use reading::store;
 use reading::survey_in;
@@ -43,10 +47,12 @@ pub fn write(form: Form, memory: Memory, room: &[Word], out: &mut [u8]) -> Answe
         return fault;
     }
     let n = count_of(room);
-    let size = size_of(form, memory, room, n);
+    let mut ways: [Way; 256] = [UNTOUCHED; 256];
+    touch_all(&mut ways, room, n);
+    let size = size_of(form, &ways, memory, room, n);
     if out.len() < size {
         return Answer::new(17, 0, size);
     }
-    put_text(form, out, memory, room, n);
+    put_text(form, out, &ways, memory, room, n);
     Answer::new(0, 0, size)
 }

@@ -8,7 +8,11 @@ ghost use Rattle.record.specs.Layout.{eventLine};
 ghost use Rattle.trace.specs.Moving.{moveHead, moveSurvey, moveOf, movedOut};
 ghost use Rattle.trace.specs.Put.{Put, Small};
 ghost use Rattle.trace.specs.Reading.{eventsOn, eventsOf};
-ghost use Rattle.trace.specs.Writing.{lost, textOf, traceText};
+ghost use Rattle.trace.specs.Way.{isUsed, waysOf};
+ghost use Rattle.trace.specs.Writing.{lost, textOf, textBy};
+use crate::cover::touch;
+use crate::fault::UNTOUCHED;
+use crate::fault::Way;
 use crate::form::form_of;
 use crate::form::is_of;
 use crate::reading::TraceRead;
@@ -107,6 +111,32 @@ fn survey_to(to: Form, text: &[u8]) -> TraceRead
     surveyed
 }
 
+// The ways after a record's event.
+fn touch_line(ways: &mut [Way; 256], line: Record)
+    ensures { λ _. ⌜ now (ways .exit) ≡ waysOf (now (ways .entry)) (eventsOn line) ⌝ }
+{
+    match line {
+        Record::AnEvent(e) => {
+            touch(ways, e);
+        }
+        Record::Init { place: _, value: _ } => {}
+        Record::Refused => {}
+    }
+}
+
+// The ways after the events of a text.
+fn touch_lines(ways: &mut [Way; 256], text: &[u8])
+    ensures { λ _. ⌜ now (ways .exit) ≡ waysOf (now (ways .entry)) (eventsOf (now (text .entry))) ⌝ }
+{
+    let form = form_of(text);
+    let mut at = line_two(text);
+    while at < text.len() {
+        let end = line_end(text, at);
+        touch_line(ways, record_of(form, &text[at..end]));
+        at = end + 1;
+    }
+}
+
 // The line of a record's event, with its LF; nothing for a record that is none.
 fn put_line(to: Form, out: &mut [u8], at: usize, line: Record) -> usize
     requires { ⌜ Small at (textOf (map (eventLine to) (eventsOn line))) ⌝ }
@@ -135,22 +165,22 @@ fn put_lines(to: Form, out: &mut [u8], at: usize, text: &[u8]) -> usize
     next
 }
 
-// The whole text in a form, with the starting memory at hand.
-fn put_moved(to: Form, out: &mut [u8], memory: Memory, text: &[u8]) -> usize
-    requires { ⌜ Small 0 (traceText to memory (eventsOf (now text))) ⌝ }
-    ensures { λ r. ⌜ Put (now (out .entry)) 0 (traceText to memory (eventsOf (now (text .entry)))) (now (out .exit)) r ⌝ }
+// The whole text in a form, with the starting memory and the ways at hand.
+fn put_moved(to: Form, out: &mut [u8], ways: &[Way; 256], memory: Memory, text: &[u8]) -> usize
+    requires { ⌜ Small 0 (textBy to (isUsed (now ways)) memory (eventsOf (now text))) ⌝ }
+    ensures { λ r. ⌜ Put (now (out .entry)) 0 (textBy to (isUsed (now (ways .entry))) memory (eventsOf (now (text .entry)))) (now (out .exit)) r ⌝ }
 {
-    let after_start = put_start(to, out, memory);
+    let after_start = put_start(to, out, ways, memory);
     put_lines(to, out, after_start, text)
 }
 
 // How many bytes it has.
-fn moved_size(to: Form, memory: Memory, text: &[u8]) -> usize
-    requires { ⌜ Small 0 (traceText to memory (eventsOf (now text))) ⌝ }
-    ensures { λ r. ⌜ r ≡ length (traceText to memory (eventsOf (now (text .entry)))) ⌝ }
+fn moved_size(to: Form, ways: &[Way; 256], memory: Memory, text: &[u8]) -> usize
+    requires { ⌜ Small 0 (textBy to (isUsed (now ways)) memory (eventsOf (now text))) ⌝ }
+    ensures { λ r. ⌜ r ≡ length (textBy to (isUsed (now (ways .entry))) memory (eventsOf (now (text .entry)))) ⌝ }
 {
     let mut none: [u8; 0] = [];
-    put_moved(to, &mut none, memory, text)
+    put_moved(to, &mut none, ways, memory, text)
 }
 
 // A text of the other form, moved to a form, at the front of the lent bytes; a refusal changes nothing.
@@ -163,10 +193,12 @@ pub fn move_to(to: Form, text: &[u8], out: &mut [u8]) -> Answer
         return fault;
     }
     let memory = surveyed.memory;
-    let size = moved_size(to, memory, text);
+    let mut ways: [Way; 256] = [UNTOUCHED; 256];
+    touch_lines(&mut ways, text);
+    let size = moved_size(to, &ways, memory, text);
     if out.len() < size {
         return Answer::new(17, 0, size);
     }
-    put_moved(to, out, memory, text);
+    put_moved(to, out, &ways, memory, text);
     Answer::new(0, 0, size)
 }

@@ -1,16 +1,20 @@
 // The reading of a trace text: judged in one pass, stored in a second, so that a refusal stores nothing.
 ghost use mathlib.Core.Path.{_≡_};
 ghost use Prim.Native.Nat.{_+_, _≤_, _<_};
-ghost use lib.ListN.{length};
+ghost use lib.ListN.{length, replicate};
+ghost use mathlib.Core.Bool.{false};
 ghost use Rattle.event.specs.Memory.{empty as emptyMemory};
 ghost use Rattle.event.specs.Room.{putAt};
 ghost use Rattle.text.specs.Line.{splitFrom};
 ghost use Rattle.frame.specs.Store.{putAll};
 ghost use Rattle.trace.specs.Reading.{surveyOf, refused, roomFor, eventsOn, eventsOf};
 ghost use Rattle.trace.specs.Survey.{surveyInits, surveyEvents};
+use crate::cover::idle_fault;
+use crate::cover::lacks_line;
 use crate::fault::UNTOUCHED;
 use crate::fault::Way;
 use crate::fault::fault_at;
+use crate::fault::first_of;
 use crate::fault::is_at_fault;
 use crate::fault::use_place;
 use crate::form::form_of;
@@ -52,25 +56,28 @@ pub(crate) fn refusal(answer: Answer) -> TraceRead
     }
 }
 
-// The lines from line `line` on, which are to be events: each is tried for 2, 4, 3, and its event for 5, 6, which come after all lines.
+// The lines from line `line` on, which are to be events: each is tried for 2, 4, 3, and its event for 20 and for 5, 6, which come after all lines; `has`
+// says which locations have a line. 20 comes before 21, and that before 5 and 6.
 fn survey_events(
     form: Form,
     text: &[u8],
     from: usize,
     line: usize,
     side: Number,
+    has: &[bool; 256],
     start: Memory,
 ) -> TraceRead
     requires { ⌜ from ≤ length (now text) ⌝ }
     requires { ⌜ line ≤ from ⌝ }
     requires { ⌜ 0 < from ⌝ }
-    ensures { λ r. ⌜ r ≡ surveyEvents form side line start (splitFrom (now (text .entry)) from) ⌝ }
+    ensures { λ r. ⌜ r ≡ surveyEvents form side line (now (has .entry)) start (splitFrom (now (text .entry)) from) ⌝ }
 {
     let mut last = Stepped {
         memory: start,
         right: true,
     };
     let mut ways: [Way; 256] = [UNTOUCHED; 256];
+    let mut bare = Answer::new(0, 0, 0);
     let mut found = Answer::new(0, 0, 0);
     let mut at = from;
     let mut k = line;
@@ -92,6 +99,9 @@ fn survey_events(
             return refusal(Answer::new(3, side, k));
         }
         n += 1;
+        if lacks_line(form, has, e) {
+            bare = first_of(bare, Answer::new(20, side, n));
+        }
         let clash = use_place(&mut ways, e);
         last = last.memory.step(e);
         if is_at_fault(clash, last.right) {
@@ -102,6 +112,13 @@ fn survey_events(
     }
     if at < text.len() {
         return refusal(Answer::new(2, side, k));
+    }
+    if bare.number != 0 {
+        return refusal(bare);
+    }
+    let idle = idle_fault(form, side, has, start, &ways);
+    if idle.number != 0 {
+        return refusal(idle);
     }
     if found.number != 0 {
         return refusal(found);
@@ -117,22 +134,23 @@ fn survey_events(
 fn survey_lines(form: Form, text: &[u8], from: usize, side: Number) -> TraceRead
     requires { ⌜ from ≤ length (now text) ⌝ }
     requires { ⌜ 2 ≤ from ⌝ }
-    ensures { λ r. ⌜ r ≡ surveyInits form side 2 0 emptyMemory (splitFrom (now (text .entry)) from) ⌝ }
+    ensures { λ r. ⌜ r ≡ surveyInits form side 2 0 (replicate 256 false) emptyMemory (splitFrom (now (text .entry)) from) ⌝ }
 {
     let mut start = Memory::empty();
+    let mut has: [bool; 256] = [false; 256];
     let mut at = from;
     let mut k: usize = 2;
     let mut low: Word = 0;
     loop {
         let LineStep::Line { to } = next_line(text, at) else {
-            return survey_events(form, text, at, k, side, start);
+            return survey_events(form, text, at, k, side, &has, start);
         };
         match record_of(form, &text[at..to]) {
             Record::Refused => {
-                return survey_events(form, text, at, k, side, start);
+                return survey_events(form, text, at, k, side, &has, start);
             }
             Record::AnEvent(_) => {
-                return survey_events(form, text, at, k, side, start);
+                return survey_events(form, text, at, k, side, &has, start);
             }
             Record::Init { place, value } => {
                 if place < low {
@@ -140,6 +158,7 @@ fn survey_lines(form: Form, text: &[u8], from: usize, side: Number) -> TraceRead
                 }
                 let cell = index_of(place);
                 start.cells[cell] = value;
+                has[cell] = true;
                 low = place + 1;
             }
         }
@@ -148,7 +167,7 @@ fn survey_lines(form: Form, text: &[u8], from: usize, side: Number) -> TraceRead
     }
 }
 
-// Answers 1 to 6 of a text, with its number of events and its starting memory.
+// The answers of a text but 17, with its number of events and its starting memory.
 pub(crate) fn survey(text: &[u8], side: Number) -> TraceRead
     ensures { λ r. ⌜ r ≡ surveyOf side (now (text .entry)) ⌝ }
 {
@@ -160,7 +179,7 @@ pub(crate) fn survey(text: &[u8], side: Number) -> TraceRead
     survey_lines(form, text, line_two(text), side)
 }
 
-// Answers 1 to 6 and 17, for a room of so many words.
+// Those and 17, for a room of so many words.
 pub fn survey_in(text: &[u8], side: Number, words: usize) -> TraceRead
     ensures { λ r. ⌜ r ≡ roomFor side words (surveyOf side (now (text .entry))) ⌝ }
 {

@@ -2,9 +2,8 @@
 // beyond the end of the room are counted and not stored, so that it counts where there is no room at all.
 ghost use mathlib.Core.Path.{_≡_};
 ghost use mathlib.Core.List.{[], _∷_, _++_, map};
-ghost use Prim.Native.Nat.{suc, _≤_};
+ghost use Prim.Native.Nat.{_≤_};
 ghost use lib.ListN.{length, getD, set};
-ghost use Rattle.event.specs.Kind.{lastPlace};
 ghost use Rattle.event.specs.Room.{eventAt, onward};
 ghost use Rattle.text.specs.Number.{decimal};
 ghost use Rattle.record.specs.Layout.{orderWords, wordAt, eventLine};
@@ -12,7 +11,9 @@ ghost use Rattle.record.specs.Form.{header};
 ghost use Rattle.record.specs.Table.{wordIn};
 ghost use Rattle.trace.specs.Fault.{eventFault};
 ghost use Rattle.trace.specs.Put.{Put, Small, tabIf, bareLine, initPart, startText};
-ghost use Rattle.trace.specs.Writing.{countOf, layoutFault, lost, textOf, initLines, traceText, roomFault, writeFault};
+ghost use Rattle.trace.specs.Way.{isUsed};
+ghost use Rattle.trace.specs.Writing.{countOf, layoutFault, lost, textOf, hasLine, initLines, textBy, roomFault, writeFault};
+use crate::cover::has_line;
 use crate::fault::UNTOUCHED;
 use crate::fault::Way;
 use crate::fault::fault_at;
@@ -237,12 +238,12 @@ pub fn write_event(room: &[Word], i: usize, out: &mut [u8]) -> usize
     0
 }
 
-// The `init` line of a location, with its LF; none for the value 0.
-fn put_init(out: &mut [u8], at: usize, place: Word, value: Word) -> usize
-    requires { ⌜ Small at (initPart place value) ⌝ }
-    ensures { λ r. ⌜ Put (now (out .entry)) at (initPart place value) (now (out .exit)) r ⌝ }
+// The `init` line of a location, with its LF, if it is to be there.
+fn put_init(has: bool, out: &mut [u8], at: usize, place: Word, value: Word) -> usize
+    requires { ⌜ Small at (initPart has place value) ⌝ }
+    ensures { λ r. ⌜ Put (now (out .entry)) at (initPart has place value) (now (out .exit)) r ⌝ }
 {
-    if value == 0 {
+    if !has {
         return at;
     }
     let after_word = put(out, at, b"init");
@@ -252,15 +253,15 @@ fn put_init(out: &mut [u8], at: usize, place: Word, value: Word) -> usize
 }
 
 // The `init` lines of cells.
-fn put_inits(out: &mut [u8], at: usize, cells: &[Word]) -> usize
-    requires { ⌜ length (now cells) ≡ suc lastPlace ⌝ }
-    requires { ⌜ Small at (textOf (initLines 0 (now cells))) ⌝ }
-    ensures { λ r. ⌜ Put (now (out .entry)) at (textOf (initLines 0 (now (cells .entry)))) (now (out .exit)) r ⌝ }
+fn put_inits(form: Form, out: &mut [u8], at: usize, ways: &[Way; 256], memory: Memory) -> usize
+    requires { ⌜ Small at (textOf (initLines (hasLine form (isUsed (now ways))) 0 (memory .cells))) ⌝ }
+    ensures { λ r. ⌜ Put (now (out .entry)) at (textOf (initLines (hasLine form (isUsed (now (ways .entry)))) 0 (memory .cells))) (now (out .exit)) r ⌝ }
 {
     let mut next = at;
     let mut i: usize = 0;
-    while i < cells.len() {
-        next = put_init(out, next, i as Word, cells[i]);
+    while i < 256 {
+        let value = memory.cells[i];
+        next = put_init(has_line(form, ways[i], value), out, next, i as Word, value);
         i += 1;
     }
     next
@@ -291,29 +292,41 @@ fn put_header(form: Form, out: &mut [u8]) -> usize
 }
 
 // Line 1 and the `init` lines.
-pub(crate) fn put_start(form: Form, out: &mut [u8], memory: Memory) -> usize
-    requires { ⌜ Small 0 (startText form memory) ⌝ }
-    ensures { λ r. ⌜ Put (now (out .entry)) 0 (startText form memory) (now (out .exit)) r ⌝ }
+pub(crate) fn put_start(form: Form, out: &mut [u8], ways: &[Way; 256], memory: Memory) -> usize
+    requires { ⌜ Small 0 (startText form (isUsed (now ways)) memory) ⌝ }
+    ensures { λ r. ⌜ Put (now (out .entry)) 0 (startText form (isUsed (now (ways .entry))) memory) (now (out .exit)) r ⌝ }
 {
-    let cells = memory.cells;
     let after_header = put_header(form, out);
-    put_inits(out, after_header, &cells)
+    put_inits(form, out, after_header, ways, memory)
 }
 
-// The whole text.
-pub(crate) fn put_text(form: Form, out: &mut [u8], memory: Memory, room: &[Word], n: usize) -> usize
-    requires { ⌜ Small 0 (traceText form memory (onward (now room) 0 n)) ⌝ }
-    ensures { λ r. ⌜ Put (now (out .entry)) 0 (traceText form memory (onward (now (room .entry)) 0 n)) (now (out .exit)) r ⌝ }
+// The whole text, by the ways in which its events use the locations.
+pub(crate) fn put_text(
+    form: Form,
+    out: &mut [u8],
+    ways: &[Way; 256],
+    memory: Memory,
+    room: &[Word],
+    n: usize,
+) -> usize
+    requires { ⌜ Small 0 (textBy form (isUsed (now ways)) memory (onward (now room) 0 n)) ⌝ }
+    ensures { λ r. ⌜ Put (now (out .entry)) 0 (textBy form (isUsed (now (ways .entry))) memory (onward (now (room .entry)) 0 n)) (now (out .exit)) r ⌝ }
 {
-    let after_start = put_start(form, out, memory);
+    let after_start = put_start(form, out, ways, memory);
     put_events(form, out, after_start, room, n)
 }
 
 // How many bytes the text has.
-pub(crate) fn size_of(form: Form, memory: Memory, room: &[Word], n: usize) -> usize
-    requires { ⌜ Small 0 (traceText form memory (onward (now room) 0 n)) ⌝ }
-    ensures { λ r. ⌜ r ≡ length (traceText form memory (onward (now (room .entry)) 0 n)) ⌝ }
+pub(crate) fn size_of(
+    form: Form,
+    ways: &[Way; 256],
+    memory: Memory,
+    room: &[Word],
+    n: usize,
+) -> usize
+    requires { ⌜ Small 0 (textBy form (isUsed (now ways)) memory (onward (now room) 0 n)) ⌝ }
+    ensures { λ r. ⌜ r ≡ length (textBy form (isUsed (now (ways .entry))) memory (onward (now (room .entry)) 0 n)) ⌝ }
 {
     let mut none: [u8; 0] = [];
-    put_text(form, &mut none, memory, room, n)
+    put_text(form, &mut none, ways, memory, room, n)
 }

@@ -1,9 +1,7 @@
 -- Each return is the definition at the numbers that the two fields are, and at the end of the line. Assumes nothing.
-use mathlib.Core.Bool.{cond}
 use mathlib.Core.Path.{_≡_, sym, _∙_}
-use lib.Dec.{eqb}
 use borrow.Author.Needs.{needs}
-use borrow.Author.Tests.{not-true, not-false, eq-eqb, ne-eqb}
+use borrow.Author.Tests.{not-true, not-false}
 use Rattle.text.specs.Field.{fieldsFrom, onEnd}
 use Rattle.text.proofs.Takes.{ended, not-ended}
 use Rattle.record.specs.Part.{initOf}
@@ -22,7 +20,7 @@ start c = c₂ c .before .before .before .before .before
 past : (c : tie.After-known-told2) → let k = c₂ c in
     initOf (start c .args .line .now) (start c .args .place) (start c .args .value)
     ≡ onEnd Refused (fieldsFrom (start c .args .line .now) (c .before .v .given .0 .1 .0))
-    (cond (eqb (c .before .v .given .0 .0) 0) Refused (Init (k .before .p .given .0 .0) (c .before .v .given .0 .0)))
+    (Init (k .before .p .given .0 .0) (c .before .v .given .0 .0))
 past c =
     let k = c₂ c .before in
     init-given _ _ _ _ _ _ _ (k .before .before .number-of-field .ensures) (k .p .given .1)
@@ -31,7 +29,7 @@ past c =
 -- the line has ended
 end : (c : tie.Else1) → let k = c .before .before in
     initOf (start k .args .line .now) (start k .args .place) (start k .args .value)
-    ≡ cond (eqb (k .before .v .given .0 .0) 0) Refused (Init (c₂ k .before .p .given .0 .0) (k .before .v .given .0 .0))
+    ≡ Init (c₂ k .before .p .given .0 .0) (k .before .v .given .0 .0)
 end c = past (c .before .before) ∙ ended _ _ _ _ (sym (c .before .ends-at .ensures) ∙ not-false _ (c .if1 .left))
 
 returns : tie.Need-returns
@@ -66,5 +64,4 @@ init-of-spec =
     returns-2
     (search needs)
     returns-3
-    (λ c. sym (end (c .before) ∙ rw (eq-eqb _ 0 (c .if2 .taken))))
-    (λ c. sym (end (c .before) ∙ rw (ne-eqb _ 0 (c .if2 .left)))))
+    (λ c. sym (end c)))

@@ -2,13 +2,13 @@
 -- Assumes nothing.
 use Prim.Native.Nat.{ℕ, _+_, _-_, _≤_}
 use mathlib.Core.List.{List, _∷_}
-use mathlib.Core.Path.{_≡_, sym, _∙_}
+use mathlib.Core.Path.{_≡_, sym, _∙_, ap}
 use native.Mathlib.Omega.{arith}
 use lib.ListN.{length, take, drop}
 use Rattle.text.specs.Field.{fieldAt, fields, fieldsFrom}
 use Rattle.text.specs.declared.field.FieldStep.the-variants.{Field}
 use Rattle.text.proofs.Fields.{fields-start, field-step, field-in, line-end}
-use Rattle.record.specs.Record.{recordOf}
+use Rattle.record.specs.Record.{recordOf, unlessSilent}
 use borrow.Author.Needs.{needs}
 use Rattle.record.proofs.record_of.Statement.{statement}
 use Rattle.record.proofs.record_of.Tie as tie
@@ -43,8 +43,10 @@ returns c = rw (← fields-start _, line-end _ _ (sym (c .before .before .field-
 returns-2 : tie.Need-returns-2
 unfolding recordOf
 returns-2 c =
-    let k = c .before .before .before .before .before in
-    rw (found k, ← c .before .before .same-bytes .ensures, c .before .if1 .taken) (c .init-rest .ensures)
+    let x = c .before in
+    let k = x .before .before .before .before .before in
+    rw (found k, ← x .before .before .same-bytes .ensures, x .before .if1 .taken)
+    (c .unless-silent .ensures ∙ ap (unlessSilent _) (x .init-rest .ensures))
 
 returns-3 : tie.Need-returns-3
 unfolding recordOf
@@ -67,6 +69,7 @@ record-of-spec =
     (search needs)
     (search needs)
     (λ c. omega (arith, inside (c .before .before .before .before)))
+    (search needs)
     (search needs)
     returns-2
     (search needs)

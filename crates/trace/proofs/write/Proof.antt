@@ -1,15 +1,20 @@
 -- The first refusal, or 17 with the bytes needed, or the text. Assumes nothing.
 use Prim.Native.Nat.{ℕ, _≤_}
+use mathlib.Core.Bool.{Bool}
 use mathlib.Core.List.{List}
-use mathlib.Core.Path.{_≡_, sym, _∙_, ap}
+use mathlib.Core.Path.{_≡_, refl, sym, _∙_, ap}
 use native.Mathlib.Omega.{arith}
 use lib.ListN.{length, length-map}
 use Rattle.event.specs.Room.{onward}
 use Rattle.event.specs.declared.Answer.{Answer}
+use Rattle.event.specs.declared.Event.{Event}
 use Rattle.frame.proofs.Settled.{first-done}
-use Rattle.trace.specs.Writing.{roomEvents, roomFault, lost, writeFault, traceText, writeOf, outAfter}
+use Rattle.trace.specs.Writing.{roomEvents, roomFault, lost, writeFault, textBy, traceText, writeOf, outAfter}
 use Rattle.trace.specs.Put.{Small}
-use Rattle.trace.specs.Text.{longestText}
+use Rattle.trace.specs.Text.{Fits}
+use Rattle.trace.specs.Way.{isUsed}
+use Rattle.trace.proofs.Covered.{fit-inside}
+use Rattle.trace.proofs.Ways.{used-by}
 use Rattle.trace.proofs.Cells.{words-below}
 use Rattle.trace.proofs.Puts.{put-length}
 use Rattle.trace.proofs.Range.{text-length, small-text, room-fits}
@@ -35,25 +40,49 @@ start c = c .before .before .before .before .before .before
 none : (c : tie.Else1) → fault (c .before .before .before .before .before) .number ≡ 0
 none c = ap (λ (a : Answer). a .number) (sym (c .before .before .write-fault .ensures)) ∙ c .if1 .left
 
--- so the events have a text, which is short
-small : (c : tie.After-count-of) → let a = start c .args in
-    length (traceText (a .form) (a .memory) (onward (a .room .now) 0 (c .count-of .result))) ≤ longestText (a .form)
+-- so the events have a text
+fit : (c : tie.After-count-of) → let a = start c .args in Fits (a .form) (a .memory) (onward (a .room .now) 0 (c .count-of .result))
 unfolding writeFault
-small c =
+fit c =
     let s = start c in
     let a = s .args in
     let n = c .count-of .ensures in
     let d = first-done (roomFault (a .memory) (a .room .now)) (lost (a .form) 0 1 (roomEvents (a .room .now))) (none (c .before)) in
     let f = room-sound (a .memory) (a .room .now) n (d .0) in
     let g = s .good .1 .0 .1 .1 .0 in
-    text-length (a .form) (a .memory) _
-    (room-fits (a .room .now) (a .form) (a .memory) (c .count-of .result)
-    (simp length-map at (g .1 .0 .1)) (words-below (a .memory .cells) (g .0) (g .1 .1)) (f .0) (f .1) (ap (λ (k : ℕ). lost (a .form) 0 1 (onward (a .room .now) 0 k) .number) n ∙ d .1))
+    room-fits (a .room .now) (a .form) (a .memory) (c .count-of .result)
+    (simp length-map at (g .1 .0 .1)) (words-below (a .memory .cells) (g .0) (g .1 .1)) (f .0) (f .1)
+    (ap (λ (k : ℕ). lost (a .form) 0 1 (onward (a .room .now) 0 k) .number) n ∙ d .1)
 
-size-is : (c : tie.After-size-of) → c .size-of .result ≡ length (text (start (c .before)))
-size-is c =
-    let a = start (c .before) .args in
-    c .size-of .ensures ∙ ap (λ (k : ℕ). length (traceText (a .form) (a .memory) (onward (a .room .now) 0 k))) (c .before .count-of .ensures)
+-- by the ways in which the events use the locations
+module _ (c : tie.After-touch-all) where
+  abbrev e : tie.After-count-of
+  e = c .before .before
+
+  abbrev events : List Event
+  events = onward (start e .args .room .now) 0 (e .count-of .result)
+
+  abbrev by-ways : List ℕ
+  by-ways = textBy (start e .args .form) (isUsed (c .touch-all .last .0)) (start e .args .memory) events
+
+  by-ways-is : by-ways ≡ text (start e)
+  by-ways-is =
+      let a = start e .args in
+      ap (λ (has : ℕ → Bool). textBy (a .form) has (a .memory) events)
+      (ap isUsed (c .touch-all .ensures) ∙ used-by events (fit-inside (a .form) 256 events refl (fit e .events)))
+      ∙ ap (λ (k : ℕ). traceText (a .form) (a .memory) (onward (a .room .now) 0 k)) (e .count-of .ensures)
+
+  -- the text is a small one
+  below : Small 0 by-ways
+  below =
+      let a = start e .args in
+      small-text (a .form) by-ways (text-length (a .form) (isUsed (c .touch-all .last .0)) (a .memory) events (fit e))
+
+abbrev touched-all : tie.After-size-of → tie.After-touch-all
+touched-all c = c .before .before
+
+size-is : (c : tie.After-size-of) → c .size-of .result ≡ length (text (start (e (touched-all c))))
+size-is c = c .size-of .ensures ∙ ap length (by-ways-is (touched-all c))
 
 returns : tie.Need-returns
 unfolding writeOf outAfter
@@ -66,24 +95,17 @@ returns-2 : tie.Need-returns-2
 unfolding writeOf outAfter
 returns-2 c =
     let z = c .before .before in
-    let s = start (z .before) in
-    short (fault s) (text s) (out s) (none (z .before .before)) (size-is z) (c .before .if2 .taken) (c .new .ensures)
+    let s = start (e (touched-all z)) in
+    short (fault s) (text s) (out s) (none (e (touched-all z) .before)) (size-is z) (c .before .if2 .taken) (c .new .ensures)
 
 returns-3 : tie.Need-returns-3
 unfolding writeOf outAfter
 returns-3 c =
     let p = c .before .before .before in
-    let z = p .before .before .before in
-    let s = start (z .before) in
-    written (fault s) (text s) (out s) (none (z .before .before)) (size-is z) {next = p .put-text .result} (p .before .before .if2 .left) (c .new2 .ensures)
-    (rw (← z .before .count-of .ensures) (p .put-text .ensures))
-
--- the text is a small one
-below : (c : tie.After-count-of) → let a = start c .args in
-    Small 0 (traceText (a .form) (a .memory) (onward (a .room .now) 0 (c .count-of .result)))
-below c =
-    let a = start c .args in
-    small-text (a .form) (traceText (a .form) (a .memory) (onward (a .room .now) 0 (c .count-of .result))) (small c)
+    let z = p .before .before .before .before in
+    let s = start (e (touched-all z)) in
+    written (fault s) (text s) (out s) (none (e (touched-all z) .before)) (size-is z) {next = p .put-text .result} (p .before .before .before .if2 .left) (c .new2 .ensures)
+    (rw (← by-ways-is (touched-all z)) (p .put-text .ensures))
 
 pub write-spec : {M : Type 1} → statement M
 write-spec =
@@ -92,10 +114,11 @@ write-spec =
     (λ c κs. tt)
     returns
     (λ c κs. tt)
-    (λ c κs. below c)
+    (λ c κs. tt)
+    (λ c κs. below (c .before))
     (λ c κs. tt)
     returns-2
-    (λ c κs. below (c .before .before .before))
+    (λ c κs. below (touched-all (c .before .before .before)))
     (λ c κs. tt)
     (λ c. put-length (c .before .before .before .put-text .ensures))
     returns-3)

@@ -1,7 +1,8 @@
 -- The first refusal, or 17 with the bytes needed, or the text. Assumes nothing.
 use Prim.Native.Nat.{ℕ}
+use mathlib.Core.Bool.{Bool}
 use mathlib.Core.List.{List}
-use mathlib.Core.Path.{_≡_, sym, _∙_, ap}
+use mathlib.Core.Path.{_≡_, refl, sym, _∙_, ap}
 use native.Mathlib.Omega.{arith}
 use borrow.Author.Needs.{needs}
 use lib.ListN.{length}
@@ -11,11 +12,14 @@ use Rattle.record.specs.declared.form.Form.{Form}
 use Rattle.trace.specs.Moving.{movedText, moveFault, moveOf, movedOut}
 use Rattle.trace.specs.Put.{Put, Small}
 use Rattle.trace.specs.Reading.{startOf, eventsOf}
-use Rattle.trace.specs.Writing.{traceText}
+use Rattle.trace.specs.Way.{isUsed}
+use Rattle.trace.specs.Writing.{textBy, traceText}
 use Rattle.trace.specs.declared.reading.TraceRead.{TraceRead}
-use Rattle.trace.proofs.Moved.{found-fault, found-none, moved-length}
+use Rattle.trace.proofs.Covered.{fit-inside}
+use Rattle.trace.proofs.Moved.{found-fault, found-none, moved-fits, moved-length}
 use Rattle.trace.proofs.Puts.{put-length}
 use Rattle.trace.proofs.Range.{small-text}
+use Rattle.trace.proofs.Ways.{used-by}
 use Rattle.trace.proofs.Written.{refused, short, written}
 use Rattle.trace.proofs.moving.move_to.Statement.{statement}
 use Rattle.trace.proofs.moving.move_to.Tie as tie
@@ -52,15 +56,33 @@ module _ (c : tie.Else1) where
       let f = found-none (to start) (text start) (ap (λ (r : TraceRead). r .answer .number) (sym (v .survey-to .ensures)) ∙ c .if1 .left) in
       (f .0, ap (λ (r : TraceRead). r .memory) (v .survey-to .ensures) ∙ f .1)
 
-  moved-is : traceText (to start) (v .survey-to .result .memory) (eventsOf (text start)) ≡ movedText (to start) (text start)
+-- by the ways in which its events use the locations
+module _ (c : tie.After-touch-lines) where
+  abbrev e : tie.Else1
+  e = c .before .before .before
+
+  abbrev begin : tie.Start
+  begin = start e
+
+  abbrev by-ways : List ℕ
+  by-ways = textBy (to begin) (isUsed (c .touch-lines .last .0)) (v e .survey-to .result .memory) (eventsOf (text begin))
+
+  moved-is : by-ways ≡ movedText (to begin) (text begin)
   unfolding movedText
-  moved-is = ap (λ (m : Memory). traceText (to start) m (eventsOf (text start))) (found .1)
+  moved-is =
+      let fits = moved-fits (to begin) (text begin) (found e .0) in
+      ap (λ (has : ℕ → Bool). textBy (to begin) has (v e .survey-to .result .memory) (eventsOf (text begin)))
+      (ap isUsed (c .touch-lines .ensures) ∙ used-by (eventsOf (text begin)) (fit-inside (to begin) 256 (eventsOf (text begin)) refl (fits .events)))
+      ∙ ap (λ (m : Memory). traceText (to begin) m (eventsOf (text begin))) (found e .1)
 
-  small : Small 0 (traceText (to start) (v .survey-to .result .memory) (eventsOf (text start)))
-  small = rw moved-is (small-text (to start) (movedText (to start) (text start)) (moved-length (to start) (text start) (found .0)))
+  small : Small 0 by-ways
+  small = rw moved-is (small-text (to begin) (movedText (to begin) (text begin)) (moved-length (to begin) (text begin) (found e .0)))
 
-size-is : (c : tie.After-moved-size) → let s = start (c .before .before) in c .moved-size .result ≡ length (movedText (to s) (text s))
-size-is c = c .moved-size .ensures ∙ ap length (moved-is (c .before .before))
+abbrev touched-all : tie.After-moved-size → tie.After-touch-lines
+touched-all c = c .before .before
+
+size-is : (c : tie.After-moved-size) → let s = begin (touched-all c) in c .moved-size .result ≡ length (movedText (to s) (text s))
+size-is c = c .moved-size .ensures ∙ ap length (moved-is (touched-all c))
 
 returns : tie.Need-returns
 unfolding moveOf movedOut
@@ -72,17 +94,17 @@ returns-2 : tie.Need-returns-2
 unfolding moveOf movedOut
 returns-2 c =
     let z = c .before .before in
-    let s = start (z .before .before) in
-    short (moveFault (to s) (text s)) (movedText (to s) (text s)) (out s) (found (z .before .before) .0) (size-is z) (c .before .if2 .taken) (c .new .ensures)
+    let s = begin (touched-all z) in
+    short (moveFault (to s) (text s)) (movedText (to s) (text s)) (out s) (found (e (touched-all z)) .0) (size-is z) (c .before .if2 .taken) (c .new .ensures)
 
 returns-3 : tie.Need-returns-3
 unfolding moveOf movedOut
 returns-3 c =
     let p = c .before .before .before in
-    let z = p .before .before .before in
-    let s = start (z .before .before) in
-    written (moveFault (to s) (text s)) (movedText (to s) (text s)) (out s) (found (z .before .before) .0) (size-is z) {next = p .put-moved .result}
-    (p .before .before .if2 .left) (c .new2 .ensures) (rw (← moved-is (z .before .before)) (p .put-moved .ensures))
+    let z = p .before .before .before .before in
+    let s = begin (touched-all z) in
+    written (moveFault (to s) (text s)) (movedText (to s) (text s)) (out s) (found (e (touched-all z)) .0) (size-is z) {next = p .put-moved .result}
+    (p .before .before .before .if2 .left) (c .new2 .ensures) (rw (← moved-is (touched-all z)) (p .put-moved .ensures))
 
 pub move-to-spec : {M : Type 1} → statement M
 move-to-spec =
@@ -90,10 +112,11 @@ move-to-spec =
     (tie.spec
     (search needs)
     returns
+    (search needs)
     (λ c κs. small (c .before))
     (search needs)
     returns-2
-    (λ c κs. small (c .before .before .before .before))
+    (λ c κs. small (touched-all (c .before .before .before)))
     (search needs)
     (λ c. put-length (c .before .before .before .put-moved .ensures))
     returns-3)

@@ -4,7 +4,8 @@ use mathlib.Core.List.{List, _++_, map}
 use Rattle.record.specs.Layout.{eventLine}
 use Rattle.trace.specs.Put.{Put, Small, startText}
 use Rattle.trace.specs.Reading.{eventsOf}
-use Rattle.trace.specs.Writing.{textOf, traceText}
+use Rattle.trace.specs.Way.{isUsed}
+use Rattle.trace.specs.Writing.{textOf, textBy}
 use Rattle.trace.proofs.Puts.{then, small-first, small-then, put-length}
 use Rattle.trace.proofs.Texts.{trace-parts}
 use Rattle.trace.proofs.moving.put_moved.Statement.{statement}
@@ -12,19 +13,19 @@ use Rattle.trace.proofs.moving.put_moved.Tie as tie
 
 module _ (s : tie.Start) where
   abbrev before : List ℕ
-  before = startText (s .args .to) (s .args .memory)
+  before = startText (s .args .to) (isUsed (s .args .ways .now)) (s .args .memory)
 
   abbrev lines : List ℕ
   lines = textOf (map (eventLine (s .args .to)) (eventsOf (s .args .text .now)))
 
   small : Small 0 (before ++ lines)
-  small = rw (trace-parts (s .args .to) (s .args .memory) (eventsOf (s .args .text .now))) at (s .pre)
+  small = rw (trace-parts (s .args .to) (isUsed (s .args .ways .now)) (s .args .memory) (eventsOf (s .args .text .now))) at (s .pre)
 
 text-put : (c : tie.After-put-lines) → let s = c .before .before .before .before .before .before .before .before in
-    Put (s .args .out .now) 0 (traceText (s .args .to) (s .args .memory) (eventsOf (s .args .text .now))) (c .put-lines .last .1 .0) (c .put-lines .result)
+    Put (s .args .out .now) 0 (textBy (s .args .to) (isUsed (s .args .ways .now)) (s .args .memory) (eventsOf (s .args .text .now))) (c .put-lines .last .1 .0) (c .put-lines .result)
 text-put c =
     let p = c .before .before .before .before in
-    rw (trace-parts _ _ _) (then (p .put-start .ensures) (c .put-lines .ensures))
+    rw (trace-parts _ _ _ _) (then (p .put-start .ensures) (c .put-lines .ensures))
 
 pub put-moved-spec : {M : Type 1} → statement M
 put-moved-spec =

@@ -3,7 +3,8 @@ use Prim.Native.Nat.{ℕ, _≤_}
 use mathlib.Core.Path.{_≡_}
 use mathlib.Core.List.{List}
 use native.Mathlib.Omega.{arith}
-use lib.ListN.{length}
+use mathlib.Core.Bool.{false}
+use lib.ListN.{length, replicate}
 use borrow.Author.Needs.{needs}
 use borrow.Author.Tests.{ne-eqb}
 use Rattle.text.proofs.Walk.{body-from}
@@ -12,8 +13,11 @@ use Rattle.frame.proofs.Heads.{head-refuses, head-passes, head-length, line-two
 use Rattle.record.specs.Form.{header, limitOf}
 use Rattle.record.specs.declared.form.Form.{Form}
 use Rattle.record.specs.declared.form.Form.the-variants.{One, Two}
-use Rattle.trace.specs.Reading.{SoFar, formOf, traceLayout, faultOf, surveyOf, eventsOf}
-use Rattle.trace.specs.Survey.{surveyInits}
+use Rattle.trace.specs.Reading.{SoFar, formOf, traceLayout, faultOf, surveyOf, eventsOf, initsOf}
+use Rattle.event.specs.Memory.{empty}
+use Rattle.trace.specs.Survey.{marked, surveyInits}
+use Rattle.trace.proofs.Inits.{unmarked}
+use Rattle.trace.proofs.Starts.{starts-none}
 use Rattle.trace.proofs.reading.survey.Statement.{statement}
 use Rattle.trace.proofs.reading.survey.Tie as tie
 
@@ -59,11 +63,12 @@ survey-lines-requires c κs =
     )
 
 returns-2 : tie.Need-returns-2
-unfolding surveyOf faultOf surveyInits eventsOf
+unfolding surveyOf faultOf surveyInits eventsOf initsOf
 returns-2 c =
     let p = c .before in
     let f = h p .before .form-of .ensures in
-    rw (head-passes (layout p) (side (h p)) (t (h p)) (right p), body-from (t (h p)), ← f) (rw (p .line-two .ensures) at (c .survey-lines .ensures))
+    rw (head-passes (layout p) (side (h p)) (t (h p)) (right p), body-from (t (h p)), ← f)
+    (rw (p .line-two .ensures, starts-none (λ j v. marked (replicate 256 false) j) 0 (empty .cells) (λ j v b. unmarked j)) at (c .survey-lines .ensures))
 
 pub survey-spec : {M : Type 1} → statement M
 survey-spec = tie.close (tie.spec (search needs) (search needs) (search needs) returns (search needs) survey-lines-requires returns-2)

@@ -1,20 +1,21 @@
 -- The reading from each line on is that from the next line on, until a line is refused or no LF is left; nothing may stand after the last one.
--- While no event was at fault, the array says how the events so far used each location; afterwards nothing is asked of it. Assumes nothing.
+-- While no event was at fault, the array says how the events so far used each location, afterwards only whether they did. Assumes nothing.
 use Prim.Native.Nat.{ℕ, _+_, _-_, _≤_, _<_}
-use mathlib.Core.Bool.{Bool}
+use mathlib.Core.Bool.{Bool, true, cond}
 use mathlib.Core.List.{List, [], _∷_}
-use mathlib.Core.Path.{_≡_, refl, sym, _∙_, ap}
+use mathlib.Core.Path.{_≡_, refl, sym, _∙_, ap, fun-ext}
 use native.Mathlib.Omega.{arith}
 use borrow.Author.Needs.{needs}
 use borrow.Author.Tests.{ne-eqb}
-use lib.ListN.{length, take, drop, length-set, drop-of-length-le}
+use lib.ListN.{length, take, drop, length-set, length-map, drop-of-length-le}
 use Rattle.laws.proofs.Cases.{cases}
-use Rattle.event.specs.Answer.{done, first}
+use Rattle.event.specs.Answer.{answer, done, first}
 use Rattle.event.specs.declared.Answer.{Answer}
 use Rattle.event.specs.declared.Event.{Event}
 use Rattle.event.specs.declared.memory.Memory.{Memory}
 use Rattle.event.specs.declared.memory.Stepped.{Stepped}
 use Rattle.event.proofs.Lawful.{place-below}
+use Rattle.text.specs.Cut.{isEmpty}
 use Rattle.text.specs.Line.{splitFrom}
 use Rattle.text.proofs.Walk.{Next, next, last, rest-some, rest-none}
 use Rattle.frame.proofs.Settled.{first-done}
@@ -23,17 +24,19 @@ use Rattle.record.specs.declared.Record.{Record}
 use Rattle.record.specs.declared.Record.the-variants.{AnEvent}
 use Rattle.record.proofs.Records.{line-lawful}
 use Rattle.record.specs.declared.form.Form.{Form}
-use Rattle.trace.specs.Fault.{clashes, faultAt}
+use Rattle.trace.specs.Cover.{touched, lined, lacksLine, isIdle}
+use Rattle.trace.specs.Fault.{firstBad, clashes, faultAt}
 use Rattle.trace.specs.Reading.{refused}
-use Rattle.trace.specs.Survey.{surveyEvents}
+use Rattle.trace.specs.Survey.{marked, soFar, surveyEvents}
 use Rattle.trace.specs.declared.reading.TraceRead.{TraceRead}
 use Rattle.trace.proofs.Judged.{fault-free, faultless, first-stays}
-use Rattle.trace.proofs.Surveys.{surveyOn, on-start, on-open, on-found, on-end, on-bad, on-init, on-full, on-go}
-use Rattle.trace.proofs.Ways.{Marks, marks-start, marks-told, clash, marks-next}
+use Rattle.trace.proofs.Starts.{lined-starts}
+use Rattle.trace.proofs.Surveys.{surveyOn, on-start, on-open, on-bare, on-idle, on-found, on-end, on-bad, on-init, on-full, on-go}
+use Rattle.trace.proofs.Ways.{Marks, marks-start, marks-told, clash, marks-next, Touch, touch-told, touch-start, touch-next}
 use Rattle.trace.proofs.reading.survey_events.Statement.{statement}
 use Rattle.trace.proofs.reading.survey_events.Tie as tie
 
-record Inv (form : Form) (text : List ℕ) (from line side : ℕ) (start m : Memory) (ways : List ℕ) (found : Answer) (at k n : ℕ) : Type 0 where
+record Inv (form : Form) (text : List ℕ) (from line side : ℕ) (has : List Bool) (start m : Memory) (ways : List ℕ) (bare found : Answer) (at k n : ℕ) : Type 0 where
   within : at ≤ length text
   lined : k ≤ at
   counted : n < at
@@ -41,29 +44,30 @@ record Inv (form : Form) (text : List ℕ) (from line side : ℕ) (start m : Mem
   before : List Event
   none : found .number ≡ 0 → found ≡ done
   marks : found .number ≡ 0 → Marks ways before
-  same : surveyEvents form side line start (splitFrom text from) ≡ surveyOn form side k n m before found start (splitFrom text at)
+  touch : Touch ways before
+  same : surveyEvents form side line has start (splitFrom text from) ≡ surveyOn form side k n m before bare found has start (splitFrom text at)
 
 abbrev Inv-loop : tie.InvT-loop
-Inv-loop form text from line side start last₀ ways₀ found₀ at₀ k₀ n₀ last ways found at k n =
-    Inv form text from line side start (last .memory) ways found at k n
+Inv-loop form text from line side has start last₀ ways₀ bare₀ found₀ at₀ k₀ n₀ last ways bare found at k n =
+    Inv form text from line side has start (last .memory) ways bare found at k n
 
 abbrev μ-loop : tie.MeasureT-loop
-μ-loop form text from line side start last₀ ways₀ found₀ at₀ k₀ n₀ last ways found at k n = length text - at
+μ-loop form text from line side has start last₀ ways₀ bare₀ found₀ at₀ k₀ n₀ last ways bare found at k n = length text - at
 
 -- a refusal that is returned
 refuses : {r w : TraceRead} {a b : Answer} → r ≡ refused a → a ≡ b → w ≡ refused b → r ≡ w
 refuses p q e = p ∙ (ap refused q ∙ sym e)
 
 -- what the step and the judging of an event hand back
-on-told : (form : Form) (side k n : ℕ) (es : List Event) (start : Memory) (ls : List (List ℕ)) (clash : Bool) (a : Answer) {s s′ : Stepped} {f : Answer} → s ≡ s′
-    → f ≡ first a (faultAt side n clash (s .right))
-    → surveyOn form side k n (s′ .memory) es (first a (faultAt side n clash (s′ .right))) start ls ≡ surveyOn form side k n (s .memory) es f start ls
-on-told form side k n es start ls clash a p q = rw (q, p)
+on-told : (form : Form) (side k n : ℕ) (es : List Event) (has : List Bool) (start : Memory) (ls : List (List ℕ)) (clash : Bool) (a : Answer) {s s′ : Stepped}
+    {f b b′ : Answer} → s ≡ s′ → f ≡ first a (faultAt side n clash (s .right)) → b ≡ b′
+    → surveyOn form side k n (s′ .memory) es b′ (first a (faultAt side n clash (s′ .right))) has start ls ≡ surveyOn form side k n (s .memory) es b f has start ls
+on-told form side k n es has start ls clash a p q o = rw (q, p, o)
 
 -- a turn's place
 module _ (c : tie.After-next-line Inv-loop μ-loop) where
   abbrev begin : tie.Start Inv-loop μ-loop
-  begin = c .before .before .before .before
+  begin = c .before .before .before .before .before
 
   abbrev text : List ℕ
   text = begin .args .text .now
@@ -71,20 +75,24 @@ module _ (c : tie.After-next-line Inv-loop μ-loop) where
   abbrev at : ℕ
   at = c .before .loop .at
 
+  abbrev has : List Bool
+  has = begin .args .has .now
+
   abbrev memory : Memory
   memory = c .before .loop .last .memory
 
   abbrev whole : TraceRead
-  whole = surveyEvents (begin .args .form) (begin .args .side) (begin .args .line) (begin .args .start) (splitFrom text (begin .args .from))
+  whole = surveyEvents (begin .args .form) (begin .args .side) (begin .args .line) has (begin .args .start) (splitFrom text (begin .args .from))
 
-  inv : Inv (begin .args .form) text (begin .args .from) (begin .args .line) (begin .args .side) (begin .args .start) memory (c .before .loop .ways) (c .before .loop .found)
-      at (c .before .loop .k) (c .before .loop .n)
+  inv : Inv (begin .args .form) text (begin .args .from) (begin .args .line) (begin .args .side) has (begin .args .start) memory (c .before .loop .ways)
+      (c .before .loop .bare) (c .before .loop .found) at (c .before .loop .k) (c .before .loop .n)
   inv = c .before .loop .inv
 
   -- the reading from there on
   abbrev on : List (List ℕ) → TraceRead
   on ls =
-      surveyOn (begin .args .form) (begin .args .side) (c .before .loop .k) (c .before .loop .n) memory (inv .before) (c .before .loop .found) (begin .args .start) ls
+      surveyOn (begin .args .form) (begin .args .side) (c .before .loop .k) (c .before .loop .n) memory (inv .before) (c .before .loop .bare) (c .before .loop .found)
+      has (begin .args .start) ls
 
 -- its line has a LF
 module _ (c : tie.After-to Inv-loop μ-loop) where
@@ -128,16 +136,48 @@ module _ (c : tie.After-e Inv-loop μ-loop) where
   inside : event .place < 256
   inside = place-below _ (line-lawful _ _ _ its)
 
--- which is judged
+-- it may lack its line
 module _ (c : tie.Joined2 Inv-loop μ-loop) where
+  abbrev asked : tie.After-lacks-line Inv-loop μ-loop
+  asked = c .before
+
+  abbrev y : tie.After-e Inv-loop μ-loop
+  y = asked .before .before .before
+
+  abbrev d : tie.After-next-line Inv-loop μ-loop
+  d = l (t (r y))
+
+  -- there is a cell for each location
+  size : length (begin d .args .start .cells) ≡ 256
+  size = simp length-map at (begin d .good .1 .1 .1 .1 .1 .1 .0 .1 .1 .0 .1 .0 .1)
+
+  abbrev lacking : Bool
+  lacking = lacksLine (begin d .args .form) (lined (soFar (has d) (begin d .args .start))) (event y)
+
+  lacks-is : asked .lacks-line .result ≡ lacking
+  lacks-is =
+      asked .lacks-line .ensures
+      ∙ rw (lined-starts (λ j v. marked (has d) j) (begin d .args .start .cells) (event y .place) (omega (arith, inside y, size)))
+
+  bare-told : c .if2 .bare ≡ cond lacking (first (d .before .loop .bare) (answer 20 (begin d .args .side) (d .before .loop .n + 1))) (d .before .loop .bare)
+  bare-told =
+      cases (c .if2 .came)
+      (λ t. t .3 ∙ (t .2 .ensures ∙ ap (first (d .before .loop .bare)) (t .1 .ensures)) ∙ rw (sym lacks-is ∙ t .0 .taken))
+      (λ e. e .1 ∙ rw (sym lacks-is ∙ e .0 .left))
+
+-- and is judged
+module _ (c : tie.Joined3 Inv-loop μ-loop) where
   abbrev stepped-on : tie.After-step Inv-loop μ-loop
   stepped-on = c .before .before
 
   abbrev u : tie.After-use-place Inv-loop μ-loop
   u = stepped-on .before
 
+  abbrev b : tie.Joined2 Inv-loop μ-loop
+  b = u .before .before
+
   abbrev v : tie.After-e Inv-loop μ-loop
-  v = u .before .before .before .before
+  v = y b
 
   abbrev p : tie.After-next-line Inv-loop μ-loop
   p = l (t (r v))
@@ -152,7 +192,7 @@ module _ (c : tie.Joined2 Inv-loop μ-loop) where
   right-now = stepped-on .step .result .right
 
   abbrev after : Answer
-  after = c .if2 .found
+  after = c .if3 .found
 
   clash-is : found .number ≡ 0 → u .use-place .result ≡ clashes (inv p .before) (event v)
   clash-is z = u .use-place .ensures .0 ∙ sym (clash ways (inv p .before) (event v) (inside v) (inv p .marks z))
@@ -160,17 +200,17 @@ module _ (c : tie.Joined2 Inv-loop μ-loop) where
   -- where the event is not at fault, what was found before stays
   told : after ≡ first found (faultAt (begin p .args .side) (p .before .loop .n + 1) (u .use-place .result) right-now)
   told =
-      cases (c .if2 .came) (λ t. t .2 ∙ t .1 .ensures)
+      cases (c .if3 .came) (λ t. t .2 ∙ t .1 .ensures)
       (λ e. e .1
       ∙ faultless found (inv p .none) (begin p .args .side) (p .before .loop .n + 1) (u .use-place .result) right-now
       (sym (c .before .is-at-fault .ensures) ∙ e .0 .left))
 
   goes-on : whole p ≡ surveyOn (begin p .args .form) (begin p .args .side) (p .before .loop .k + 1) (p .before .loop .n + 1) (stepped-on .step .result .memory)
-      (event v ∷ inv p .before) after (begin p .args .start) (others (r v))
+      (event v ∷ inv p .before) (b .if2 .bare) after (has p) (begin p .args .start) (others (r v))
   goes-on =
       by-line (r v)
-      (on-go _ _ _ _ _ _ _ _ _ _ (line (t (r v)) .some) (event v) (its v) (u .before .before .if1 .left) (u .use-place .result) clash-is
-      ∙ on-told _ _ _ _ _ _ _ (u .use-place .result) found (stepped-on .step .ensures) told)
+      (on-go _ _ _ _ _ _ _ _ _ _ _ _ (line (t (r v)) .some) (event v) (its v) (asked b .before .if1 .left) (u .use-place .result) clash-is
+      ∙ on-told _ _ _ _ _ _ _ _ (u .use-place .result) found (stepped-on .step .ensures) told (bare-told b))
 
   none-after : after .number ≡ 0 → after ≡ done
   none-after z =
@@ -183,6 +223,10 @@ module _ (c : tie.Joined2 Inv-loop μ-loop) where
       marks-told (event v ∷ inv p .before) (u .use-place .ensures .1)
       (marks-next ways (inv p .before) (event v) (inside v) (inv p .marks (f .0)) (inv p .size) free)
 
+  touch-after : Touch (u .use-place .last .0) (event v ∷ inv p .before)
+  touch-after =
+      touch-told (event v ∷ inv p .before) (u .use-place .ensures .1) (touch-next ways (event v) (inside v) (inv p .size) (inv p .before) (inv p .touch))
+
 loop-holds : tie.Need-loop-holds Inv-loop μ-loop
 loop-holds c = record {
   within = omega arith;
@@ -190,28 +234,29 @@ loop-holds c = record {
   counted = omega arith;
   size = refl;
   before = [];
-  none = λ z. c .new .ensures;
+  none = λ z. c .new2 .ensures;
   marks = λ z. marks-start;
-  same = rw (c .new .ensures) (on-start _ _ _ _ _);
+  touch = touch-start;
+  same = rw (c .new2 .ensures, c .before .new .ensures) (on-start _ _ _ _ _ _);
 }
 
 returns : tie.Need-returns Inv-loop μ-loop
 returns c =
     let q = c .before .before .before .before in
-    refuses (c .refusal .ensures) (c .before .new2 .ensures)
-    (by-line q (on-bad _ _ _ _ _ _ _ _ _ _ (line (t q) .some) (is q (c .before .before .enum-told2 .given .1))))
+    refuses (c .refusal .ensures) (c .before .new3 .ensures)
+    (by-line q (on-bad _ _ _ _ _ _ _ _ _ _ _ _ (line (t q) .some) (is q (c .before .before .enum-told2 .given .1))))
 
 returns-2 : tie.Need-returns-2 Inv-loop μ-loop
 returns-2 c =
     let q = c .before .before .before .before in
-    refuses (c .refusal2 .ensures) (c .before .new3 .ensures)
-    (by-line q (on-init _ _ _ _ _ _ _ _ _ _ (line (t q) .some) _ _ (is q (c .before .before .enum-told3 .given .1))))
+    refuses (c .refusal2 .ensures) (c .before .new4 .ensures)
+    (by-line q (on-init _ _ _ _ _ _ _ _ _ _ _ _ (line (t q) .some) _ _ (is q (c .before .before .enum-told3 .given .1))))
 
 returns-3 : tie.Need-returns-3 Inv-loop μ-loop
 returns-3 c =
     let q = c .before .before .before .before in
-    refuses (c .refusal3 .ensures) (c .before .new4 .ensures)
-    (by-line (r q) (on-full _ _ _ _ _ _ _ _ _ _ (line (t (r q)) .some) _ (its q) (c .before .before .if1 .taken)))
+    refuses (c .refusal3 .ensures) (c .before .new5 .ensures)
+    (by-line (r q) (on-full _ _ _ _ _ _ _ _ _ _ _ _ (line (t (r q)) .some) _ (its q) (c .before .before .if1 .taken)))
 
 loop-again : tie.Need-loop-again Inv-loop μ-loop
 loop-again c =
@@ -224,6 +269,7 @@ loop-again c =
       before = event (v c) ∷ inv (p c) .before;
       none = none-after c;
       marks = marks-after c;
+      touch = touch-after c;
       same = goes-on c;
     }
 
@@ -238,20 +284,61 @@ module _ (c : tie.After-enum-told Inv-loop μ-loop) where
 returns-4 : tie.Need-returns-4 Inv-loop μ-loop
 returns-4 c =
     let q = c .before .before .before in
-    refuses (c .refusal4 .ensures) (c .before .new5 .ensures) (rest q (on-open _ _ _ _ _ _ _ _ _ (rest-some _ _ (c .before .before .if3 .taken))))
+    refuses (c .refusal4 .ensures) (c .before .new7 .ensures) (rest q (on-open _ _ _ _ _ _ _ _ _ _ _ (rest-some _ _ (c .before .before .if4 .taken))))
+
+-- and nothing stands there
+module _ (c : tie.Else4 Inv-loop μ-loop) where
+  abbrev a : tie.After-next-line Inv-loop μ-loop
+  a = o (c .before)
+
+  nothing : drop (at a) (text a) ≡ []
+  nothing = drop-of-length-le (text a) (c .if4 .left)
+
+  ends : isEmpty (drop (at a) (text a)) ≡ true
+  ends = rest-none _ _ (c .if4 .left)
 
 returns-5 : tie.Need-returns-5 Inv-loop μ-loop
 returns-5 c =
     let h = c .before .before .before in
-    let z = drop-of-length-le (text (o (h .before))) (h .if3 .left) in
-    refuses (c .refusal5 .ensures) refl
-    (rest (h .before) (on-found _ _ _ _ _ _ _ _ _ (rest-none _ _ (h .if3 .left)) z (ne-eqb _ _ (c .before .if4 .taken))))
+    refuses (c .refusal5 .ensures) refl (rest (h .before) (on-bare _ _ _ _ _ _ _ _ _ _ _ (ends h) (nothing h) (ne-eqb _ _ (c .before .if5 .taken))))
+
+-- each event has its line, and 21 is asked
+module _ (c : tie.After-idle-fault Inv-loop μ-loop) where
+  abbrev h : tie.Else4 Inv-loop μ-loop
+  h = c .before .before .before .before
+
+  idle-is : c .idle-fault .result
+      ≡ firstBad (isIdle (begin (a h) .args .form) (touched (inv (a h) .before))) 21 (begin (a h) .args .side) 2 (soFar (has (a h)) (begin (a h) .args .start))
+  idle-is =
+      c .idle-fault .ensures
+      ∙ ap (λ (t : ℕ → Bool). firstBad (isIdle (begin (a h) .args .form) t) 21 (begin (a h) .args .side) 2 (soFar (has (a h)) (begin (a h) .args .start)))
+      (fun-ext (inv (a h) .touch))
+
+  number-is : {m : ℕ} → c .idle-fault .result .number ≡ m
+      → firstBad (isIdle (begin (a h) .args .form) (touched (inv (a h) .before))) 21 (begin (a h) .args .side) 2 (soFar (has (a h)) (begin (a h) .args .start)) .number ≡ m
+  number-is e = ap (λ (x : Answer). x .number) (sym idle-is) ∙ e
 
 returns-6 : tie.Need-returns-6 Inv-loop μ-loop
 returns-6 c =
-    let h = c .before .before .before in
-    let z = drop-of-length-le (text (o (h .before))) (h .if3 .left) in
-    rw (c .new6 .ensures) (sym (rest (h .before) (on-end _ _ _ _ _ _ _ _ _ (rest-none _ _ (h .if3 .left)) z (c .before .if4 .left))))
+    let i = c .before .before .before in
+    refuses (c .refusal6 .ensures) (idle-is i)
+    (rest (h i .before) (on-idle _ _ _ _ _ _ _ _ _ _ _ (ends (h i)) (nothing (h i)) (i .before .before .if5 .left)
+    (ne-eqb _ _ (λ z. c .before .if6 .taken (ap (λ (x : Answer). x .number) (idle-is i) ∙ z)))))
+
+returns-7 : tie.Need-returns-7 Inv-loop μ-loop
+returns-7 c =
+    let e = c .before .before .before in
+    let i = e .before .before in
+    refuses (c .refusal7 .ensures) refl
+    (rest (h i .before) (on-found _ _ _ _ _ _ _ _ _ _ _ (ends (h i)) (nothing (h i)) (i .before .before .if5 .left) (number-is i (e .if6 .left))
+    (ne-eqb _ _ (c .before .if7 .taken))))
+
+returns-8 : tie.Need-returns-8 Inv-loop μ-loop
+returns-8 c =
+    let e = c .before .before .before in
+    let i = e .before .before in
+    rw (c .new8 .ensures)
+    (sym (rest (h i .before) (on-end _ _ _ _ _ _ _ _ _ _ _ (ends (h i)) (nothing (h i)) (i .before .before .if5 .left) (number-is i (e .if6 .left)) (c .before .if7 .left))))
 
 pub survey-events-spec : {M : Type 1} → statement M
 survey-events-spec =
@@ -259,6 +346,7 @@ survey-events-spec =
     (tie.spec
     Inv-loop
     μ-loop
+    (search needs)
     (search needs)
     loop-holds
     (search needs)
@@ -281,10 +369,13 @@ survey-events-spec =
     (search needs)
     returns-3
     (λ c. omega arith)
-    (λ c κs. inside (c .before .before .before))
+    (λ c κs. inside (c .before .before))
     (search needs)
     (search needs)
-    (λ c κs. inv (l (t (r (c .before .before .before .before .before .before .before)))) .none)
+    (λ c κs. inside (y (c .before)))
+    (search needs)
+    (search needs)
+    (λ c κs. inv (d (c .before .before .before .before .before)) .none)
     (λ c. omega (arith, line (t (r (v c))), inv (p c), begin (p c) .good))
     (λ c. omega (arith, line (t (r (v c))), begin (p c) .good))
     (λ c. omega (arith, line (t (r (v c))), begin (p c) .good))
@@ -295,4 +386,9 @@ survey-events-spec =
     (search needs)
     returns-5
     (search needs)
-    returns-6)
+    (search needs)
+    returns-6
+    (search needs)
+    returns-7
+    (search needs)
+    returns-8)

@@ -1,11 +1,13 @@
 -- The reading from each starting value on is that from the next line on, with the value in its cell; at the first line that is none it is
 -- the reading of events. Assumes nothing.
 use Prim.Native.Nat.{ℕ, _+_, _-_, _≤_, _<_}
+use mathlib.Core.Bool.{Bool, true, false}
 use mathlib.Core.List.{List, _∷_}
-use mathlib.Core.Path.{_≡_, sym, _∙_, ap}
+use mathlib.Core.Path.{_≡_, refl, sym, _∙_, ap}
 use native.Mathlib.Omega.{arith}
 use borrow.Author.Needs.{needs}
-use lib.ListN.{length, take, drop, set, length-set}
+use lib.ListN.{length, take, drop, set, replicate, length-set}
+use lib.Seq.{getD-set-other}
 use Rattle.event.specs.Memory.{empty}
 use Rattle.event.specs.declared.memory.Memory.{Memory}
 use Rattle.text.specs.Line.{splitFrom}
@@ -16,25 +18,27 @@ use Rattle.record.specs.declared.Record.the-variants.{Init}
 use Rattle.record.proofs.Records.{init-place}
 use Rattle.record.specs.declared.form.Form.{Form}
 use Rattle.trace.specs.Reading.{refused}
-use Rattle.trace.specs.Survey.{surveyInits, surveyEvents}
+use Rattle.trace.specs.Survey.{marked, surveyInits, surveyEvents}
 use Rattle.trace.specs.declared.reading.TraceRead.{TraceRead}
-use Rattle.trace.proofs.Inits.{inits-last, inits-refused, inits-event, inits-low, inits-go}
+use Rattle.trace.proofs.Inits.{unmarked, inits-last, inits-refused, inits-event, inits-low, inits-go}
 use Rattle.trace.proofs.reading.survey_lines.Statement.{statement}
 use Rattle.trace.proofs.reading.survey_lines.Tie as tie
 
-record Inv (form : Form) (text : List ℕ) (from side : ℕ) (start : Memory) (at k low : ℕ) : Type 0 where
+record Inv (form : Form) (text : List ℕ) (from side : ℕ) (start : Memory) (has : List Bool) (at k low : ℕ) : Type 0 where
   within : at ≤ length text
   second : 2 ≤ k
   lined : k ≤ at
   lowest : low ≤ 256
   size : length (start .cells) ≡ 256
-  same : surveyInits form side 2 0 empty (splitFrom text from) ≡ surveyInits form side k low start (splitFrom text at)
+  marks : length has ≡ 256
+  none : (j : ℕ) → low ≤ j → marked has j ≡ false
+  same : surveyInits form side 2 0 (replicate 256 false) empty (splitFrom text from) ≡ surveyInits form side k low has start (splitFrom text at)
 
 abbrev Inv-loop : tie.InvT-loop
-Inv-loop form text from side start₀ at₀ k₀ low₀ start at k low = Inv form text from side start at k low
+Inv-loop form text from side start₀ has₀ at₀ k₀ low₀ start has at k low = Inv form text from side start has at k low
 
 abbrev μ-loop : tie.MeasureT-loop
-μ-loop form text from side start₀ at₀ k₀ low₀ start at k low = length text - at
+μ-loop form text from side start₀ has₀ at₀ k₀ low₀ start has at k low = length text - at
 
 -- a turn's place
 module _ (c : tie.After-next-line Inv-loop μ-loop) where
@@ -53,16 +57,19 @@ module _ (c : tie.After-next-line Inv-loop μ-loop) where
   abbrev start : Memory
   start = c .before .loop .start
 
-  abbrev whole : TraceRead
-  whole = surveyInits (begin .args .form) (begin .args .side) 2 0 empty (splitFrom text (begin .args .from))
+  abbrev has : List Bool
+  has = c .before .loop .has
 
-  inv : Inv (begin .args .form) text (begin .args .from) (begin .args .side) start at k (c .before .loop .low)
+  abbrev whole : TraceRead
+  whole = surveyInits (begin .args .form) (begin .args .side) 2 0 (replicate 256 false) empty (splitFrom text (begin .args .from))
+
+  inv : Inv (begin .args .form) text (begin .args .from) (begin .args .side) start has at k (c .before .loop .low)
   inv = c .before .loop .inv
 
   -- no starting value stands there: the reading of events
   rest : {r : TraceRead} {ls : List (List ℕ)} → splitFrom text at ≡ ls
-      → surveyInits (begin .args .form) (begin .args .side) k (c .before .loop .low) start ls ≡ surveyEvents (begin .args .form) (begin .args .side) k start ls
-      → r ≡ surveyEvents (begin .args .form) (begin .args .side) k start (splitFrom text at) → r ≡ whole
+      → surveyInits (begin .args .form) (begin .args .side) k (c .before .loop .low) has start ls ≡ surveyEvents (begin .args .form) (begin .args .side) k has start ls
+      → r ≡ surveyEvents (begin .args .form) (begin .args .side) k has start (splitFrom text at) → r ≡ whole
   rest p e q = (rw p at q) ∙ sym ((rw p at (inv .same)) ∙ e)
 
 -- its line has a LF
@@ -110,12 +117,19 @@ module _ (c : tie.After-place Inv-loop μ-loop) where
   abbrev others : List (List ℕ)
   others = splitFrom (text p) (to (t r) + 1)
 
-  by-line : {w : TraceRead} → surveyInits (begin p .args .form) (begin p .args .side) (k p) (p .before .loop .low) (start p) (this r ∷ others) ≡ w → whole p ≡ w
+  by-line : {w : TraceRead} → surveyInits (begin p .args .form) (begin p .args .side) (k p) (p .before .loop .low) (has p) (start p) (this r ∷ others) ≡ w → whole p ≡ w
   by-line e = inv p .same ∙ rw (line (t r) .parts) e
 
   goes-on : (i : ℕ) → i ≡ cell → p .before .loop .low ≤ cell
-      → whole p ≡ surveyInits (begin p .args .form) (begin p .args .side) (k p + 1) (cell + 1) (record { cells = set (start p .cells) i value }) others
-  goes-on i e o = rw e (by-line (inits-go _ _ _ _ _ _ _ (line (t r) .some) cell value its o))
+      → whole p ≡ surveyInits (begin p .args .form) (begin p .args .side) (k p + 1) (cell + 1) (set (has p) i true) (record { cells = set (start p .cells) i value })
+      others
+  goes-on i e o =
+      rw e
+      (by-line (inits-go _ _ _ _ _ _ _ _ (line (t r) .some) cell value its o (omega (arith, inside, inv p .size)) (omega (arith, inside, inv p .marks)) (inv p .none)))
+
+  -- none beyond it has a line
+  none-after : (i : ℕ) → i ≡ cell → p .before .loop .low ≤ cell → (j : ℕ) → cell + 1 ≤ j → marked (set (has p) i true) j ≡ false
+  none-after i e o j b = getD-set-other (has p) i j true false (λ z. omega arith) ∙ inv p .none j (omega arith)
 
 loop-holds : tie.Need-loop-holds Inv-loop μ-loop
 loop-holds c = record {
@@ -124,6 +138,8 @@ loop-holds c = record {
   lined = omega arith;
   lowest = omega arith;
   size = rw (c .empty .ensures);
+  marks = refl;
+  none = λ j b. unmarked j;
   same = rw (c .empty .ensures);
 }
 
@@ -133,25 +149,25 @@ handed c = (inv c .within, (inv c .lined, omega (arith, inv c)))
 
 returns : tie.Need-returns Inv-loop μ-loop
 returns c =
-    let o = c .before .before .before in
-    let z = last (text o) (at o) (inv o .within) (sym (o .next-line .ensures) ∙ c .before .enum-told .given .1) in
-    rest o z (inits-last _ _ _ _ _ _) (c .survey-events .ensures)
+    let o = c .before .before .before .before in
+    let z = last (text o) (at o) (inv o .within) (sym (o .next-line .ensures) ∙ c .before .before .enum-told .given .1) in
+    rest o z (inits-last _ _ _ _ _ _ _) (c .survey-events .ensures)
 
 returns-2 : tie.Need-returns-2 Inv-loop μ-loop
 returns-2 c =
-    let q = c .before .before .before in
-    rest (l (t q)) (line (t q) .parts) (inits-refused _ _ _ _ _ _ _ (line (t q) .some) (is q (c .before .enum-told2 .given .1))) (c .survey-events2 .ensures)
+    let q = c .before .before .before .before in
+    rest (l (t q)) (line (t q) .parts) (inits-refused _ _ _ _ _ _ _ _ (line (t q) .some) (is q (c .before .before .enum-told2 .given .1))) (c .survey-events2 .ensures)
 
 returns-3 : tie.Need-returns-3 Inv-loop μ-loop
 returns-3 c =
-    let q = c .before .before .before in
-    rest (l (t q)) (line (t q) .parts) (inits-event _ _ _ _ _ _ _ (line (t q) .some) _ (is q (c .before .enum-told3 .given .1))) (c .survey-events3 .ensures)
+    let q = c .before .before .before .before in
+    rest (l (t q)) (line (t q) .parts) (inits-event _ _ _ _ _ _ _ _ (line (t q) .some) _ (is q (c .before .before .enum-told3 .given .1))) (c .survey-events3 .ensures)
 
 returns-4 : tie.Need-returns-4 Inv-loop μ-loop
 returns-4 c =
     let q = c .before .before .before .before in
     c .refusal .ensures
-    ∙ (ap refused (c .before .new .ensures) ∙ sym (by-line q (inits-low _ _ _ _ _ _ _ (line (t (r q)) .some) _ _ (its q) (c .before .before .if1 .taken))))
+    ∙ (ap refused (c .before .new .ensures) ∙ sym (by-line q (inits-low _ _ _ _ _ _ _ _ (line (t (r q)) .some) _ _ (its q) (c .before .before .if1 .taken))))
 
 -- what is known of a turn's numbers
 module _ (c : tie.After-index-of Inv-loop μ-loop) where
@@ -173,6 +189,8 @@ loop-again c =
       lined = omega (arith, n, inv (o c));
       lowest = omega (arith, inside (q c));
       size = simp length-set (inv (o c) .size);
+      marks = simp length-set (inv (o c) .marks);
+      none = none-after (q c) _ (c .index-of .ensures) (c .before .if1 .left);
       same = goes-on (q c) _ (c .index-of .ensures) (c .before .if1 .left);
     }
 
@@ -187,23 +205,24 @@ survey-lines-spec =
     (search needs)
     (search needs)
     (search needs)
-    (λ c κs. handed (c .before .before))
+    (λ c κs. handed (c .before .before .before))
     returns
     (λ c. omega (arith, line (c .before)))
     (λ c. omega (arith, line (c .before)))
     (λ c. omega (arith, line (c .before)))
     (search needs)
     (search needs)
-    (λ c κs. handed (l (t (c .before .before))))
+    (λ c κs. handed (l (t (c .before .before .before))))
     returns-2
     (search needs)
-    (λ c κs. handed (l (t (c .before .before))))
+    (λ c κs. handed (l (t (c .before .before .before))))
     returns-3
     (search needs)
     (search needs)
     (search needs)
     returns-4
     (search needs)
+    (λ c. omega (arith, index c))
     (λ c. omega (arith, index c))
     (λ c. omega (arith, index c))
     (λ c. omega (arith, inside (q c)))

@@ -2,7 +2,7 @@
 use Prim.Native.Nat.{ℕ}
 use mathlib.Core.List.{List}
 use mathlib.Core.Path.{_≡_, refl}
-use borrow.Author.Tests.{ne-eqb}
+use borrow.Author.Tests.{not-true, not-false}
 use lib.ListN.{drop}
 use Rattle.trace.specs.Put.{Put, initPart}
 use Rattle.trace.proofs.Puts.{Left, put-none, left-all, left-next, left-none, left-small, put-length, all}
@@ -15,13 +15,13 @@ abbrev begin : tie.After-put → tie.Start
 begin c = c .before .before .before .before .before
 
 abbrev Rest : tie.Start → List ℕ → ℕ → List (List ℕ) → Type 0
-Rest s now here parts = Left (s .args .out .now) (s .args .at) (initPart (s .args .place) (s .args .value)) now here parts
+Rest s now here parts = Left (s .args .out .now) (s .args .at) (initPart (s .args .has) (s .args .place) (s .args .value)) now here parts
 
 abbrev parts : tie.Start → List (List ℕ)
 parts s = initParts (s .args .place) (s .args .value)
 
-line-is : (c : tie.Else1) → initPart (c .before .before .args .place) (c .before .before .args .value) ≡ all (parts (c .before .before))
-line-is c = rw (ne-eqb (c .before .before .args .value) 0 (c .if1 .left)) (init-parts (c .before .before .args .place) (c .before .before .args .value))
+line-is : (c : tie.Else1) → let s = c .before .before in initPart (s .args .has) (s .args .place) (s .args .value) ≡ all (parts s)
+line-is c = rw (not-false (c .before .before .args .has) (c .if1 .left)) (init-parts (c .before .before .args .place) (c .before .before .args .value))
 
 at-first : (c : tie.Else1) → let s = c .before .before in Rest s (s .args .out .now) (s .args .at) (parts s)
 at-first c = left-all _ _ (c .before .before .pre) (line-is c)
@@ -38,11 +38,11 @@ after-value : (c : tie.After-put-number-if2) → let s = begin (c .before .befor
 after-value c = left-next (after-place (c .before .before .before .before)) (c .put-number-if2 .ensures)
 
 line-put : (c : tie.After-put2) → let s = begin (c .before .before .before .before .before .before .before .before .before .before .before .before .before) in
-    Put (s .args .out .now) (s .args .at) (initPart (s .args .place) (s .args .value)) (c .put2 .last .0) (c .put2 .result)
+    Put (s .args .out .now) (s .args .at) (initPart (s .args .has) (s .args .place) (s .args .value)) (c .put2 .last .0) (c .put2 .result)
 line-put c = left-none (left-next (after-value (c .before .before .before .before .before)) (c .put2 .ensures))
 
 returns : tie.Need-returns
-returns c = rw (c .if1 .taken) (put-none _ _)
+returns c = rw (not-true (c .before .before .args .has) (c .if1 .taken)) (put-none _ _)
 
 pub put-init-spec : {M : Type 1} → statement M
 put-init-spec =

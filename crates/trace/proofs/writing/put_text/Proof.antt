@@ -4,7 +4,8 @@ use mathlib.Core.List.{List, _++_, map}
 use Rattle.event.specs.Room.{onward}
 use Rattle.record.specs.Layout.{eventLine}
 use Rattle.trace.specs.Put.{Put, Small, startText}
-use Rattle.trace.specs.Writing.{textOf, traceText}
+use Rattle.trace.specs.Way.{isUsed}
+use Rattle.trace.specs.Writing.{textOf, textBy}
 use Rattle.trace.proofs.Puts.{then, small-first, small-then, put-length}
 use Rattle.trace.proofs.Texts.{trace-parts}
 use Rattle.trace.proofs.writing.put_text.Statement.{statement}
@@ -12,20 +13,20 @@ use Rattle.trace.proofs.writing.put_text.Tie as tie
 
 module _ (s : tie.Start) where
   abbrev before : List ℕ
-  before = startText (s .args .form) (s .args .memory)
+  before = startText (s .args .form) (isUsed (s .args .ways .now)) (s .args .memory)
 
   abbrev lines : List ℕ
   lines = textOf (map (eventLine (s .args .form)) (onward (s .args .room .now) 0 (s .args .n)))
 
   small : Small 0 (before ++ lines)
-  small = rw (trace-parts (s .args .form) (s .args .memory) (onward (s .args .room .now) 0 (s .args .n))) at (s .pre)
+  small = rw (trace-parts (s .args .form) (isUsed (s .args .ways .now)) (s .args .memory) (onward (s .args .room .now) 0 (s .args .n))) at (s .pre)
 
 text-put : (c : tie.After-put-events) → let s = c .before .before .before .before .before .before .before .before in
-    Put (s .args .out .now) 0 (traceText (s .args .form) (s .args .memory) (onward (s .args .room .now) 0 (s .args .n))) (c .put-events .last .1 .0)
+    Put (s .args .out .now) 0 (textBy (s .args .form) (isUsed (s .args .ways .now)) (s .args .memory) (onward (s .args .room .now) 0 (s .args .n))) (c .put-events .last .1 .0)
     (c .put-events .result)
 text-put c =
     let p = c .before .before .before .before in
-    rw (trace-parts _ _ _) (then (p .put-start .ensures) (c .put-events .ensures))
+    rw (trace-parts _ _ _ _) (then (p .put-start .ensures) (c .put-events .ensures))
 
 pub put-text-spec : {M : Type 1} → statement M
 put-text-spec =

@@ -1,0 +1,109 @@
+// Answers 20 and 21: a location that an event touches has its line, and a line of 0 is for such a location. The ways in which locations are used say
+// which are touched.
+ghost use mathlib.Core.Bool.{_&&_, not};
+ghost use lib.Dec.{eqb};
+ghost use mathlib.Core.Path.{_≡_};
+ghost use Prim.Native.Nat.{_<_};
+ghost use Rattle.event.specs.Room.{onward};
+ghost use Rattle.trace.specs.Cover.{lacksLine, isIdle};
+ghost use Rattle.trace.specs.Fault.{firstBad};
+ghost use Rattle.trace.specs.Survey.{marked, soFar};
+ghost use Rattle.trace.specs.Way.{isUsed, waysWith, waysOf};
+ghost use Rattle.trace.specs.Writing.{hasLine};
+use crate::fault::UNTOUCHED;
+use crate::fault::Way;
+use crate::fault::use_place;
+use crate::fault::way_of;
+use event::Answer;
+use event::Event;
+use event::Number;
+use event::Word;
+use event::index_of;
+use event::memory::Memory;
+use event::room::get;
+use record::form::Form;
+use record::form::is_silent;
+
+// 20: whether an event touches a location that has no line.
+pub(crate) fn lacks_line(form: Form, has: &[bool; 256], e: Event) -> bool
+    requires { ⌜ e .place < 256 ⌝ }
+    ensures { λ r. ⌜ r ≡ lacksLine form (marked (now (has .entry))) e ⌝ }
+{
+    if is_silent(form, 0) {
+        return false;
+    }
+    if has[index_of(e.place)] {
+        return false;
+    }
+    way_of(e.kind) != UNTOUCHED
+}
+
+// Whether a line is one of 0 for a location that no event touches.
+fn is_idle(value: Word, way: Way) -> bool
+    ensures { λ r. ⌜ r ≡ (eqb value 0 && eqb way 0) ⌝ }
+{
+    if value != 0 {
+        return false;
+    }
+    way == UNTOUCHED
+}
+
+// 21: the first line of 0 for a location that no event touches. The first starting value is on line 2.
+pub(crate) fn idle_fault(
+    form: Form,
+    side: Number,
+    has: &[bool; 256],
+    start: Memory,
+    ways: &[Way; 256],
+) -> Answer
+    ensures { λ r. ⌜ r ≡ firstBad (isIdle form (isUsed (now (ways .entry)))) 21 side 2 (soFar (now (has .entry)) start) ⌝ }
+{
+    if is_silent(form, 0) {
+        return Answer::new(0, 0, 0);
+    }
+    let mut line: usize = 2;
+    let mut l: usize = 0;
+    while l < 256 {
+        if has[l] {
+            if is_idle(start.cells[l], ways[l]) {
+                return Answer::new(21, side, line);
+            }
+            line += 1;
+        }
+        l += 1;
+    }
+    Answer::new(0, 0, 0)
+}
+
+// Whether a starting value has a line, by how its location is used.
+pub(crate) fn has_line(form: Form, way: Way, value: Word) -> bool
+    ensures { λ r. ⌜ r ≡ hasLine form (λ _. not (eqb way 0)) 0 value ⌝ }
+{
+    if value != 0 {
+        return true;
+    }
+    if is_silent(form, value) {
+        return false;
+    }
+    way != UNTOUCHED
+}
+
+// The ways after one event more; one that is at no location of the ways is passed over.
+pub(crate) fn touch(ways: &mut [Way; 256], e: Event)
+    ensures { λ _. ⌜ now (ways .exit) ≡ waysWith (now (ways .entry)) e ⌝ }
+{
+    if e.place < 256 {
+        use_place(ways, e);
+    }
+}
+
+// The ways after the first n events of a room.
+pub(crate) fn touch_all(ways: &mut [Way; 256], room: &[Word], n: usize)
+    ensures { λ _. ⌜ now (ways .exit) ≡ waysOf (now (ways .entry)) (onward (now (room .entry)) 0 n) ⌝ }
+{
+    let mut i: usize = 0;
+    while i < n {
+        touch(ways, get(room, i));
+        i += 1;
+    }
+}
