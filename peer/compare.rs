@@ -24,6 +24,8 @@ mod peer;
 mod random;
 mod rules;
 mod texts;
+#[allow(dead_code)]
+mod zeros;
 
 use cases::Case;
 use forms::{KnownWriting, Move};
@@ -164,7 +166,7 @@ fn compare_line(case: &Case, answer: Answer, tally: &mut Tally) -> Same {
 
 /// Any three numbers get a part of a text.
 fn try_any_answer(random: &mut Random, case: &Case) -> Same {
-    let [number, side] = [21, 5].map(|limit| random.below(limit) as u32);
+    let [number, side] = [23, 5].map(|limit| random.below(limit) as u32);
     let place = match random.below(8) {
         0 => random.next() as u32,
         _ => random.below(30) as u32,
@@ -388,10 +390,10 @@ fn print_tally(tally: &Tally) {
 /// The moves and the writings that are known by hand.
 fn compare_known(random: &mut Random, tally: &mut Tally) -> Same {
     let told = |name: &str, same: Same| same.map_err(|Difference(told)| Difference(format!("{name}: {told}")));
-    for known in [forms::moves(), counters::moves()].concat() {
+    for known in [forms::moves(), counters::moves(), zeros::moves()].concat() {
         told(&known.name, compare_move(random, &known.handed, tally))?;
     }
-    for KnownWriting { name, handed, .. } in [forms::writings(), counters::writings()].concat() {
+    for KnownWriting { name, handed, .. } in [forms::writings(), counters::writings(), zeros::writings()].concat() {
         let (memory, words) = handed.read();
         told(&name, compare_writing(random, handed.form, &memory, &words, handed.bytes, tally))?;
     }
@@ -402,7 +404,7 @@ fn main() {
     let mut arguments = std::env::args().skip(1).map(|word| word.parse::<u64>().expect("a number"));
     let count = arguments.next().expect("compare COUNT [SEED]");
     let seed = arguments.next().unwrap_or(1);
-    let known = [cases::all(), forms::checks(), counters::checks()].concat();
+    let known = [cases::all(), forms::checks(), counters::checks(), zeros::checks()].concat();
     let known: Vec<Case> = known.into_iter().map(|known| known.case).collect();
     let by_hand = known.len();
     println!("seed {seed}, {count} cases, after {by_hand} known by hand");

@@ -235,8 +235,8 @@ fn writings_of(list: &mut Writings, form: Form) {
     changed("code line 2^32", 5, 1 << 32, (18, 0, 1));
     changed("a value that the kind lacks", 9, 1 << 32, (18, 0, 2));
     for (value, digits) in [((1 << 32) - 1, 10), (1 << 32, 10), (1 << 63, 19), (Word::MAX - 1, 20), (Word::MAX, 20)] {
-        list.changed("a store's value", form, "store 1 8 0; lock 0 0", 12, (3, value), size(8 + 9 + digits + 7));
-        list.changed("add64's operand", form, "add64 1 sc 0 8 0; lock 0 0", 12, (4, value), size(8 + 14 + digits + 7));
+        list.changed("a store's value", form, "init 1 7; store 1 8 0; lock 0 0", 12, (3, value), size(8 + 9 + 9 + digits + 7));
+        list.changed("add64's operand", form, "init 1 7; add64 1 sc 7 8 0; lock 0 0", 12, (4, value), size(8 + 9 + 14 + digits + 7));
     }
 }
 

@@ -1,8 +1,8 @@
 //! Random triples of texts. A random source is changed by lawful removals,
 //! swaps and insertions to a target, and the matching is kept along; then in
 //! most a fault is planted, in the moves, the events, the matching, the rooms
-//! or the bytes. Traces of form 2 are made from those of form 1 by code lines at
-//! will; from them come moves between the forms, and writings in both.
+//! or the bytes. Traces of form 2 are made from those of form 1 by zero lines, and
+//! code lines at will; from them come moves between the forms, and writings in both.
 
 use crate::cases::Case;
 use crate::forms::{Move, Writing, PLENTY};
@@ -364,6 +364,22 @@ pub fn damage_code(random: &mut Random, text: &mut Vec<u8>) {
     }
 }
 
+/// One of the `init` lines lost or set to another value, or a zero line more.
+pub fn damage_starts(random: &mut Random, text: &mut Vec<u8>) {
+    let mut lines: Vec<Vec<u8>> = text.split_inclusive(|&byte| byte == b'\n').map(<[u8]>::to_vec).collect();
+    let starts = lines.iter().skip(1).take_while(|line| texts::start(line).is_some()).count();
+    let at = 1 + random.below(starts.max(1));
+    let start = lines.get(at).and_then(|line| texts::start(line));
+    match (random.below(4), start) {
+        (0 | 1, Some(_)) => {
+            lines.remove(at);
+        }
+        (2, Some(location)) => lines[at] = format!("init\t{location}\t{}\n", random.pick(&[0, 0, 1, 7])).into_bytes(),
+        _ => texts::add_zero(&mut lines, random.pick(&PLACES)),
+    }
+    *text = lines.concat();
+}
+
 /// A triple of any sort, each of its traces in one of the forms.
 pub fn mixed_case(random: &mut Random) -> Case {
     let mut case = case(random);
@@ -373,6 +389,7 @@ pub fn mixed_case(random: &mut Random) -> Case {
             match random.below(24) {
                 0 | 1 => damage_code(random, text),
                 2 => damage(random, text),
+                3..=5 => damage_starts(random, text),
                 _ => {}
             }
         }

@@ -63,6 +63,8 @@ pub mod number {
     pub const ROOM_TOO_SHORT: u32 = 17;
     pub const BAD_FIELDS: u32 = 18;
     pub const CODE_LOST: u32 = 19;
+    pub const START_MISSING: u32 = 20;
+    pub const IDLE_ZERO: u32 = 21;
 }
 
 /// The side of an answer.
@@ -136,6 +138,11 @@ pub type Entry = u32;
 pub type Memory = [Word; CELLS];
 
 const ZERO_MEMORY: Memory = [0; CELLS];
+
+/// A set of locations.
+type Locations = [bool; CELLS];
+
+const NO_LOCATIONS: Locations = [false; CELLS];
 
 #[derive(Clone, Copy, Debug, PartialEq, Eq)]
 pub struct Answer {
@@ -258,6 +265,11 @@ impl Kind {
 
     fn has_place(self) -> bool {
         self != Kind::Fence
+    }
+
+    /// Whether the kind's place is a location; that of a mutex is none.
+    fn touches(self) -> bool {
+        !matches!(self, Kind::Fence | Kind::Lock | Kind::Unlock)
     }
 
     /// How many value fields the kind has.
@@ -489,11 +501,11 @@ impl<'a> Cursor<'a> {
         self.event(kind, place, order::NONE, 0, 0)
     }
 
-    /// An `init` line. A value of 0 is not of the layout.
+    /// An `init` line. In form 1 a value of 0 is not of the layout.
     #[inline]
     fn init(&mut self) -> Option<Record> {
         let location = self.place(TAB)?;
-        let value = self.value(LF).filter(|&value| value != 0)?;
+        let value = self.value(LF).filter(|&value| value != 0 || self.form == Form::Two)?;
         Some(Record::Init { location, value })
     }
 
@@ -531,12 +543,19 @@ fn body<'a>(text: &'a [u8], header: &[u8], form: Form, side: u32) -> Result<Curs
     }
 }
 
+/// The lines of a trace: its events, and the locations that have an `init` line.
+struct Lines {
+    events: Vec<Event>,
+    lined: Locations,
+}
+
 /// Answers 1 to 4 of a trace. Fills the starting memory, which is all 0 before.
-fn parse_lines(text: &[u8], side: u32, memory: &mut Memory) -> Result<Vec<Event>, Answer> {
+fn parse_lines(text: &[u8], side: u32, memory: &mut Memory) -> Result<Lines, Answer> {
     let form = form_of(text);
     within(form.limit(), text, side)?;
     let mut cursor = body(text, form.header(), form, side)?;
     let mut events = Vec::with_capacity((text.len() / SHORTEST_EVENT_LINE).min(MAX_EVENTS));
+    let mut lined = NO_LOCATIONS;
     let mut line = 1;
     let mut next_location = 0;
     while !cursor.rest.is_empty() {
@@ -549,6 +568,7 @@ fn parse_lines(text: &[u8], side: u32, memory: &mut Memory) -> Result<Vec<Event>
                 }
                 next_location = usize::from(location) + 1;
                 memory[usize::from(location)] = value;
+                lined[usize::from(location)] = true;
             }
             Some(Record::Event(event)) => {
                 if events.len() == MAX_EVENTS {
@@ -558,7 +578,32 @@ fn parse_lines(text: &[u8], side: u32, memory: &mut Memory) -> Result<Vec<Event>
             }
         }
     }
-    Ok(events)
+    Ok(Lines { events, lined })
+}
+
+/// The locations that the events touch.
+fn touched(events: &[Event]) -> Locations {
+    let mut touched = NO_LOCATIONS;
+    for event in events.iter().filter(|event| event.kind.touches()) {
+        touched[usize::from(event.place)] = true;
+    }
+    touched
+}
+
+/// Answers 20 and 21, which form 2 alone has: no start of a touched location is
+/// left unsaid, and none of 0 is said of another.
+fn cover(lines: &Lines, memory: &Memory, side: u32) -> Result<(), Answer> {
+    let unsaid = |event: &Event| event.kind.touches() && !lines.lined[usize::from(event.place)];
+    if let Some(index) = lines.events.iter().position(unsaid) {
+        return Err(Answer::new(number::START_MISSING, side, index + 1));
+    }
+    let touched = touched(&lines.events);
+    // The `init` lines ascend, from line 2 on.
+    let mut starts = (0..CELLS).filter(|&location| lines.lined[location]);
+    match starts.position(|location| memory[location] == 0 && !touched[location]) {
+        Some(index) => Err(Answer::new(number::IDLE_ZERO, side, index + 2)),
+        None => Ok(()),
+    }
 }
 
 /// Bits that say how a location has been used so far.
@@ -593,14 +638,17 @@ fn replay(start: &Memory, events: &[Event], side: u32) -> Result<(), Answer> {
     Ok(())
 }
 
-/// Answers 1 to 6 of a trace.
+/// Answers 1 to 6, 20 and 21 of a trace.
 fn parse(text: &[u8], side: u32, memory: &mut Memory) -> Result<Vec<Event>, Answer> {
-    let events = parse_lines(text, side, memory)?;
-    replay(memory, &events, side)?;
-    Ok(events)
+    let lines = parse_lines(text, side, memory)?;
+    if form_of(text) == Form::Two {
+        cover(&lines, memory, side)?;
+    }
+    replay(memory, &lines.events, side)?;
+    Ok(lines.events)
 }
 
-/// Answers 1 to 6 and 17 of a trace, for a room of `room` words.
+/// All answers of a trace, for a room of `room` words.
 fn parse_trace(text: &[u8], side: u32, room: usize, memory: &mut Memory) -> Result<Vec<Event>, Answer> {
     let events = parse(text, side, memory)?;
     if room / EVENT_WORDS < events.len() {
@@ -735,12 +783,17 @@ fn push_init(text: &mut Vec<u8>, location: usize, value: Word) {
     text.push(LF);
 }
 
-/// The text of a lawful trace.
+/// The text of a lawful trace. Form 2 says the start of a touched location even
+/// where it is 0.
 fn render(form: Form, memory: &Memory, events: &[Event]) -> Vec<u8> {
     let mut text = Vec::with_capacity(form.header().len() + events.len() * LONGEST_LINE);
     text.extend_from_slice(form.header());
+    let zeros = match form {
+        Form::One => NO_LOCATIONS,
+        Form::Two => touched(events),
+    };
     for (location, &value) in memory.iter().enumerate() {
-        if value != 0 {
+        if value != 0 || zeros[location] {
             push_init(&mut text, location, value);
         }
     }

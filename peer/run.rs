@@ -18,6 +18,8 @@ mod rules;
 mod steps;
 #[allow(dead_code)]
 mod texts;
+#[allow(dead_code)]
+mod zeros;
 
 use peer::{offending_line, EVENT_WORDS, MAX_EVENTS};
 use random::Random;
@@ -80,7 +82,7 @@ fn compared(program: &str, texts: [&[u8]; 3]) -> Result<usize, String> {
 
 fn beside(program: &str, count: usize, seed: u64) -> Result<(), String> {
     let mut random = Random::new(seed);
-    let known = [cases::all(), forms::checks()].concat();
+    let known = [cases::all(), forms::checks(), zeros::checks()].concat();
     let mut steps = 0;
     for known in &known {
         steps += compared(program, known.case.texts()).map_err(|difference| format!("{}\n{difference}", known.name))?;

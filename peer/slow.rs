@@ -1,9 +1,12 @@
 //! The slow checker on traces of both forms. `naive.rs` stays at document 01; a
 //! trace of form 2 is put to it as the text of form 1 that is left when every
-//! event line loses its code line. A line whose last field is no code line is
-//! there a line that is bad. A text that document 01 reads otherwise than
-//! document 02 does, by a value of more than 32 bits, an `add64` or a length
-//! between the limits of both, is not put to it: there is no slow answer then.
+//! event line loses its code line and zero lines are dropped. A line whose last
+//! field is no code line is there a line that is bad. Where the lines are asked
+//! about, a zero line goes as one of 1, so that it counts and keeps its place;
+//! 20 and 21 are found on the lines as they stand. A text that document 01 reads
+//! otherwise than document 02 does, by a value of more than 32 bits, an `add64`
+//! or a length between the limits of both, is not put to it: there is no slow
+//! answer then.
 
 use crate::naive::{self, Trace, Triple};
 
@@ -14,10 +17,26 @@ const FORM_2_LIMIT: usize = 57_300;
 /// The limit of document 01.
 const OLD_LIMIT: usize = 32_400;
 
-/// A trace text of form 1, and the code lines that its events had.
+/// What is left of a trace text for document 01.
 struct Plain {
+    /// With 1 for 0 in zero lines.
+    lines: Vec<u8>,
+    /// Without zero lines.
     text: Vec<u8>,
+    /// The code lines of the events.
     codes: Vec<u32>,
+}
+
+impl Plain {
+    fn add(&mut self, line: &[u8]) {
+        match line.strip_suffix(b"\t0\n") {
+            Some(start) if is_init(line) => self.lines.extend([start, b"\t1\n"].concat()),
+            _ => {
+                self.lines.extend_from_slice(line);
+                self.text.extend_from_slice(line);
+            }
+        }
+    }
 }
 
 /// A trace as it lies in a room, and its starting memory.
@@ -56,11 +75,11 @@ fn parted(line: &[u8]) -> Option<(&[u8], u32)> {
 
 fn plain(text: &[u8]) -> Plain {
     if !is_form_2(text) {
-        return Plain { text: text.to_vec(), codes: vec![0; text.len()] };
+        return Plain { lines: text.to_vec(), text: text.to_vec(), codes: vec![0; text.len()] };
     }
-    let mut plain = Plain { text: FORM_1.to_vec(), codes: vec![] };
+    let mut plain = Plain { lines: FORM_1.to_vec(), text: FORM_1.to_vec(), codes: vec![] };
     if is_over(text) {
-        plain.text.resize(OLD_LIMIT + 1, b'\n');
+        plain.lines.resize(OLD_LIMIT + 1, b'\n');
         return plain;
     }
     for line in text[FORM_2.len()..].split_inclusive(|&byte| byte == b'\n') {
@@ -68,13 +87,13 @@ fn plain(text: &[u8]) -> Plain {
             Some(event) if !is_init(event) => {
                 let Some((event, code)) = parted(event) else {
                     // Nothing after a bad line is looked at.
-                    plain.text.extend_from_slice(b"bad\n");
+                    plain.add(b"bad\n");
                     return plain;
                 };
-                plain.text.extend([event, b"\n"].concat());
+                plain.add(&[event, b"\n"].concat());
                 plain.codes.push(code);
             }
-            _ => plain.text.extend_from_slice(line),
+            _ => plain.add(line),
         }
     }
     plain
@@ -89,8 +108,8 @@ fn is_wide(field: &[u8]) -> bool {
 /// A text with the code lines that it had, if document 01 reads it as document 02 does.
 fn old(text: &[u8]) -> Option<Plain> {
     let plain = plain(text);
-    let within = is_over(text) || plain.text.len() <= OLD_LIMIT;
-    let mut lines = plain.text.split(|&byte| byte == b'\n');
+    let within = is_over(text) || plain.lines.len() <= OLD_LIMIT;
+    let mut lines = plain.lines.split(|&byte| byte == b'\n');
     let wide = lines.any(|line| line.starts_with(b"add64\t") || line.split(|&byte| byte == b'\t').any(is_wide));
     (within && !wide).then_some(plain)
 }
@@ -103,10 +122,55 @@ fn stored(trace: Trace, codes: &[u32]) -> Stored {
     Stored { words: trace.rows.iter().zip(codes).flat_map(with_code).collect(), start: trace.start.map(u64::from) }
 }
 
+/// The fields of each line of a lawful text after the first.
+fn fields(text: &[u8]) -> Vec<Vec<String>> {
+    let text = String::from_utf8_lossy(text).into_owned();
+    text.lines().skip(1).map(|line| line.split('\t').map(str::to_string).collect()).collect()
+}
+
+/// The locations that lines of these words name.
+fn located(lines: &[Vec<String>], words: &[&str]) -> Vec<String> {
+    lines.iter().filter(|line| words.contains(&line[0].as_str())).map(|line| line[1].clone()).collect()
+}
+
+const TOUCHING: [&str; 6] = ["load", "store", "aload", "astore", "rmw", "add"];
+
+/// Answers 20 and 21 of a text whose lines are all of the layout.
+fn uncovered(text: &[u8], side: u32) -> Option<Triple> {
+    let lines = fields(text);
+    let (starts, touched) = (located(&lines, &["init"]), located(&lines, &TOUCHING));
+    let events: Vec<&Vec<String>> = lines.iter().filter(|line| line[0] != "init").collect();
+    for (index, event) in events.iter().enumerate() {
+        if TOUCHING.contains(&event[0].as_str()) && !starts.contains(&event[1]) {
+            return Some((20, side, index as u32 + 1));
+        }
+    }
+    for (index, line) in lines.iter().enumerate() {
+        if line[0] == "init" && line[2] == "0" && !touched.contains(&line[1]) {
+            return Some((21, side, index as u32 + 2));
+        }
+    }
+    None
+}
+
+/// The refusal of a trace, for a room of so many events.
+fn refusal(text: &[u8], plain: &Plain, side: u32, room: usize) -> Option<Triple> {
+    match naive::read_trace(&plain.lines, side, room) {
+        Err(answer) if answer.0 <= 4 => return Some(answer),
+        _ => {}
+    }
+    let uncovered = if is_form_2(text) { uncovered(text, side) } else { None };
+    uncovered.or(naive::read_trace(&plain.text, side, room).err())
+}
+
 /// The check of source, target and matching text, for rooms of so many events,
 /// events and entries.
 pub fn check([source, target, matching]: [&[u8]; 3], rooms: [usize; 3]) -> Option<Outcome> {
     let (plain_source, plain_target) = (old(source)?, old(target)?);
+    let refused = refusal(source, &plain_source, 1, rooms[0]).or_else(|| refusal(target, &plain_target, 2, rooms[1]));
+    if let Some(answer) = refused {
+        return Some(Outcome { answer, line: naive::offending_line(source, target, answer), stored: None });
+    }
     let outcome = naive::check([&plain_source.text, &plain_target.text, matching], rooms);
     Some(Outcome {
         answer: outcome.answer,
@@ -117,16 +181,24 @@ pub fn check([source, target, matching]: [&[u8]; 3], rooms: [usize; 3]) -> Optio
     })
 }
 
-/// A text of form 1 with code line 0 at every event.
+/// A lawful text of form 1 with a start for every touched location, and code line
+/// 0 at every event.
 fn with_zeros(text: &[u8]) -> Vec<u8> {
-    let mut coded = FORM_2.to_vec();
-    for line in text[FORM_1.len()..].split_inclusive(|&byte| byte == b'\n') {
-        match line.strip_suffix(b"\n") {
-            Some(event) if !is_init(event) => coded.extend([event, b"\t0\n"].concat()),
-            _ => coded.extend_from_slice(line),
+    let lines = fields(text);
+    let touched = located(&lines, &TOUCHING);
+    let mut coded = String::from_utf8_lossy(FORM_2).into_owned();
+    for location in 0..256 {
+        let start = lines.iter().find(|line| line[0] == "init" && line[1] == location.to_string());
+        match start {
+            Some(line) => coded += &(line.join("\t") + "\n"),
+            None if touched.contains(&location.to_string()) => coded += &format!("init\t{location}\t0\n"),
+            None => {}
         }
     }
-    coded
+    for event in lines.iter().filter(|line| line[0] != "init") {
+        coded += &(event.join("\t") + "\t0\n");
+    }
+    coded.into_bytes()
 }
 
 /// The answer to a move into so many bytes, and the text that it writes.
@@ -138,14 +210,14 @@ pub fn moved(to_form_2: bool, text: &[u8], bytes: usize) -> Option<(Triple, Vec<
     if is_form_2(text) == to_form_2 {
         return refused((2, 1, 1));
     }
-    let Plain { text: plain, codes } = old(text)?;
-    if let Err(answer) = naive::read_trace(&plain, 1, usize::MAX) {
+    let plain = old(text)?;
+    if let Some(answer) = refusal(text, &plain, 1, usize::MAX) {
         return refused(answer);
     }
-    if let Some(event) = codes.iter().position(|&code| code != 0) {
+    if let Some(event) = plain.codes.iter().position(|&code| code != 0) {
         return refused((19, 1, event as u32 + 1));
     }
-    let moved = if to_form_2 { with_zeros(text) } else { plain };
+    let moved = if to_form_2 { with_zeros(text) } else { plain.text };
     if moved.len() > bytes {
         return refused((17, 0, moved.len() as u32));
     }

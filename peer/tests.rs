@@ -14,6 +14,7 @@ mod random;
 mod rules;
 mod slow;
 mod texts;
+mod zeros;
 
 use cases::{Case, Triple};
 use forms::{KnownMove, KnownWriting};
@@ -31,7 +32,7 @@ const GUARD: u8 = 0xaa;
 const ZERO: Memory = [0; CELLS];
 const FORMS: [Form; 2] = [Form::One, Form::Two];
 /// The answers are numbered from 0.
-const ANSWERS: usize = 20;
+const ANSWERS: usize = 22;
 /// How many lawful changes of longer traces are tried.
 const LAWFUL: usize = 6_000;
 
@@ -170,7 +171,7 @@ fn compare_moves(text: &[u8], what: &str) {
 }
 
 fn known_cases() -> usize {
-    let known = [cases::all(), forms::checks(), counters::checks()].concat();
+    let known = [cases::all(), forms::checks(), counters::checks(), zeros::checks()].concat();
     for known in &known {
         assert_eq!(compare(&known.case, &known.name).answer, known.answer, "{}: answer by hand", known.name);
     }
@@ -194,12 +195,13 @@ fn parts_of_texts() {
     assert!(std::ptr::eq(line(15, 2, 1), &target[8..14]));
     assert!(line(2, 1, 2).is_empty());
     assert!(line(9, 3, 1).is_empty() && line(7, 2, 0).is_empty() && line(17, 1, 5).is_empty());
+    assert!(line(19, 1, 1).is_empty() && line(20, 2, 1).is_empty() && line(21, 2, 2).is_empty());
     // Answers that no check of these texts gives are no danger.
     assert!(line(2, 1, 0).is_empty() && line(2, 2, 99).is_empty() && line(16, 2, 99).is_empty());
 }
 
 fn known_moves() -> usize {
-    let moves = [forms::moves(), counters::moves()].concat();
+    let moves = [forms::moves(), counters::moves(), zeros::moves()].concat();
     for KnownMove { name, handed, answer, moved } in &moves {
         let what = format!("move: {name}");
         assert_eq!(move_to(handed.to, &handed.text, handed.bytes, &what), (*answer, moved.clone()), "{what}");
@@ -209,7 +211,7 @@ fn known_moves() -> usize {
 
 /// The writings that are known by hand; what is written is read back.
 fn known_writings() -> usize {
-    let writings = [forms::writings(), counters::writings()].concat();
+    let writings = [forms::writings(), counters::writings(), zeros::writings()].concat();
     for KnownWriting { name, handed, answer: by_hand } in &writings {
         let what = format!("writing: {name}");
         let (memory, words) = handed.read();

@@ -1,7 +1,8 @@
 //! Texts made from events with the standard formatter, for the programs that
 //! test the checker. Independent of the checker's own writer.
 
-use crate::peer::{Event, Kind, Memory};
+use crate::peer::{self, Event, Kind, Memory, EVENT_WORDS, MAX_EVENTS};
+use std::collections::BTreeSet;
 
 const ORDERS: [&str; 8] = ["", "rlx", "acq", "rel", "ar", "sc", "used", "unused"];
 
@@ -40,8 +41,46 @@ pub fn trace_text(start: &Memory, events: &[Event]) -> Vec<u8> {
     text.into_bytes()
 }
 
-/// A trace of form 1 as one of form 2: each event line ends with a code line.
-/// Where a line is bad, it stays so.
+/// The location that a line has, if it begins with one of these words.
+fn location(line: &[u8], words: &[&str]) -> Option<u8> {
+    let mut fields = std::str::from_utf8(line).ok()?.trim_end().split('\t');
+    let word = fields.next()?;
+    let location = fields.next()?.parse().ok();
+    location.filter(|_| words.contains(&word))
+}
+
+/// The location of an `init` line.
+pub fn start(line: &[u8]) -> Option<u8> {
+    location(line, &["init"])
+}
+
+/// A zero line for a location among the lines of a trace, behind the starts of
+/// lower ones; nothing where it has a line.
+pub fn add_zero(lines: &mut Vec<Vec<u8>>, location: u8) {
+    let lower = lines.iter().skip(1).take_while(|line| start(line).is_some_and(|start| start < location)).count();
+    let at = lines.len().min(lower + 1);
+    if lines.get(at).and_then(|line| start(line)) != Some(location) {
+        lines.insert(at, format!("init\t{location}\t0\n").into_bytes());
+    }
+}
+
+/// A trace of form 2 with a zero line for each touched location that has no
+/// `init` line. A text of which a line is refused stays as it is, so that its
+/// lines keep their numbers.
+pub fn with_zeros(text: &[u8]) -> Vec<u8> {
+    const TOUCHING: [&str; 7] = ["load", "store", "aload", "astore", "rmw", "add", "add64"];
+    let read = peer::read_trace(text, &mut [0; MAX_EVENTS * EVENT_WORDS]);
+    if (1..=4).contains(&read.answer.number) {
+        return text.to_vec();
+    }
+    let mut lines: Vec<Vec<u8>> = text.split_inclusive(|&byte| byte == b'\n').map(<[u8]>::to_vec).collect();
+    let touched: BTreeSet<u8> = lines.iter().filter_map(|line| location(line, &TOUCHING)).collect();
+    touched.into_iter().for_each(|location| add_zero(&mut lines, location));
+    lines.concat()
+}
+
+/// A trace of form 1 as one of form 2: each event line ends with a code line, and
+/// zero lines are added. Where a line is bad, it stays so.
 pub fn with_codes(text: &[u8], mut code: impl FnMut() -> u32) -> Vec<u8> {
     let Some(rest) = text.strip_prefix(b"trace\t1\n") else {
         return text.to_vec();
@@ -56,7 +95,7 @@ pub fn with_codes(text: &[u8], mut code: impl FnMut() -> u32) -> Vec<u8> {
             _ => coded.extend_from_slice(line),
         }
     }
-    coded
+    with_zeros(&coded)
 }
 
 pub fn entry_line(entry: u16) -> String {

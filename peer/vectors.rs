@@ -4,9 +4,9 @@
 //! name, parted by single blanks and ended by LF; the name may have blanks but
 //! no LF. The vectors end where the file ends.
 //!
-//! `vectors`, `forms` and `counters` hold checks, `forms` those with a trace of
-//! form 2, `counters` those with values of more than 32 bits, `add64` or the
-//! limits of texts:
+//! `vectors`, `forms`, `counters` and `zeros` hold checks, `forms` those with a
+//! trace of form 2, `counters` those with values of more than 32 bits, `add64` or
+//! the limits of texts, `zeros` those of form 2 about starting values:
 //!
 //!   source length, target length, matching length (bytes),
 //!   source room, target room, entry room (words: six an event, one an entry;
@@ -68,6 +68,7 @@ mod rules;
 mod slow;
 mod steps;
 mod texts;
+mod zeros;
 
 use cases::{Case, Known, Triple, ALL, DONE};
 use forms::{KnownMove, KnownWriting, Move, Writing};
@@ -143,8 +144,33 @@ const CHECK_SHARES: [((u32, u32), usize); 23] = [
 /// A form 2 check has a fraction of each share of a check.
 const FORM_SHARE: usize = 8;
 
-const MOVE_SHARES: [((u32, u32), usize); 7] =
-    [((0, 0), 80), ((2, 1), 60), ((4, 1), 20), ((5, 1), 20), ((6, 1), 40), ((17, 0), 40), ((19, 1), 60)];
+/// What the starting values of form 2 bring, and what comes before and behind.
+const ZERO_SHARES: [((u32, u32), usize); 12] = [
+    ((20, 1), 60),
+    ((20, 2), 60),
+    ((21, 1), 40),
+    ((21, 2), 40),
+    ((2, 1), 10),
+    ((4, 1), 10),
+    ((4, 2), 10),
+    ((5, 1), 10),
+    ((6, 1), 20),
+    ((6, 2), 20),
+    ((7, 2), 40),
+    ((0, 0), 60),
+];
+
+const MOVE_SHARES: [((u32, u32), usize); 9] = [
+    ((0, 0), 80),
+    ((2, 1), 60),
+    ((4, 1), 20),
+    ((5, 1), 20),
+    ((6, 1), 40),
+    ((17, 0), 40),
+    ((19, 1), 60),
+    ((20, 1), 30),
+    ((21, 1), 20),
+];
 
 const WRITING_SHARES: [((u32, u32), usize); 6] =
     [((0, 0), 80), ((5, 0), 10), ((6, 0), 20), ((17, 0), 40), ((18, 0), 60), ((19, 0), 60)];
@@ -392,9 +418,31 @@ fn counter_checks(random: &mut Random) -> File {
     file
 }
 
+/// Checks with a trace of form 2 whose `init` lines were changed.
+fn zero_checks(random: &mut Random) -> File {
+    let mut file = File::default();
+    add_known_checks(&mut file, &zeros::checks());
+    let draw = || {
+        let events = 1 + random.below(12);
+        let mut case = generate::lawful_case(random, events);
+        generate::add_codes(random, &mut case.source);
+        generate::add_codes(random, &mut case.target);
+        let text = if random.once_in(2) { &mut case.source } else { &mut case.target };
+        generate::damage_starts(random, text);
+        match random.below(4) {
+            0 => generate::damage(random, text),
+            1 => generate::disorder(random, text),
+            _ => {}
+        }
+        case
+    };
+    file.add_random(&ZERO_SHARES, draw, check_vector);
+    file
+}
+
 fn moves(random: &mut Random) -> File {
     let mut file = File::default();
-    for KnownMove { name, handed, answer, moved } in forms::moves().iter().chain(&counters::moves()) {
+    for KnownMove { name, handed, answer, moved } in &[forms::moves(), counters::moves(), zeros::moves()].concat() {
         let vector = move_vector(handed, 0);
         assert_eq!(vector.given, *moved, "{name}: the text by hand differs");
         file.add_known(name, &vector, *answer);
@@ -409,7 +457,7 @@ fn moves(random: &mut Random) -> File {
 
 fn writings(random: &mut Random) -> File {
     let mut file = File::default();
-    for KnownWriting { name, handed, answer } in forms::writings().iter().chain(&counters::writings()) {
+    for KnownWriting { name, handed, answer } in &[forms::writings(), counters::writings(), zeros::writings()].concat() {
         file.add_known(name, &writing_vector(handed, 0), *answer);
     }
     let draw = || loop {
@@ -434,6 +482,7 @@ fn examples() -> Vec<Known> {
         known("task", example!("task"), DONE),
         known("code", example!("code"), (14, 1, 7)),
         known("count", example!("count"), DONE),
+        known("start", example!("start"), (20, 2, 1)),
     ]
 }
 
@@ -469,7 +518,7 @@ fn changed_case(random: &mut Random) -> Case {
 fn runs(random: &mut Random) -> File {
     let mut file = File::default();
     let requirement = cases::runs();
-    let others = [cases::all().split_off(requirement.len()), forms::checks(), counters::checks()].concat();
+    let others = [cases::all().split_off(requirement.len()), forms::checks(), counters::checks(), zeros::checks()].concat();
     let has_step = |known: &Known| known.answer == DONE && !run_vector(&known.case, 0).given.is_empty();
     let first = requirement.into_iter().chain(examples()).chain([backwards()]);
     for Known { name, case, answer } in first.chain(others.into_iter().filter(has_step)) {
@@ -485,10 +534,11 @@ fn main() {
     let folder = arguments.next().expect("the folder to write the files in");
     let folder = Path::new(&folder);
     let seed = arguments.next().map_or(1, |seed| seed.parse().expect("the seed is a number"));
-    let files: [(&str, fn(&mut Random) -> File); 6] = [
+    let files: [(&str, fn(&mut Random) -> File); 7] = [
         ("vectors", checks),
         ("forms", form_checks),
         ("counters", counter_checks),
+        ("zeros", zero_checks),
         ("moves", moves),
         ("writes", writings),
         ("runs", runs),
