@@ -84,7 +84,7 @@ fn are_entries_unchanged(room: &[Entry], from: usize) -> bool {
 
 // How many of the events or entries counted a room holds: none if a reading refuses.
 fn held(number: Number, count: usize) -> usize {
-    if is_in(number as Word, &[1, 2, 3, 4, 5, 6, 17]) {
+    if is_in(number as Word, &[1, 2, 3, 4, 5, 6, 17, 20, 21]) {
         return 0;
     }
     count

@@ -1,4 +1,4 @@
-// Checks the files of the examples as the program does, then runs every vector of six files and prints which differ.
+// Checks the files of the examples as the program does, then runs every vector of seven files and prints which differ.
 mod back;
 mod check;
 mod lent;
@@ -25,8 +25,8 @@ use tell::and_more;
 use vector::forth;
 use writes::run_write;
 
-// The answers that the vectors have are 0 to 19.
-const ANSWERS: usize = 20;
+// The answers that the vectors have are 0 to 21.
+const ANSWERS: usize = 22;
 
 // What the vectors of a file are.
 enum Task {
@@ -71,6 +71,11 @@ fn print_examples() {
         b"examples/count/source",
         b"examples/count/target",
         b"examples/count/matching",
+    );
+    check_files(
+        b"examples/start/source",
+        b"examples/start/target",
+        b"examples/start/matching",
     );
 }
 
@@ -171,6 +176,7 @@ fn main() {
     run_file(Task::Check, b"vectors", b"written back");
     run_file(Task::Check, b"forms", b"written back");
     run_file(Task::Check, b"counters", b"written back");
+    run_file(Task::Check, b"zeros", b"written back");
     run_file(Task::Move, b"moves", b"moved back");
     run_file(Task::Write, b"writes", b"written back");
     run_file(Task::Run, b"runs", b"steps");
