@@ -49,9 +49,10 @@ impl Rooms {
     }
 }
 
-/// A case with what the writer needs: the source read.
+/// A case with what the writer needs: the source read, and its form.
 struct Input {
     case: Case,
+    form: Form,
     memory: Memory,
     words: Vec<Word>,
 }
@@ -62,19 +63,36 @@ impl Input {
         let read = peer::read_trace(&case.source, &mut words);
         assert_eq!(read.answer.number, 0);
         words.truncate(read.events * EVENT_WORDS);
-        Input { case, memory: read.memory, words }
+        Input { form: peer::form_of(&case.source), case, memory: read.memory, words }
+    }
+
+    /// The form that its source has not.
+    fn other(&self) -> Form {
+        match self.form {
+            Form::One => Form::Two,
+            Form::Two => Form::One,
+        }
     }
 }
 
 /// The cases known by hand, refused ones among them, for a check alone.
 fn known() -> Vec<Input> {
-    let unread = |case| Input { case, memory: [0; CELLS], words: vec![] };
+    let unread = |case| Input { case, form: Form::One, memory: [0; CELLS], words: vec![] };
     cases::all().into_iter().map(|known| unread(known.case)).collect()
 }
 
 fn typical(events: usize) -> Vec<Input> {
     let case = |seed| generate::lawful_case(&mut Random::new(seed), events);
     (1..=CASES).map(|seed| Input::new(case(seed))).collect()
+}
+
+/// The same in form 2, with zero lines and code lines of 0.
+fn typical_coded(events: usize) -> Vec<Input> {
+    let coded = |Case { source, target, matching, rooms }| {
+        let [source, target] = [source, target].map(|text: Vec<u8>| texts::with_codes(&text, || 0));
+        Input::new(Case { source, target, matching, rooms })
+    };
+    typical(events).into_iter().map(|input| coded(input.case)).collect()
 }
 
 /// The longest lawful texts of so many events, all kept.
@@ -110,14 +128,14 @@ const READ_MATCHING: Work = Work {
 
 const WRITE: Work = Work {
     name: "writing a trace",
-    ours: |input, rooms| black_box(ours::write_trace(Form::One, &input.memory, black_box(&input.words), &mut rooms.bytes)).number,
-    peer: |input, rooms| black_box(peer::write_trace(Form::One, &input.memory, black_box(&input.words), &mut rooms.bytes)).number,
+    ours: |input, rooms| black_box(ours::write_trace(input.form, &input.memory, black_box(&input.words), &mut rooms.bytes)).number,
+    peer: |input, rooms| black_box(peer::write_trace(input.form, &input.memory, black_box(&input.words), &mut rooms.bytes)).number,
 };
 
 const MOVE: Work = Work {
-    name: "moving a trace to form 2",
-    ours: |input, rooms| black_box(ours::move_to(Form::Two, black_box(&input.case.source), &mut rooms.bytes)).number,
-    peer: |input, rooms| black_box(peer::move_to(Form::Two, black_box(&input.case.source), &mut rooms.bytes)).number,
+    name: "moving a trace to the other form",
+    ours: |input, rooms| black_box(ours::move_to(input.other(), black_box(&input.case.source), &mut rooms.bytes)).number,
+    peer: |input, rooms| black_box(peer::move_to(input.other(), black_box(&input.case.source), &mut rooms.bytes)).number,
 };
 
 const CHECK: Work = Work {
@@ -221,7 +239,7 @@ fn row(name: &str, texts: &str, cells: &[f64]) {
 }
 
 fn main() {
-    let inputs = [("typical", SIZES.map(typical)), ("longest", SIZES.map(longest))];
+    let inputs = [("typical", SIZES.map(typical)), ("typical, form 2", SIZES.map(typical_coded)), ("longest", SIZES.map(longest))];
     println!("| ours / Rust | texts | {} |", SIZES.map(|size| size.to_string()).join(" | "));
     println!("|---|---|{}", "---|".repeat(SIZES.len()));
     let mut growth = vec![];
