@@ -26,7 +26,7 @@ use Rattle.rules.proofs.Along.{values}
 use Rattle.rules.proofs.Outcome.{events-number}
 use Rattle.rules.proofs.Outcome.{same-memory as memory-kept}
 use Rattle.checker.specs.Demand.{sourceOf, targetOf, entriesFor, Admitted, AcceptedExactly, ValuesAlong, SameMemory}
-use Rattle.checker.specs.Check.{Lent, sourceRead, targetRead, readingAnswer, verdictOf, checkOf}
+use Rattle.checker.specs.Check.{Lent, sourceRead, targetRead, entriesRead, readingAnswer, verdictOf, checkOf}
 
 -- no fault 6: every event is right
 right-of : (side k : ℕ) (m : Memory) (b es : List Event) → eventFault side k m b es .number ≡ 0 → T (right m es)
@@ -45,9 +45,10 @@ module _ (side : ℕ) (t room : List ℕ) (z : readOf side t room .answer .numbe
   events : T (right (readOf side t room .memory) (eventsOf t))
   events = rw (read-passed side t room z) (right-of side 1 _ [] (eventsOf t) (text-whole side t survey .sound))
 
-pub read-all : (l : Lent) → readingAnswer l .number ≡ 0 → (sourceRead l .answer .number ≡ 0) × (targetRead l .answer .number ≡ 0)
+pub read-all : (l : Lent) → readingAnswer l .number ≡ 0
+    → (sourceRead l .answer .number ≡ 0) × (targetRead l .answer .number ≡ 0) × (entriesRead l .answer .number ≡ 0)
 unfolding readingAnswer
-read-all l h = let p = first-done _ _ h in (p .0, first-done _ _ (p .1) .0)
+read-all l h = let p = first-done _ _ h in let q = first-done _ _ (p .1) in (p .0, q .0, q .1)
 
 pub passes : (l : Lent) → Admitted l → Passed (sourceRead l .memory) (targetRead l .memory) (sourceOf l) (targetOf l) (entriesFor l)
 passes l a =

@@ -1,47 +1,121 @@
--- A run that has begun has the events of a source that was read, which are few. Assumes nothing.
+-- A check that accepts has read few events and few entries, which stand in the rooms: so a run begins, and its steps are counted. Assumes nothing.
 use mathlib.Core.Path.{_≡_, refl, sym, _∙_, ap}
-use mathlib.Core.Bool.{Bool, true, false, cond}
+use mathlib.Core.Bool.{true, false}
 use mathlib.Core.List.{List}
-use Prim.Native.Nat.{ℕ, _≤_}
+use Prim.Native.Nat.{ℕ, _-_, _≤_}
 use native.Mathlib.Omega.{arith}
-use lib.Dec.{eqb}
-use borrow.Author.Tests.{eqb-true, eq-eqb, ne-eqb}
-use Rattle.trace.specs.Reading.{eventLimit, eventsOf, front as filledFront}
-use Rattle.checker.specs.Check.{Checks, Lent, checkOf, entriesRead, heldOf, readingAnswer, refused, sourceRead, targetRead, verdictOf}
+use lib.ListN.{length, take}
+use borrow.Author.Tests.{eq-eqb, ne-eqb}
+use Rattle.event.specs.Kind.{has}
+use Rattle.trace.specs.Reading.{eventLimit, eventsOf, readOf, surveyOf}
+use Rattle.trace.proofs.OneText.{text-whole}
+use Rattle.trace.proofs.Readings.{counts, read-passed}
+use Rattle.rules.proofs.Entries.{entries}
+use Rattle.checker.specs.Check.{Checks, Lent, checkOf, entriesRead, entryRoomAfter}
+use Rattle.checker.specs.Demand.{Admitted, entriesFor, premise, sourceOf, targetOf}
 use Rattle.checker.specs.declared.Checked.{Checked}
+use Rattle.checker.proofs.Admitted.{admitted-exactly}
 use Rattle.checker.proofs.Demand3.{read-all}
-use Rattle.checker.proofs.Filled.{filled}
+use Rattle.checker.proofs.Filled.{Entered, entered}
+use Rattle.steps.specs.Cost.{cost}
 use Rattle.steps.specs.Play.{Starts, front}
 use Rattle.steps.specs.Tags.{counted}
 
-few-read : (l : Lent) → readingAnswer l .number ≡ 0 → sourceRead l .events ≤ eventLimit
-few-read l h = filled 1 (l .source) (l .sourceRoom) (read-all l h .0) (sourceRead l) refl (filledFront (eventsOf (l .source)) (l .sourceRoom)) refl .few
+-- ---- what was read
 
-pub few-events : (l : Lent) → checkOf l .source .events ≤ eventLimit
-unfolding checkOf
-few-events l = go (eqb (readingAnswer l .number) 0) refl
-  where
-    go : (c : Bool) → eqb (readingAnswer l .number) 0 ≡ c
-        → cond c (record { answer = verdictOf l; source = heldOf (sourceRead l); target = heldOf (targetRead l); entries = entriesRead l .entries })
-        (refused (readingAnswer l)) .source .events ≤ eventLimit
-    go true e = few-read l (eqb-true (readingAnswer l .number) 0 e)
-    go false e = omega arith
+module _ (side : ℕ) (t room : List ℕ) (z : readOf side t room .answer .number ≡ 0) where
+  survey : surveyOf side t .answer .number ≡ 0
+  survey = rw (read-passed side t room z) at z
 
--- what is handed back of an accepted and of a refused matching
-module _ (l : Lent) (c : Checked) (tags : List ℕ) {sr tr er : List ℕ} (h : Checks l c sr tr er) where
-  pub accepts : {after : List ℕ} → c .answer .number ≡ 0 → after ≡ front (counted 0 (c .source .events)) tags
-      → Starts l tags (record { checked = c; run = record { begun = true; standing = c .source .events } }) sr tr er after
-  accepts z f =
-      let e = eq-eqb (checkOf l .answer .number) 0 (ap (λ (x : Checked). x .answer .number) (sym (h .result)) ∙ z) in
+  few-events : length (eventsOf t) ≤ eventLimit
+  few-events = text-whole side t survey .fits .few
+
+  events-many : readOf side t room .events ≡ length (eventsOf t)
+  events-many = rw (read-passed side t room z) (counts side t survey)
+
+-- ---- an accepted matching
+
+module _ (l : Lent) (z : checkOf l .answer .number ≡ 0) where
+  pub admitted : Admitted l
+  admitted = admitted-exactly l .1 (ap (λ n. has n premise) z)
+
+  pub source-few : length (sourceOf l) ≤ eventLimit
+  source-few = few-events 1 (l .source) (l .sourceRoom) (read-all l (admitted .reading) .0)
+
+  pub target-few : length (targetOf l) ≤ eventLimit
+  target-few = few-events 2 (l .target) (l .targetRoom) (read-all l (admitted .reading) .1)
+
+  pub standing : checkOf l .source .events ≡ length (sourceOf l)
+  unfolding checkOf
+  standing = rw (admitted .reading) (events-many 1 (l .source) (l .sourceRoom) (read-all l (admitted .reading) .0))
+
+  pub aimed : checkOf l .target .events ≡ length (targetOf l)
+  unfolding checkOf
+  aimed = rw (admitted .reading) (events-many 2 (l .target) (l .targetRoom) (read-all l (admitted .reading) .1))
+
+  pub entries-few : length (entriesFor l) ≤ eventLimit
+  entries-few =
+      let e = entries (length (targetOf l)) (sourceOf l) (entriesFor l) (admitted .count) (admitted .entries) .many in
+      let f = source-few in
+      omega arith
+
+  held : Entered (l .matching) (entriesRead l) (entryRoomAfter l)
+  unfolding entryRoomAfter
+  held = entered (l .matching) (l .entryRoom) (read-all l (admitted .reading) .2) (entriesRead l) refl _ (rw (admitted .reading))
+
+  entries-counted : checkOf l .entries ≡ entriesRead l .entries
+  unfolding checkOf
+  entries-counted = rw (admitted .reading)
+
+  pub entries-inside : checkOf l .entries ≤ length (entryRoomAfter l)
+  entries-inside = rw entries-counted (held .inside)
+
+  pub entries-there : take (checkOf l .entries) (entryRoomAfter l) ≡ entriesFor l
+  entries-there = rw entries-counted (held .front)
+
+-- ---- what a check handed back and left
+
+-- the entries of a room, as a part from its start
+abbrev pub entriesIn : Checked → List ℕ → List ℕ
+entriesIn c er = take (c .entries - 0) er
+
+module _ (l : Lent) (c : Checked) {sr tr er : List ℕ} (h : Checks l c sr tr er) (z : c .answer .number ≡ 0) where
+  answered : checkOf l .answer .number ≡ 0
+  answered = ap (λ (x : Checked). x .answer .number) (sym (h .result)) ∙ z
+
+  pub source-fits : c .source .events ≤ eventLimit
+  source-fits = rw (h .result, standing l answered) (source-few l answered)
+
+  pub target-fits : c .target .events ≤ eventLimit
+  target-fits = rw (h .result, aimed l answered) (target-few l answered)
+
+  pub entries-fit : c .entries ≤ length er
+  entries-fit = rw (h .result, h .entries) (entries-inside l answered)
+
+  entries-are : entriesIn c er ≡ entriesFor l
+  entries-are =
+      let e : c .entries - 0 ≡ c .entries = omega arith in
+      ap (λ n. take n er) e ∙ rw (h .result, h .entries) (entries-there l answered)
+
+  pub entries-fewer : length (entriesIn c er) ≤ eventLimit
+  entries-fewer = rw entries-are (entries-few l answered)
+
+  pub accepts : (tags : List ℕ) {after : List ℕ} (n : ℕ) → after ≡ front (counted 0 (c .source .events)) tags → n ≡ cost (c .target .events) (entriesIn c er)
+      → Starts l tags (record { checked = c; run = record { begun = true; standing = c .source .events }; cost = n }) sr tr er after
+  accepts tags n f q =
+      let e = eq-eqb (checkOf l .answer .number) 0 answered in
+      let aim : c .target .events ≡ length (targetOf l) = ap (λ (x : Checked). x .target .events) (h .result) ∙ aimed l answered in
+      let k : n ≡ cost (length (targetOf l)) (entriesFor l) = q ∙ (ap (cost (c .target .events)) entries-are ∙ ap (λ j. cost j (entriesFor l)) aim) in
       record {
-        result = rw (e, ← h .result);
+        result = rw (e, ← h .result, k);
         source = h .source;
         target = h .target;
         entries = h .entries;
         left = f ∙ rw (e, ← h .result);
       }
 
-  pub refuses : (c .answer .number ≡ 0 → ⊥) → Starts l tags (record { checked = c; run = record { begun = false; standing = 0 } }) sr tr er tags
-  refuses z =
-      let e = ne-eqb (checkOf l .answer .number) 0 (λ q. z (ap (λ (x : Checked). x .answer .number) (h .result) ∙ q)) in
-      record { result = rw (e, ← h .result); source = h .source; target = h .target; entries = h .entries; left = rw e }
+pub refuses : (l : Lent) (c : Checked) (tags : List ℕ) {sr tr er : List ℕ} → Checks l c sr tr er → (c .answer .number ≡ 0 → ⊥)
+    → Starts l tags (record { checked = c; run = record { begun = false; standing = 0 }; cost = 0 }) sr tr er tags
+refuses l c tags h z =
+    let e = ne-eqb (checkOf l .answer .number) 0 (λ q. z (ap (λ (x : Checked). x .answer .number) (h .result) ∙ q)) in
+    record { result = rw (e, ← h .result); source = h .source; target = h .target; entries = h .entries; left = rw e }

@@ -8,6 +8,7 @@ use Rattle.event.specs.Kind.{row, made, used, unused}
 use Rattle.event.specs.declared.Event.{Event}
 use Rattle.rules.specs.View.{view}
 use Rattle.rules.specs.Run.{Traced, number}
+use Rattle.steps.specs.Cost.{cost}
 use Rattle.steps.specs.Step.{nextStep, applied}
 use Rattle.steps.specs.declared.Step.{Step}
 use Rattle.steps.specs.declared.Step.the-variants.{Remove, Swap, Insert, Done, Stuck}
@@ -72,3 +73,13 @@ entries = 4 ∷ 0 ∷ 3 ∷ 0 ∷ 1 ∷ []
 mixed : steps before after entries ≡ Remove 4 4 ∷ Remove 2 2 ∷ Swap 1 ∷ Swap 2 ∷ Swap 1 ∷ Insert 2 ∷ Insert 5 ∷ Done ∷ []
 unfolding row
 mixed = refl
+
+-- as many, and none for a matching that keeps all in order; a gone event between two that change places is in no pair
+costs : cost (length after) entries ≡ 7
+costs = refl
+
+kept-all : cost 3 (1 ∷ 2 ∷ 3 ∷ []) ≡ 0
+kept-all = refl
+
+gone-between : cost 2 (2 ∷ 0 ∷ 1 ∷ []) ≡ 2
+gone-between = refl

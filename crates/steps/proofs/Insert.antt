@@ -21,6 +21,7 @@ use Rattle.rules.proofs.Truth.{T-true}
 use Rattle.steps.specs.Allowed.{mayInsert}
 use Rattle.steps.specs.Step.{leaves, targetNumber, against, missing, inserted, nextStep, applied, under, at, Replays, ended, stepped}
 use Rattle.steps.specs.declared.Step.the-variants.{Insert}
+use Rattle.steps.proofs.Counts.{below, inverted, total}
 use Rattle.steps.proofs.May.{if-insertable}
 use Rattle.steps.proofs.Tags.{Numbers, Stands, none-gone, numbers, stand, ended-at}
 
@@ -71,6 +72,23 @@ module _ (ns : List ℕ) where
   calm-rises m (x ∷ []) h = refl
   calm-rises m (x ∷ y ∷ u) h =
       rw (no-fall (number x) (number y) (leaves ns (tagOf y)) (h .1 .0), calm-rises (number x) (y ∷ u) (h .1))
+
+  -- and no pair is
+  no-below : (x : Traced) (m : ℕ) (u : List Traced) → number x ≤ m → Rises m u → total (below ns x) u ≡ 0
+  no-below x m [] l r = refl
+  no-below x m (y ∷ u) l r =
+      let k = r .0 in
+      let i : below ns x y ≡ 0 = rw (no-fall (number x) (number y) (leaves ns (tagOf y)) (omega arith)) in
+      let j = no-below x (number y) u (omega arith) (r .1) in
+      omega arith
+
+  pub inverted-rises : (m : ℕ) (u : List Traced) → Rises m u → inverted ns u ≡ 0
+  inverted-rises m [] r = refl
+  inverted-rises m (x ∷ u) r = let i = no-below x (number x) u (omega arith) (r .1) in let j = inverted-rises (number x) u (r .1) in omega arith
+
+  pub rises-numbers : (j k : ℕ) (u : List Traced) → Numbers ns k u → suc j ≡ k → Rises j u
+  rises-numbers j k [] h e = tt
+  rises-numbers j k (x ∷ u) h e = let i = h .0 in (omega arith, rises-numbers _ (suc k) u (h .1) (omega arith))
 
   rises-onto : (j : ℕ) (b u : List Traced) → Below j b → Rises j u → Rises 0 (onto b u)
   rises-onto j [] u h r = rw h at r

@@ -4,12 +4,15 @@
 pub mod May
 pub mod Tags
 pub mod Allow
--- the fixed order is the next steps, within a bound
+-- the fixed order is the next steps, as many as the matching costs
 pub mod Counts
 pub mod Remove
 pub mod Sort
 pub mod Insert
 pub mod Printed
+-- and no run has fewer
+pub mod Weigh
+pub mod Least
 -- the next step in the request's words
 pub mod Words
 pub mod Rising
@@ -24,6 +27,7 @@ pub mod Changes
 pub mod Kept
 pub mod Resume
 pub mod Plays
+pub mod Tally
 pub mod Begun
 pub mod Texts
 pub mod Unique

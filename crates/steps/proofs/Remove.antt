@@ -1,9 +1,9 @@
 -- The removals of the fixed order are the next steps: behind the last gone event that may be removed none is found. Assumes nothing.
-use mathlib.Core.Path.{_≡_, refl, ap}
-use mathlib.Core.Bool.{false, _&&_}
+use mathlib.Core.Path.{_≡_, refl, _∙_, ap}
+use mathlib.Core.Bool.{true, false, _&&_}
 use mathlib.Core.Option.{none, some}
 use mathlib.Core.List.{List, [], _∷_}
-use Prim.Native.Nat.{ℕ, zero, suc, _+_, _≤_}
+use Prim.Native.Nat.{ℕ, zero, suc, _+_}
 use native.Mathlib.Omega.{arith}
 use lib.Dec.{T, eqb-refl}
 use lib.ListN.{length}
@@ -15,6 +15,7 @@ use Rattle.rules.proofs.Traced.{Leaves}
 use Rattle.rules.proofs.Truth.{or-left, or-right, T-true}
 use Rattle.steps.specs.Allowed.{mayRemove}
 use Rattle.steps.specs.Step.{isSource, sourceNumber, leaves, anyGone, removal, removed, numberAt, nextStep, applied, under, at, Replays, stepped}
+use Rattle.steps.proofs.Counts.{below, below-gone, gone-below, inverted, lost, total}
 use Rattle.steps.proofs.May.{if-removable, not-both, both}
 use Rattle.steps.proofs.Tags.{if-leaves}
 
@@ -63,17 +64,34 @@ module _ (view : Event → View) (s t : List Event) (ns : List ℕ) where
   removing₁ : {u v : List Traced} → Found [] u v → applied view t (nextStep view ns (length t) u) u ≡ some v
   removing₁ {u = u} r = rw (T-true (anyGone ns u) (r .some-gone), r .found) (r .after)
 
+  -- each takes one gone event away, and no pair with it
   shorter : {b u v : List Traced} → Last (changes view) (Leaves view s t ns) b u v → length u ≡ suc (length v)
   shorter (out h g m) = refl
   shorter (further q) = ap suc (shorter q)
 
-  -- each takes one event away
+  is-gone : (x : Traced) → Leaves view s t ns x → leaves ns (tagOf x) ≡ true
+  is-gone x g = T-true (leaves ns (tagOf x)) (if-leaves view s t ns x .1 g)
+
+  lost-last : {b u v : List Traced} → Last (changes view) (Leaves view s t ns) b u v → total (lost ns) u ≡ suc (total (lost ns) v)
+  lost-last (out {e = x} h g m) = let i : lost ns x ≡ 1 = rw (is-gone x g) in omega arith
+  lost-last (further q) = let i = lost-last q in omega arith
+
+  below-last : (y : Traced) {b u v : List Traced} → Last (changes view) (Leaves view s t ns) b u v → total (below ns y) u ≡ total (below ns y) v
+  below-last y (out {e = x} h g m) = let i = below-gone ns y x (is-gone x g) in omega arith
+  below-last y (further q) = let i = below-last y q in omega arith
+
+  inverted-last : {b u v : List Traced} → Last (changes view) (Leaves view s t ns) b u v → inverted ns u ≡ inverted ns v
+  inverted-last (out {a = a} {e = x} h g m) = let i = gone-below ns x (is-gone x g) a in omega arith
+  inverted-last (further {e = x} q) = let i = inverted-last q in let j = below-last x q in omega arith
+
+  -- as many steps as gone events
   pub removing : {u v : List Traced} → Lasts (changes view) (Leaves view s t ns) u v → (w : List Traced) (k : ℕ) → Replays view ns t k v w
-      → (j : ℕ) × Replays view ns t j u w × (j + length v ≡ k + length u) × (length v ≤ length u)
-  removing (end h) w k r = (k, r, refl, omega arith)
+      → (j : ℕ) × Replays view ns t j u w × (j + total (lost ns) v ≡ k + total (lost ns) u) × (j + length v ≡ k + length u) × (inverted ns u ≡ inverted ns v)
+  removing (end h) w k r = (k, r, refl, refl, refl)
   removing (more q q′) w k r =
       let i = removing q′ w k r in
       let a = shorter q in
-      let b = i .2 in
-      let c = i .3 in
-      (suc (i .0), stepped (removing₁ (find q)) (i .1), omega arith, omega arith)
+      let b = lost-last q in
+      let c = i .2 in
+      let d = i .3 in
+      (suc (i .0), stepped (removing₁ (find q)) (i .1), omega arith, omega arith, inverted-last q ∙ i .4)

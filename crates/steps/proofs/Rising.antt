@@ -19,6 +19,7 @@ use Rattle.rules.specs.Run.{new, Traced, traced, tagOf, number, viewed}
 use Rattle.rules.specs.Fault.{isGone}
 use Rattle.rules.proofs.Entries.{Once, from-start}
 use Rattle.steps.specs.Allowed.{mayInsert, maySwap}
+use Rattle.steps.specs.Cost.{bit, isKept, many}
 use Rattle.steps.specs.Step.{leaves, targetNumber, overtakes, anyGone, against, hereOrLater}
 use Rattle.steps.specs.Step.{missing, removal, removeStep, swapStep, nextStep, swapped, inserted}
 use Rattle.steps.specs.Step.{applied, under, at, phase}
@@ -29,14 +30,17 @@ use Rattle.steps.proofs.Allow.{move-one, through, passed, phase-missing
 use Rattle.steps.proofs.Insert.{Rises}
 use Rattle.steps.proofs.May.{not-so}
 use Rattle.steps.proofs.Tags.{Stands}
-use Rattle.steps.proofs.Counts.{bit, total, less-one, begins}
+use Rattle.steps.proofs.Counts.{total, begins}
+use Rattle.steps.proofs.Weigh.{less-one}
 use Rattle.steps.proofs.Words.{Along, here, on, targets, least-missing}
 
 -- ---- a number comes once among the entries
 
+abbrev keptAt : ℕ → ℕ → Bool
+keptAt k j = isKept j && eqb j k
+
 abbrev times : ℕ → List ℕ → ℕ
-times k [] = 0
-times k (j ∷ ks) = bit (not (isGone j) && eqb j k) + times k ks
+times k ks = many (keptAt k) ks
 
 times-none : (k : ℕ) (ks : List ℕ) → has k ks ≡ false → times k ks ≡ 0
 times-none k [] h = refl
@@ -80,7 +84,7 @@ module _ (ns : List ℕ) where
 
   apart-begin : (s : List Event) → length ns ≡ length s → Once ns → Apart (number 1 s)
   apart-begin s l o k =
-      let a = begins ns (held k) (λ j. bit (not (isGone j) && eqb j k)) (times k) refl (λ j ks. refl) (λ i e. refl) 0 s ns l (from-start 0 ns) in
+      let a = begins ns (held k) (keptAt k) (λ i e. refl) 0 s ns l (from-start 0 ns) in
       let b = times-most k ns o in
       omega arith
 

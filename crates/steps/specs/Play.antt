@@ -12,7 +12,9 @@ use Rattle.trace.specs.Reading.{eventLimit}
 use Rattle.rules.specs.View.{view}
 use Rattle.rules.specs.Run.{Traced}
 use Rattle.checker.specs.Check.{Lent, checkOf, entryRoomAfter, sourceRoomAfter, targetRoomAfter}
+use Rattle.checker.specs.Demand.{entriesFor, targetOf}
 use Rattle.checker.specs.declared.Checked.{Checked}
+use Rattle.steps.specs.Cost.{cost}
 use Rattle.steps.specs.Step.{applied, nextStep, orderStep}
 use Rattle.steps.specs.Tags.{codes, counted, trace}
 use Rattle.steps.specs.declared.Step.{Step}
@@ -38,9 +40,13 @@ beginning c = record { begun = eqb (c .answer .number) 0; standing = cond (eqb (
 abbrev pub tagsBegun : Checked → List ℕ → List ℕ
 tagsBegun c tags = cond (eqb (c .answer .number) 0) (front (counted 0 (c .source .events)) tags) tags
 
+-- How many steps it will have: what the matching costs (request C-18), and none if it is not accepted.
+abbrev pub costOf : Lent → ℕ
+costOf l = cond (eqb (checkOf l .answer .number) 0) (cost (length (targetOf l)) (entriesFor l)) 0
+
 -- What a beginning hands back, and what it leaves in the rooms and in the array.
 pub record Starts (l : Lent) (tags : List ℕ) (r : Started) (sourceRoom targetRoom entryRoom after : List ℕ) : Type 0 where
-  pub result : r ≡ record { checked = checkOf l; run = beginning (checkOf l) }
+  pub result : r ≡ record { checked = checkOf l; run = beginning (checkOf l); cost = costOf l }
   pub source : sourceRoom ≡ sourceRoomAfter l
   pub target : targetRoom ≡ targetRoomAfter l
   pub entries : entryRoom ≡ entryRoomAfter l

@@ -1,8 +1,8 @@
--- Request C-12, what is promised of the steps: "that the replay is allowed at every step, never stalls and ends at the target, marks apart".
--- Assumes nothing.
+-- Requests C-12 and C-18, what is promised of the steps: "that the replay is allowed at every step, never stalls and ends at the target, marks
+-- apart", and "that C-12's run has that many steps and that no allowed run realising the same matching has fewer". Assumes nothing.
 use mathlib.Core.Path.{_≡_}
 use mathlib.Core.Bool.{true}
-use mathlib.Core.Logic.{_≢_}
+use mathlib.Core.Logic.{_↔_, _≢_}
 use mathlib.Core.Option.{none, some}
 use mathlib.Core.List.{List, []}
 use Prim.Native.Nat.{ℕ, zero, suc, _+_, _≤_}
@@ -21,7 +21,8 @@ use Rattle.rules.specs.Verdict.{verdict}
 use Rattle.rules.specs.Demand.{Passed}
 use Rattle.checker.specs.Check.{Lent, checkOf}
 use Rattle.checker.specs.Demand.{entriesFor, sourceOf, targetOf}
-use Rattle.steps.specs.Play.{Played, beginning, nextFrom, nextOf, outcome, play, stands, swapPlace, tagsBegun}
+use Rattle.steps.specs.Cost.{cost, stepsOf}
+use Rattle.steps.specs.Play.{Played, beginning, costOf, nextFrom, nextOf, outcome, play, stands, swapPlace, tagsBegun}
 use Rattle.steps.specs.Step.{Replays, applied, nextStep, phase}
 use Rattle.steps.specs.declared.Step.{Step}
 use Rattle.steps.specs.declared.Step.the-variants.{Done}
@@ -42,6 +43,19 @@ Printed =
     (m n : Memory) (s t : List Event) (ns : List ℕ) → Passed m n s t ns → length t ≤ eventLimit
     → verdict view (m .cells) (n .cells) s t ns ≡ done
     → (k : ℕ) × (u : List Traced) × Replays view ns t k (number 1 s) u × Ends ns 1 u t × (k ≤ bound s t)
+
+-- It has as many steps as the matching costs.
+abbrev pub AsMany : Type 0
+AsMany =
+    (m n : Memory) (s t : List Event) (ns : List ℕ) → Passed m n s t ns → length t ≤ eventLimit
+    → verdict view (m .cells) (n .cells) s t ns ≡ done
+    → (u : List Traced) × Replays view ns t (cost (length t) ns) (number 1 s) u × Ends ns 1 u t
+
+-- No run that realises a matching has fewer, whatever the order of its steps.
+abbrev pub NoFewer : Type 0
+NoFewer =
+    (m n : Memory) (s t : List Event) (ns : List ℕ) → Passed m n s t ns
+    → (u : List Traced) (r : Run (changes view) (number 1 s) u) → Ends ns 1 u t → cost (length t) ns ≤ stepsOf r
 
 -- A step that is applied is a move of its phase by the rules, whatever the matching says.
 abbrev pub Allowed : Type 0
@@ -80,6 +94,19 @@ PrintedTexts =
     × (replayOf l tags budget .steps ≤ bound (sourceOf l) (targetOf l))
     × Run (changes view) (number 1 (sourceOf l)) (lastOf l (replayOf l tags budget))
     × Ends (entriesFor l) 1 (lastOf l (replayOf l tags budget)) (targetOf l)
+
+-- It ends exactly with the budgets that are no less than the count that the beginning hands back, and then it has so many steps.
+abbrev pub AsManyTexts : Type 0
+AsManyTexts =
+    (l : Lent) (tags : List ℕ) → checkOf l .answer ≡ done → (budget : ℕ)
+    → ((replayOf l tags budget .ended ≡ true) ↔ (costOf l ≤ budget))
+    × (costOf l ≤ budget → replayOf l tags budget .steps ≡ costOf l)
+
+-- No run that realises the matching of three texts has fewer.
+abbrev pub NoFewerTexts : Type 0
+NoFewerTexts =
+    (l : Lent) → checkOf l .answer ≡ done → (u : List Traced) (r : Run (changes view) (number 1 (sourceOf l)) u)
+    → Ends (entriesFor l) 1 u (targetOf l) → costOf l ≤ stepsOf r
 
 -- A matching that is not accepted has no step: none is next, none is applied, and the array stays as it is.
 abbrev pub NoStep : Type 0

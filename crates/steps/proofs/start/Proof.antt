@@ -1,31 +1,43 @@
--- The check's answer says whether a run begins. Assumes nothing.
-use mathlib.Core.Path.{_≡_, sym, subst}
+-- The check's answer says whether a run begins; what it read says how many events and entries there are. Assumes nothing.
+use mathlib.Core.Path.{_≡_}
 use Prim.Native.Nat.{ℕ, _≤_}
 use native.Mathlib.Omega.{arith}
 use borrow.Author.Needs.{needs}
-use Rattle.checker.specs.Check.{Lent, checkOf}
-use Rattle.checker.specs.declared.Checked.{Checked}
-use Rattle.steps.proofs.Begun.{accepts, few-events, refuses}
+use Rattle.steps.proofs.Begun.{accepts, entries-fewer, entries-fit, refuses, source-fits, target-fits}
 use Rattle.steps.proofs.start.Statement.{statement}
 use Rattle.steps.proofs.start.Tie as tie
 
 -- the check
 abbrev checked : tie.After-struct-known → tie.After-check
-checked c = c .before .before .before .before .before .before .before .before .before
+checked c = c .before .before .before .before .before .before .before .before .before .before
 
-few : (l : Lent) (c : Checked) (n : ℕ) → c ≡ checkOf l → n ≡ 800 → c .source .events ≤ n
-few l c n e h = omega (arith, h, subst (λ (x : Checked). x .source .events ≤ 800) (sym e) (few-events l))
+-- the array has room
+within : (m n : ℕ) → m ≤ 800 → n ≡ 800 → m ≤ n
+within m n h e = omega (arith, h, e)
 
 fill-requires : tie.Need-fill-requires
 fill-requires c κs =
     let k = checked (c .before .before) .check in
-    few _ (k .result) _ (k .ensures .result) (search needs)
+    within _ _ (source-fits _ (k .result) (k .ensures) (c .before .if1 .taken)) (search needs)
+
+part-cost-of-end : tie.Need-part-cost-of-end
+part-cost-of-end c =
+    let d = c .before .before .before in
+    let k = checked (d .before) .check in
+    entries-fit _ (k .result) (k .ensures) (d .if1 .taken)
+
+cost-of-requires : tie.Need-cost-of-requires
+cost-of-requires c κs =
+    let d = c .before .before .before .before in
+    let k = checked (d .before) .check in
+    (entries-fewer _ (k .result) (k .ensures) (d .if1 .taken), target-fits _ (k .result) (k .ensures) (d .if1 .taken))
 
 returns : tie.Need-returns
 returns c =
-    let d = c .before .before in
+    let f = c .before .before .before in
+    let d = f .before .before in
     let k = checked (d .before) .check in
-    accepts _ (k .result) _ (k .ensures) (d .if1 .taken) (c .fill .ensures)
+    accepts _ (k .result) (k .ensures) (d .if1 .taken) _ (c .cost-of .result) (f .fill .ensures) (c .cost-of .ensures)
 
 returns-2 : tie.Need-returns-2
 returns-2 c =
@@ -35,4 +47,5 @@ returns-2 c =
 pub start-spec : {M : Type 1} → statement M
 start-spec =
     tie.close
-    (tie.spec (search needs) fill-requires (search needs) (search needs) (search needs) returns (search needs) (search needs) (search needs) returns-2)
+    (tie.spec (search needs) fill-requires (search needs) (search needs) part-cost-of-end cost-of-requires (search needs) (search needs) (search needs) returns
+    (search needs) (search needs) (search needs) returns-2)
