@@ -86,19 +86,20 @@ static int same_entries(const struct text *text, const laprunto_entry *entries, 
            memcmp(again, entries, count * sizeof(laprunto_entry)) == 0;
 }
 
-/* Whether the run of an accepted matching goes to its end, and a refused one has no step. */
+/* Whether the run of an accepted matching goes to its end in as many steps as were counted, and a refused one has none. */
 static int runs(const struct text texts[3], int accepted) {
     static laprunto_word source[LAPRUNTO_TRACE_WORDS], target[LAPRUNTO_TRACE_WORDS];
     static laprunto_entry entries[LAPRUNTO_ENTRY_WORDS];
     static size_t tags[LAPRUNTO_TAGS];
-    size_t run[LAPRUNTO_RUN], step[LAPRUNTO_STEP], result[LAPRUNTO_CHECKED], steps = 0, swapped = 0;
+    size_t run[LAPRUNTO_RUN], step[LAPRUNTO_STEP], result[LAPRUNTO_STARTED], steps = 0, swapped = 0;
     laprunto_start(texts[0].bytes, texts[0].size, texts[1].bytes, texts[1].size, texts[2].bytes, texts[2].size, source,
                    LAPRUNTO_TRACE_WORDS, target, LAPRUNTO_TRACE_WORDS, entries, LAPRUNTO_ENTRY_WORDS, tags, run, result);
     size_t source_words = result[LAPRUNTO_SOURCE_EVENTS] * 6, target_words = result[LAPRUNTO_TARGET_EVENTS] * 6;
     for (;;) {
         laprunto_next(run, tags, source, source_words, target, target_words, entries, result[LAPRUNTO_ENTRIES], swapped, step);
         if (step[LAPRUNTO_KIND] == LAPRUNTO_DONE) {
-            return accepted ? run[LAPRUNTO_STANDING] == result[LAPRUNTO_TARGET_EVENTS] : steps == 0;
+            int ended = accepted ? run[LAPRUNTO_STANDING] == result[LAPRUNTO_TARGET_EVENTS] : steps == 0;
+            return ended && steps == result[LAPRUNTO_COST];
         }
         if (!laprunto_apply(run, tags, source, source_words, target, target_words, step[LAPRUNTO_KIND], step[LAPRUNTO_STEP_PLACE],
                             step[LAPRUNTO_STEP_NUMBER])) {

@@ -154,11 +154,11 @@ fn moves_back(text: &[u8]) -> bool {
     }
 }
 
-/// Whether the run of an accepted matching goes to its end, and a refused one has no step.
+/// Whether the run of an accepted matching goes to its end in as many steps as were counted, and a refused one has none.
 fn runs(source: &[u8], target: &[u8], matching: &[u8], accepted: bool) -> bool {
     let [mut source_room, mut target_room] = [(); 2].map(|()| vec![0; EVENTS * WORDS]);
     let mut entry_room = vec![0; EVENTS];
-    let (mut tags, mut run, mut result) = ([0; EVENTS], [0; 2], [0; 6]);
+    let (mut tags, mut run, mut result) = ([0; EVENTS], [0; 2], [0; 7]);
     unsafe {
         laprunto_start(
             source.as_ptr(), source.len(), target.as_ptr(), target.len(), matching.as_ptr(), matching.len(),
@@ -166,7 +166,7 @@ fn runs(source: &[u8], target: &[u8], matching: &[u8], accepted: bool) -> bool {
             entry_room.as_mut_ptr(), entry_room.len(), &mut tags, &mut run, &mut result,
         );
     }
-    let [_, _, _, source_events, target_events, entries] = result;
+    let [_, _, _, source_events, target_events, entries, cost] = result;
     let (source, target) = (&source_room[..source_events * WORDS], &target_room[..target_events * WORDS]);
     let (mut steps, mut swapped) = (0, 0);
     loop {
@@ -179,7 +179,7 @@ fn runs(source: &[u8], target: &[u8], matching: &[u8], accepted: bool) -> bool {
             laprunto_apply(&mut run, &mut tags, source.as_ptr(), source.len(), target.as_ptr(), target.len(), kind, place, number)
         };
         match step {
-            [0, ..] => return allowed == 0 && if accepted { run[1] == target_events } else { steps == 0 },
+            [0, ..] => return allowed == 0 && steps == cost && if accepted { run[1] == target_events } else { steps == 0 },
             [kind, place, _] if allowed == 1 => swapped = if kind == 2 { place } else { 0 },
             _ => return false,
         }

@@ -52,10 +52,12 @@ enum {
     LAPRUNTO_SOURCE_EVENTS = 3, /* of a check */
     LAPRUNTO_TARGET_EVENTS = 4,
     LAPRUNTO_ENTRIES = 5,
+    LAPRUNTO_COST = 6, /* of a beginning: how many steps the run has to its end */
 
-    LAPRUNTO_ANSWER = 3, /* the size_t of a writer's or a move's result, */
-    LAPRUNTO_READ = 4,   /* of a reading's, */
-    LAPRUNTO_CHECKED = 6 /* and of a check's */
+    LAPRUNTO_ANSWER = 3,  /* the size_t of a writer's or a move's result, */
+    LAPRUNTO_READ = 4,    /* of a reading's, */
+    LAPRUNTO_CHECKED = 6, /* of a check's */
+    LAPRUNTO_STARTED = 7  /* and of a beginning's, which is a check's and one more */
 };
 
 /* Where what stands in a run and in a step, and the kinds of a step. */
@@ -113,13 +115,13 @@ void laprunto_check(const uint8_t *source, size_t source_bytes, const uint8_t *t
 void laprunto_offending_line(const uint8_t *source, size_t source_bytes, const uint8_t *target, size_t target_bytes,
                              laprunto_number number, laprunto_number side, size_t place, size_t *from, size_t *to);
 
-/* A check and, if it accepts, the beginning of a run: else the run has not begun, and the tags are unchanged. Writes all of run and
- * result. */
+/* A check and, if it accepts, the beginning of a run, and how many steps the run has: no run that realises the matching has fewer. Else
+ * the run has not begun, the tags are unchanged, and there are 0 steps. Writes all of run and result. */
 void laprunto_start(const uint8_t *source, size_t source_bytes, const uint8_t *target, size_t target_bytes,
                     const uint8_t *matching, size_t matching_bytes, laprunto_word *source_room, size_t source_room_words,
                     laprunto_word *target_room, size_t target_room_words, laprunto_entry *entry_room,
                     size_t entry_room_entries, size_t tags[LAPRUNTO_TAGS], size_t run[LAPRUNTO_RUN],
-                    size_t result[LAPRUNTO_CHECKED]);
+                    size_t result[LAPRUNTO_STARTED]);
 
 /* The next step of a run, by the words of the events and the entries that the check stored (and no others). swapped is 0 or, to be
  * quicker, the place of the swap that was the step before. Writes all of step. */

@@ -30,7 +30,7 @@ extern "C" {
     pub fn laprunto_start(
         source: *const u8, source_bytes: usize, target: *const u8, target_bytes: usize, matching: *const u8, matching_bytes: usize,
         source_room: *mut Word, source_words: usize, target_room: *mut Word, target_words: usize, entry_room: *mut Entry, entries: usize,
-        tags: *mut [usize; 800], run: *mut [usize; 2], result: *mut [usize; 6],
+        tags: *mut [usize; 800], run: *mut [usize; 2], result: *mut [usize; 7],
     );
     pub fn laprunto_next(
         run: *const [usize; 2], tags: *const [usize; 800], source: *const Word, source_words: usize, target: *const Word, target_words: usize,

@@ -1,6 +1,6 @@
 -- What the functions over runs hand back, laid out as numbers. Assumes nothing.
 use Prim.Native.Nat.{ℕ}
-use mathlib.Core.List.{List, [], _∷_}
+use mathlib.Core.List.{List, [], _∷_, _++_}
 use mathlib.Core.Path.{_≡_, _∙_, ap}
 use Rattle.event.specs.declared.Event.{Event}
 use Rattle.checker.specs.Check.{Lent}
@@ -28,10 +28,10 @@ applied-laid s t r r′ A B st st′ a f g p e q h k = rw (← e, ← q) (record
 pub started-laid : (l : Lent) (tags : List ℕ) (r : Started) (sourceRoom targetRoom entryRoom after : List ℕ) (number side f : ℕ)
     → Starts l tags r sourceRoom targetRoom entryRoom after → number ≡ r .checked .answer .number → side ≡ r .checked .answer .side → f ≡ flag (r .run .begun)
     → Begins l tags
-    (number ∷ side ∷ r .checked .answer .place ∷ r .checked .source .events ∷ r .checked .target .events ∷ r .checked .entries ∷ [])
+    (number ∷ side ∷ r .checked .answer .place ∷ r .checked .source .events ∷ r .checked .target .events ∷ r .checked .entries ∷ r .cost ∷ [])
     (f ∷ r .run .standing ∷ []) sourceRoom targetRoom entryRoom after
 started-laid l tags r sourceRoom targetRoom entryRoom after number side f h n s e = record {
-  numbers = rw (n, s) (ap (λ (x : Started). checkNumbers (x .checked)) (h .result));
+  numbers = rw (n, s) (ap (λ (x : Started). checkNumbers (x .checked) ++ x .cost ∷ []) (h .result));
   begun = rw e (ap (λ (x : Started). runNumbers (x .run)) (h .result));
   sourceEvents = h .source;
   targetEvents = h .target;

@@ -1,13 +1,13 @@
--- Request C-12 for C and Rust: how a run and a step lie in the arrays that are lent. Assumes nothing.
+-- Requests C-12 and C-18 for C and Rust: how a beginning, a run and a step lie in the arrays that are lent. Assumes nothing.
 use Prim.Native.Nat.{ℕ}
 use mathlib.Core.Bool.{Bool, not, cond}
 use mathlib.Core.Option.{Option}
-use mathlib.Core.List.{List, [], _∷_}
+use mathlib.Core.List.{List, [], _∷_, _++_}
 use mathlib.Core.Path.{_≡_}
 use lib.Dec.{eqb}
 use Rattle.rules.specs.Run.{Traced}
 use Rattle.checker.specs.Check.{Lent, checkOf, sourceRoomAfter, targetRoomAfter, entryRoomAfter}
-use Rattle.steps.specs.Play.{appliedOf, beginning, tagsAfter, tagsBegun}
+use Rattle.steps.specs.Play.{appliedOf, beginning, costOf, tagsAfter, tagsBegun}
 use Rattle.steps.specs.declared.Run.{Run}
 use Rattle.steps.specs.declared.Step.{Step}
 use Rattle.steps.specs.declared.Step.the-variants.{Remove, Swap, Insert, Done, Stuck}
@@ -37,9 +37,13 @@ stepNumbered kind place number =
     cond (eqb kind 1) (Remove place number)
     (cond (eqb kind 2) (Swap place) (cond (eqb kind 3) (Insert place) (cond (eqb kind 4) Stuck Done)))
 
+-- A beginning: the check's numbers, then how many steps there are.
+abbrev pub startNumbers : Lent → List ℕ
+startNumbers l = checkNumbers (checkOf l) ++ costOf l ∷ []
+
 -- What a beginning leaves in the lent arrays and rooms.
 pub record Begins (l : Lent) (tags : List ℕ) (result run sourceRoom targetRoom entryRoom after : List ℕ) : Type 0 where
-  pub numbers : result ≡ checkNumbers (checkOf l)
+  pub numbers : result ≡ startNumbers l
   pub begun : run ≡ runNumbers (beginning (checkOf l))
   pub sourceEvents : sourceRoom ≡ sourceRoomAfter l
   pub targetEvents : targetRoom ≡ targetRoomAfter l

@@ -57,7 +57,7 @@ fn step_numbered(kind: usize, place: usize, number: usize) -> Step
     }
 }
 
-// A check, and the beginning of a run if it accepts: the check's numbers, the run's, the three rooms and the tags.
+// A check, and the beginning of a run if it accepts: the check's numbers and how many steps there are, the run's numbers, the three rooms and the tags.
 #[no_mangle]
 pub extern "C" fn laprunto_start(
     source: &[u8],
@@ -68,7 +68,7 @@ pub extern "C" fn laprunto_start(
     entry_room: &mut [Entry],
     tags: &mut [usize; 800],
     run: &mut [usize; 2],
-    result: &mut [usize; 6],
+    result: &mut [usize; 7],
 )
     ensures { λ _. ⌜ Begins
         (lent (now (source .entry)) (now (target .entry)) (now (matching .entry))
@@ -98,6 +98,7 @@ pub extern "C" fn laprunto_start(
         source_held.events,
         target_held.events,
         checked.entries,
+        started.cost,
     ];
 }
 
