@@ -1,4 +1,4 @@
-// One run followed: the texts checked, every step asked for and applied in turn, and each step's line compared with the vector's.
+// One run followed: the texts checked, the steps counted, every step asked for and applied in turn, and each line compared with the vector's.
 use super::tell::Ran;
 use super::tell::and_more;
 use super::tell::is_said;
@@ -13,6 +13,7 @@ use event::Word;
 use files::run::LINE;
 use files::run::entries_of;
 use files::run::events_of;
+use files::run::put_count;
 use files::run::put_step;
 use files::run::swap_place;
 use steps::Run;
@@ -29,9 +30,10 @@ struct Followed {
     whole: bool,
 }
 
-// What a vector gives.
+// What a vector gives: `counted` says that the text begins with the number of the steps, or that there are none where it is refused.
 struct Outcome {
     answer: Answer,
+    counted: bool,
     followed: Followed,
 }
 
@@ -45,18 +47,29 @@ fn is_done(step: Step) -> bool {
     }
 }
 
-// The place after a step's line, if the line stands at a place of the text; that place, if another does.
-fn after_line(lines: &[u8], at: usize, step: Step, source: &[Word], target: &[Word]) -> usize {
-    let mut line: [u8; LINE] = [0; LINE];
-    let size = put_step(&mut line, 0, step, source, target);
-    let end = forth(lines, at, size);
-    if same_bytes(between(&line, 0, size), between(lines, at, end)) {
+// The place after a line, if it stands at a place of the text; that place, if another does.
+fn after(lines: &[u8], at: usize, line: &[u8]) -> usize {
+    let end = forth(lines, at, line.len());
+    if same_bytes(line, between(lines, at, end)) {
         return end;
     }
     at
 }
 
-// The steps, as long as each is allowed and its line stands in the text; after the last line there is none.
+// The same of a step's line, and of the count's, which comes first.
+fn after_step(lines: &[u8], at: usize, step: Step, source: &[Word], target: &[Word]) -> usize {
+    let mut line: [u8; LINE] = [0; LINE];
+    let size = put_step(&mut line, 0, step, source, target);
+    after(lines, at, between(&line, 0, size))
+}
+
+fn after_count(lines: &[u8], steps: usize) -> usize {
+    let mut line: [u8; LINE] = [0; LINE];
+    let size = put_count(&mut line, 0, steps);
+    after(lines, 0, between(&line, 0, size))
+}
+
+// The steps, as long as each is allowed and its line stands in the text, from a place on; after the last line there is none.
 fn follow(
     begun: Run,
     tags: [usize; EVENT_LIMIT],
@@ -64,10 +77,11 @@ fn follow(
     target: &[Word],
     entries: &[Entry],
     lines: &[u8],
+    from: usize,
 ) -> Followed {
     let mut standing = tags;
     let mut run = begun;
-    let mut at: usize = 0;
+    let mut at = from;
     let mut swapped: usize = 0;
     let mut steps: usize = 0;
     while at < lines.len() {
@@ -79,8 +93,8 @@ fn follow(
                 whole: false,
             };
         }
-        let after = after_line(lines, at, step, source, target);
-        if after <= at {
+        let next_line = after_step(lines, at, step, source, target);
+        if next_line <= at {
             return Followed {
                 steps,
                 whole: false,
@@ -90,13 +104,21 @@ fn follow(
         run = changed;
         swapped = swap_place(step);
         steps = and_more(steps, 1);
-        at = after;
+        at = next_line;
     }
     let last = next(run, &standing, source, target, entries, swapped);
     Followed {
         steps,
         whole: is_done(last),
     }
+}
+
+// Whether the count stands where it has to: none is asked for where a matching is refused.
+fn is_counted(answer: Answer, steps: usize, from: usize) -> bool {
+    if answer.number == 0 {
+        return from != 0;
+    }
+    steps == 0
 }
 
 // A vector's texts checked in rooms that hold the most, and the run followed.
@@ -118,6 +140,7 @@ fn outcome_of(source: &[u8], target: &[u8], matching: &[u8], lines: &[u8]) -> Ou
     let answer = checked.answer;
     let source_held = checked.source;
     let target_held = checked.target;
+    let from = after_count(lines, started.cost);
     let followed = follow(
         started.run,
         tags,
@@ -125,13 +148,21 @@ fn outcome_of(source: &[u8], target: &[u8], matching: &[u8], lines: &[u8]) -> Ou
         events_of(&target_room, target_held.events),
         entries_of(&entry_room, checked.entries),
         lines,
+        from,
     );
-    Outcome { answer, followed }
+    Outcome {
+        answer,
+        counted: is_counted(answer, started.cost, from),
+        followed,
+    }
 }
 
 // Whether all that a run gives is what its vector says.
 fn is_right(header: &[u8], outcome: Outcome) -> bool {
     if !is_said(header, outcome.answer) {
+        return false;
+    }
+    if !outcome.counted {
         return false;
     }
     outcome.followed.whole
@@ -152,6 +183,7 @@ pub(crate) fn run_steps(data: &[u8], at: usize, ordinal: usize) -> Ran {
     let right = is_right(header, outcome);
     if !right {
         print_differing(ordinal, header, answer);
+        print_unless(outcome.counted, b"another number of steps\n");
         print_unless(followed.whole, b"another run\n");
     }
     Ran {

@@ -1,5 +1,5 @@
-// What the program `laprunto_run` does: three files checked, what is found printed, and of an accepted matching every step. The lines of the steps
-// are gathered and written in blocks.
+// What the program `laprunto_run` does: three files checked, what is found printed, and of an accepted matching how many steps there are and every
+// one of them. The lines of the steps are gathered and written in blocks.
 ghost use Prim.Native.Nat.{_≤_};
 ghost use lib.ListN.{length};
 use crate::print::print;
@@ -18,9 +18,6 @@ use steps::next;
 use steps::start;
 use trace::reading::EVENT_LIMIT;
 use trace::writing::write_event;
-
-// The most steps of a run: every source event removed, every pair of them swapped, every target event inserted.
-const MOST_STEPS: usize = 321200;
 
 // The most bytes of a step's line.
 pub const LINE: usize = 64;
@@ -65,6 +62,13 @@ fn put_event(out: &mut [u8], at: usize, room: &[Word], number: usize) -> usize {
     }
     let size = write_event(room, number - 1, &mut line);
     put(out, after, front(&line, size))
+}
+
+// The line of how many steps there are.
+pub fn put_count(out: &mut [u8], at: usize, steps: usize) -> usize {
+    let word = put(out, at, b"steps");
+    let after_steps = put_field(out, word, steps);
+    put(out, after_steps, b"\n")
 }
 
 // The line of a step.
@@ -113,9 +117,10 @@ pub fn swap_place(step: Step) -> usize {
     }
 }
 
-// Every step, as it is applied, until one is refused, as none is but the one after the last.
+// How many steps there are, and every step, as it is applied: none of so many is refused.
 fn print_steps(
     begun: Run,
+    steps: usize,
     tags: [usize; EVENT_LIMIT],
     source: &[Word],
     target: &[Word],
@@ -124,9 +129,9 @@ fn print_steps(
 ) {
     let mut standing = tags;
     let mut run = begun;
-    let mut at: usize = 0;
+    let mut at = put_count(out, 0, steps);
     let mut swapped: usize = 0;
-    let mut left = MOST_STEPS;
+    let mut left = steps;
     while 0 < left {
         left -= 1;
         let step = next(run, &standing, source, target, entries, swapped);
@@ -181,15 +186,18 @@ fn print_run<'a>(source: &'a [u8], target: &'a [u8], matching: &[u8]) {
     let target_held = checked.target;
     print_answer_line(b"accepted", answer);
     print_line(offending_line(source, target, answer));
-    let mut out = io::large_buffer();
-    print_steps(
-        started.run,
-        tags,
-        events_of(&source_room, source_held.events),
-        events_of(&target_room, target_held.events),
-        entries_of(&entry_room, checked.entries),
-        &mut out,
-    );
+    if answer.number == 0 {
+        let mut out = io::large_buffer();
+        print_steps(
+            started.run,
+            started.cost,
+            tags,
+            events_of(&source_room, source_held.events),
+            events_of(&target_room, target_held.events),
+            entries_of(&entry_room, checked.entries),
+            &mut out,
+        );
+    }
 }
 
 // The files of these names, read, checked and run.

@@ -1,4 +1,5 @@
-// The program: three file names, source, target and matching. It prints what `laprunto` prints and, of an accepted matching, a line for each step.
+// The program: three file names, source, target and matching. It prints what `laprunto` prints and, of an accepted matching, the number of its
+// steps and a line for each.
 use files::run::run_files;
 use libc::STDERR_FILENO;
 
