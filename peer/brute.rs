@@ -3,8 +3,10 @@
 //! For one source, every trace that a run can reach is searched: removals and
 //! swaps first, insertions and swaps after, each rule tested on the trace as
 //! it stands. A reached trace remembers, event by event, which source event it
-//! is. Then the checker must answer 0 for a target and a matching exactly when
-//! a run reaches that target with that matching, and 10 to 16 otherwise.
+//! is, and the fewest steps that lead to it. Then the checker must answer 0 for
+//! a target and a matching exactly when a run reaches that target with that
+//! matching, and 10 to 16 otherwise; and the shortest run must have as many steps
+//! as the matching costs.
 //!
 //! Three parts:
 //!   all      every source, target and matching of up to 3 events a side
@@ -17,11 +19,13 @@ mod peer;
 mod random;
 mod rules;
 #[allow(dead_code)]
+mod steps;
+#[allow(dead_code)]
 mod texts;
 
 use peer::{order, Event, Kind, Memory, Word, CELLS};
 use random::Random;
-use std::collections::{HashMap, HashSet};
+use std::collections::HashMap;
 
 /// Traces of this search have at most this many events: one byte each in a
 /// state of 64 bits.
@@ -64,18 +68,38 @@ fn event_of(code: u8, source: &[Event]) -> Event {
 
 // ------------------------------------------------------------------ the runs
 
-/// Closes a set of states under the steps that `next` lists.
-fn closure(start: HashSet<u64>, next: impl Fn(u64, &mut Vec<u64>)) -> HashSet<u64> {
-    let mut todo: Vec<u64> = start.iter().copied().collect();
-    let mut found = start;
-    let mut steps = vec![];
-    while let Some(state) = todo.pop() {
-        next(state, &mut steps);
-        for step in steps.drain(..) {
-            if found.insert(step) {
-                todo.push(step);
+/// States, each with the fewest steps that lead to it.
+type Reached = HashMap<u64, usize>;
+
+/// Closes states under the steps that `next` lists, those that are reached in
+/// the fewest first.
+fn closure(start: Reached, next: impl Fn(u64, &mut Vec<u64>)) -> Reached {
+    let mut levels: Vec<Vec<u64>> = vec![];
+    let mut found = Reached::new();
+    let mut reach = |levels: &mut Vec<Vec<u64>>, state: u64, steps: usize| {
+        let known = found.entry(state).or_insert(usize::MAX);
+        if steps < *known {
+            *known = steps;
+            levels.resize(levels.len().max(steps + 1), vec![]);
+            levels[steps].push(state);
+        }
+        *known
+    };
+    for (state, steps) in start {
+        reach(&mut levels, state, steps);
+    }
+    let mut steps = 0;
+    let mut after = vec![];
+    while steps < levels.len() {
+        for state in std::mem::take(&mut levels[steps]) {
+            if reach(&mut levels, state, steps) == steps {
+                next(state, &mut after);
+                for state in after.drain(..) {
+                    reach(&mut levels, state, steps + 1);
+                }
             }
         }
+        steps += 1;
     }
     found
 }
@@ -114,10 +138,10 @@ fn insertions(codes: &[u8], trace: &[Event], locations: &[u8], steps: &mut Vec<u
 
 /// Every trace of at most `limit` events that a run reaches, inserted ones
 /// counted, and some longer ones that only removals have touched.
-fn reached(source: &[Event], locations: &[u8], limit: usize) -> HashSet<u64> {
+fn reached(source: &[Event], locations: &[u8], limit: usize) -> Reached {
     let identity: Vec<u8> = (1..=source.len() as u8).collect();
     let decode = |codes: &[u8]| -> Vec<Event> { codes.iter().map(|&code| event_of(code, source)).collect() };
-    let removed = closure(HashSet::from([pack(&identity)]), |state, steps| {
+    let removed = closure(Reached::from([(pack(&identity), 0)]), |state, steps| {
         let codes = unpack(state);
         let trace = decode(&codes);
         removals(&codes, &trace, steps);
@@ -168,7 +192,7 @@ struct Bench<'a> {
     head: Vec<u8>,
     source: Vec<Event>,
     source_text: Vec<u8>,
-    reached: HashSet<u64>,
+    reached: Reached,
     /// Event lines by event, since the same few come again and again.
     lines: HashMap<[Word; 6], Vec<u8>>,
     target_text: Vec<u8>,
@@ -213,8 +237,8 @@ impl<'a> Bench<'a> {
         peer::check(texts.0, texts.1, texts.2, &mut room1, &mut room2, &mut room3).answer.number
     }
 
-    /// Whether a run reaches the target with the matching.
-    fn is_reached(&self, target: &[Event], entries: &[u16]) -> bool {
+    /// The steps of the shortest run that reaches the target with the matching.
+    fn shortest(&self, target: &[Event], entries: &[u16]) -> Option<usize> {
         let mut codes = [0; MAX_LEN];
         for (index, &entry) in entries.iter().enumerate().filter(|(_, &entry)| entry != 0) {
             let at = usize::from(entry) - 1;
@@ -223,30 +247,32 @@ impl<'a> Bench<'a> {
                 _ => event,
             };
             if unmarked(self.source[index]) != unmarked(target[at]) {
-                return false;
+                return None;
             }
             codes[at] = index as u8 + 1;
         }
         for (code, event) in codes.iter_mut().zip(target) {
             if *code == 0 {
                 if event.kind != Kind::Load {
-                    return false;
+                    return None;
                 }
                 *code = inserted_code(event.place, event.first);
             }
         }
-        self.reached.contains(&pack(&codes[..target.len()]))
+        self.reached.get(&pack(&codes[..target.len()])).copied()
     }
 
     /// Compares one case whose target is lawful.
     fn compare(&mut self, target: &[Event], entries: &[u16]) {
         let answer = self.answer(target, entries);
-        let reached = self.is_reached(target, entries);
-        let agree = if reached { answer == 0 } else { (10..=16).contains(&answer) };
+        let shortest = self.shortest(target, entries);
+        let cost = || steps::cost(&entries.iter().map(|&entry| usize::from(entry)).collect::<Vec<_>>(), target.len());
+        let agree = shortest.map_or_else(|| (10..=16).contains(&answer), |steps| answer == 0 && steps == cost());
         if !agree {
             self.tally.differences += 1;
             let source = String::from_utf8_lossy(&self.source_text);
-            println!("DIFFERENCE reached {reached} answer {answer}\n{source}{}{entries:?}", String::from_utf8_lossy(&self.target_text));
+            let target = String::from_utf8_lossy(&self.target_text);
+            println!("DIFFERENCE shortest {shortest:?} answer {answer} cost {}\n{source}{target}{entries:?}", cost());
         }
         self.tally.compared += 1;
         self.tally.answers[answer as usize] += 1;
@@ -423,7 +449,7 @@ fn equal_cases(limit: usize) -> Tally {
         let mut bench = Bench::new(&start, source.to_vec(), &TINY_LOCATIONS, limit);
         fill(&mut bench, &alphabet, limit, &mut vec![], &mut vec![0; source.len()], &start);
         // Everything that the runs reach has been met: nothing was skipped.
-        let within = bench.reached.iter().filter(|&&state| unpack(state).len() <= limit).count() as u64;
+        let within = bench.reached.keys().filter(|&&state| unpack(state).len() <= limit).count() as u64;
         assert_eq!(within, bench.tally.answers[0], "a reached trace was not among the cases");
         bench.tally
     })
@@ -498,7 +524,7 @@ fn random_bench(random: &mut Random, candidates: usize) -> Tally {
         source.push(event);
     }
     let mut bench = Bench::new(&start, source, &RANDOM_LOCATIONS, RANDOM_LIMIT);
-    let mut reached: Vec<u64> = bench.reached.iter().copied().collect();
+    let mut reached: Vec<u64> = bench.reached.keys().copied().collect();
     reached.sort_unstable();
     for _ in 0..candidates {
         let mut candidate: Candidate = unpack(random.pick(&reached))

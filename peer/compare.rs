@@ -5,7 +5,7 @@
 //! and damaged, of traces of either form, with rooms of every size, each filled
 //! with random words before. Both get the same texts and rooms; everything that
 //! comes back is compared: answers, counts, memories, every word of every room,
-//! the offending line; and the same for a reading alone, for writing in either
+//! the offending line, the beginning of a run and how many steps it has; and the same for a reading alone, for writing in either
 //! form, for reading back, and for moves between the forms. The first difference
 //! is printed whole, and ends the program with status 1.
 
@@ -23,6 +23,8 @@ mod ours;
 mod peer;
 mod random;
 mod rules;
+#[allow(dead_code)]
+mod steps;
 mod texts;
 #[allow(dead_code)]
 mod zeros;
@@ -103,6 +105,7 @@ fn lend(random: &mut Random, case: Case) -> Given {
 struct Tally {
     counts: BTreeMap<(&'static str, u32, u32), usize>,
     lines: usize,
+    steps: usize,
     read_back: usize,
     moved_back: usize,
 }
@@ -145,7 +148,32 @@ fn compare_check(given: &Given, tally: &mut Tally) -> Same {
         [true, true] => "check 2 2",
     };
     tally.add(who, ours.answer);
+    let stored = stored.map(|words| words / EVENT_WORDS);
+    let kept: Vec<usize> = peer_entries[..peer.entries].iter().map(|&entry| entry as usize).collect();
+    let accepted = peer.answer.number == 0;
+    let cost = if accepted { steps::cost(&kept, peer.target_events) } else { 0 };
+    let numbers = [peer.answer.number, peer.answer.side, peer.answer.place].map(|number| number as usize);
+    let numbers = [&numbers[..], &stored, &[peer.entries, cost]].concat();
+    compare_start(given, &numbers, accepted.then_some(peer.source_events), [&peer_rooms[0], &peer_rooms[1]], &peer_entries)?;
+    tally.steps += cost;
     compare_line(case, ours.answer, tally)
+}
+
+/// The beginning of a run: these numbers, the check's rooms, and the tags of the
+/// events that stand, if it has begun.
+fn compare_start(given: &Given, numbers: &[usize], standing: Option<usize>, rooms: [&[Word]; 2], entries: &[Entry]) -> Same {
+    let mut ours_rooms = given.rooms.clone();
+    let mut ours_entries = given.entries.clone();
+    let before: [usize; MAX_EVENTS] = std::array::from_fn(|at| at * 7 + 3);
+    let mut tags = before;
+    let (result, run) = ours::start_to(given.case.texts(), ours_rooms.each_mut().map(Vec::as_mut_slice), &mut ours_entries, &mut tags);
+    same("start: its numbers", &&result[..], &numbers)?;
+    same("start: the run", &run, &standing.map_or([0, 0], |events| [1, events]))?;
+    let stand = standing.unwrap_or(0);
+    same("start: the tags", &&tags[..stand], &&(0..stand).collect::<Vec<_>>()[..])?;
+    same("start: the other tags", &&tags[stand..], &&before[stand..])?;
+    same("start: the rooms", &ours_rooms.each_ref().map(Vec::as_slice), &rooms)?;
+    same("start: the entry room", &ours_entries.as_slice(), &entries)
 }
 
 /// The offending line, as the same part of the same text.
@@ -384,7 +412,7 @@ fn print_tally(tally: &Tally) {
     for ((who, number, side), count) in &tally.counts {
         println!("{who:9} answer {number:2} side {side}: {count:8}");
     }
-    println!("{} offending lines, {} texts read back, {} moved back", tally.lines, tally.read_back, tally.moved_back);
+    println!("{} offending lines, {} steps counted, {} texts read back, {} moved back", tally.lines, tally.steps, tally.read_back, tally.moved_back);
 }
 
 /// The moves and the writings that are known by hand.

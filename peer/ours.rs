@@ -1,7 +1,7 @@
 //! The proved library, linked in as `libexport.a` and called through its C
 //! functions, with the results of `peer.rs`.
 
-use crate::peer::{Answer, Checked, Entry, Form, MatchingRead, Memory, TraceRead, Word, CELLS};
+use crate::peer::{Answer, Checked, Entry, Form, MatchingRead, Memory, TraceRead, Word, CELLS, MAX_EVENTS};
 
 #[path = "../door/laprunto.rs"]
 mod door;
@@ -46,6 +46,33 @@ pub fn check_to(texts: [&[u8]; 3], rooms: [&mut [Word]; 2], entry_room: &mut [En
         );
     }
     result
+}
+
+/// The call itself: a check's numbers, then how many steps there are; and the run.
+pub fn start_to(texts: [&[u8]; 3], rooms: [&mut [Word]; 2], entry_room: &mut [Entry], tags: &mut [usize; MAX_EVENTS]) -> ([usize; 7], [usize; 2]) {
+    let [source, target, matching] = texts;
+    let [source_room, target_room] = rooms;
+    let (mut result, mut run) = ([STALE; 7], [STALE; 2]);
+    unsafe {
+        door::laprunto_start(
+            source.as_ptr(),
+            source.len(),
+            target.as_ptr(),
+            target.len(),
+            matching.as_ptr(),
+            matching.len(),
+            source_room.as_mut_ptr(),
+            source_room.len(),
+            target_room.as_mut_ptr(),
+            target_room.len(),
+            entry_room.as_mut_ptr(),
+            entry_room.len(),
+            tags,
+            &mut run,
+            &mut result,
+        );
+    }
+    (result, run)
 }
 
 /// What is not written by a call would be seen.

@@ -50,7 +50,7 @@ fn replayed(source: &[u8], target: &[u8], lines: &[u8]) -> Result<(), String> {
     let target = steps::events(&room, count);
     let number = |field: &str| field.parse::<usize>().map_err(|_| format!("no number: {field}"));
     let mut steps = Vec::new();
-    for line in String::from_utf8_lossy(lines).lines().skip(1) {
+    for line in String::from_utf8_lossy(lines).lines().skip(2) {
         let fields: Vec<&str> = line.split('\t').collect();
         steps.push(match fields[0] {
             "remove" => steps::Step::Remove { place: number(fields[1])?, number: number(fields[2])? },

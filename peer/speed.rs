@@ -1,7 +1,7 @@
 //! Our library beside the ordinary Rust implementation: the same inputs, in one
 //! run, turn by turn, each the best of several rounds, and the ratio of the two.
-//! Then how a check grows with its events, and how much stack it takes. Prints
-//! Markdown.
+//! Then how a check grows with its events, what the beginning of a run takes beside
+//! the check alone, and how much stack each takes. Prints Markdown.
 
 #[allow(dead_code)]
 mod cases;
@@ -39,13 +39,14 @@ struct Rooms {
     entries: Vec<Entry>,
     bytes: Vec<u8>,
     memories: [Memory; 2],
+    tags: [usize; MAX_EVENTS],
 }
 
 impl Rooms {
     fn new() -> Rooms {
         let events = vec![0; MAX_EVENTS * EVENT_WORDS];
         let memories = [[0; CELLS]; 2];
-        Rooms { source: events.clone(), target: events, entries: vec![0; MAX_EVENTS], bytes: vec![0; MAX_CODED_TEXT], memories }
+        Rooms { source: events.clone(), target: events, entries: vec![0; MAX_EVENTS], bytes: vec![0; MAX_CODED_TEXT], memories, tags: [0; MAX_EVENTS] }
     }
 }
 
@@ -102,6 +103,21 @@ fn longest(events: usize) -> Vec<Input> {
     vec![Input::new(case)]
 }
 
+/// 800 stores over all locations in turn, in the target by falling location: the
+/// run with the most steps.
+fn falling() -> Vec<Input> {
+    let mut order: Vec<usize> = (0..MAX_EVENTS).collect();
+    let stores = |order: &[usize]| {
+        let lines: String = order.iter().map(|event| format!("store {} 1;", event % CELLS)).collect();
+        cases::trace(&lines)
+    };
+    let source = stores(&order);
+    order.sort_by_key(|event| CELLS - event % CELLS);
+    let number = |event: usize| order.iter().position(|&other| other == event).expect("an event") + 1;
+    let keeps: String = (0..MAX_EVENTS).map(|event| format!("keep {};", number(event))).collect();
+    vec![Input::new(Case { source, target: stores(&order), matching: cases::matching(&keeps), rooms: [MAX_EVENTS; 3] })]
+}
+
 type Call = fn(&Input, &mut Rooms) -> u32;
 
 /// A thing that both can do; each call hands back the answer's number.
@@ -148,6 +164,16 @@ const CHECK: Work = Work {
         let [a, b, c] = input.case.texts().map(black_box);
         black_box(peer::check(a, b, c, &mut rooms.source, &mut rooms.target, &mut rooms.entries)).answer.number
     },
+};
+
+/// A run begun, which is a check and a count of the steps, beside our check alone.
+const START: Work = Work {
+    name: "beginning a run",
+    ours: |input, rooms| {
+        let lent: [&mut [Word]; 2] = [&mut rooms.source, &mut rooms.target];
+        black_box(ours::start_to(input.case.texts().map(black_box), lent, &mut rooms.entries, &mut rooms.tags)).0[0] as u32
+    },
+    peer: CHECK.ours,
 };
 
 /// The time of one call over all inputs, in nanoseconds, as so many turns take it.
@@ -254,6 +280,11 @@ fn main() {
     for (name, texts, cells) in growth {
         row(name, texts, &cells);
     }
+    println!("\n| a run begun over a check, ours | texts | 800 |\n|---|---|---|");
+    for (texts, inputs) in [("typical", typical(MAX_EVENTS)), ("longest", longest(MAX_EVENTS)), ("most steps", falling())] {
+        let [[start, check]] = best(&START, &[inputs])[..] else { unreachable!("one size") };
+        row(START.name, texts, &[start / check]);
+    }
     println!("\n| stack in bytes, 800 events | texts | ours | Rust |\n|---|---|---|---|");
     for work in [READ_TRACE, READ_MATCHING, WRITE, MOVE, CHECK] {
         for (texts, inputs) in &inputs {
@@ -263,4 +294,5 @@ fn main() {
     }
     let [ours, peer] = [CHECK.ours, CHECK.peer].map(|call| stack(call, &known()));
     println!("| {} | known by hand, refused ones too | {ours} | {peer} |", CHECK.name);
+    println!("| {} | most steps | {} | |", START.name, stack(START.ours, &falling()));
 }

@@ -14,10 +14,11 @@ pub enum Step {
     Insert { place: usize },
 }
 
-/// What a check of three texts gives: its answer, the events and the steps,
-/// which a refused matching has none of.
+/// What a check of three texts gives: its answer, the events, and the steps with
+/// their number, which a refused matching has none of.
 pub struct Run {
     pub answer: Answer,
+    pub cost: usize,
     pub source: Vec<Event>,
     pub target: Vec<Event>,
     pub steps: Vec<Step>,
@@ -34,13 +35,26 @@ pub fn run([source, target, matching]: [&[u8]; 3]) -> Result<Run, String> {
     let mut entry_room = vec![0; MAX_EVENTS];
     let checked = check(source, target, matching, &mut source_room, &mut target_room, &mut entry_room);
     if checked.answer.number != 0 {
-        return Ok(Run { answer: checked.answer, source: vec![], target: vec![], steps: vec![] });
+        return Ok(Run { answer: checked.answer, cost: 0, source: vec![], target: vec![], steps: vec![] });
     }
     let source = events(&source_room, checked.source_events);
     let target = events(&target_room, checked.target_events);
     let entries: Vec<usize> = entry_room[..checked.entries].iter().map(|&entry| entry as usize).collect();
+    let cost = cost(&entries, target.len());
     let steps = steps(&source, &target, &entries).ok_or("a gone event is stuck")?;
-    Ok(Run { answer: checked.answer, source, target, steps })
+    if steps.len() != cost {
+        return Err(format!("{} steps, but {cost} are counted", steps.len()));
+    }
+    Ok(Run { answer: checked.answer, cost, source, target, steps })
+}
+
+/// The gone events, the pairs of kept ones whose order is reversed, and the
+/// target events that no entry keeps.
+pub fn cost(entries: &[usize], targets: usize) -> usize {
+    let kept: Vec<usize> = entries.iter().copied().filter(|&number| number != 0).collect();
+    let reversed = |at: usize| kept[at + 1..].iter().filter(|&&later| later < kept[at]).count();
+    let inserted = (1..=targets).filter(|number| !kept.contains(number)).count();
+    entries.len() - kept.len() + (0..kept.len()).map(reversed).sum::<usize>() + inserted
 }
 
 /// The gone events, the highest first of those that may be removed now.
@@ -134,9 +148,13 @@ pub fn replay(source: &[Event], target: &[Event], steps: &[Step]) -> Result<(), 
     if ended { Ok(()) } else { Err(String::from("the run does not end at the target")) }
 }
 
-/// The lines that the program prints for the steps of a run.
-pub fn lines(Run { source, target, steps, .. }: &Run) -> String {
-    let mut text = String::new();
+/// The lines that the program prints for an accepted matching: how many steps
+/// there are, and the steps.
+pub fn lines(Run { answer, cost, source, target, steps }: &Run) -> String {
+    if answer.number != 0 {
+        return String::new();
+    }
+    let mut text = format!("steps\t{cost}\n");
     for &step in steps {
         let done = match step {
             Step::Remove { place, number } => write!(text, "remove\t{place}\t{number}\t{}", event_line(&source[number - 1])),

@@ -42,12 +42,13 @@
 //!
 //!   source length, target length, matching length (bytes),
 //!   source room, target room, entry room (words: 4,800, 4,800 and 800),
-//!   answer number, side, place, length of the lines of the steps (0 if refused),
+//!   answer number, side, place, length of the lines (0 if refused),
 //!   the name.
 //!
-//! The raw bytes are the source, the target, the matching and the lines of the
-//! steps, as `laprunto_run` prints them after the answer. The replay of
-//! `steps.rs`, which knows the rules alone, accepts each run.
+//! The raw bytes are the source, the target, the matching and the lines that
+//! `laprunto_run` prints after the answer: how many steps there are, and the
+//! steps. The replay of `steps.rs`, which knows the rules alone, accepts each
+//! run.
 //!
 //! The cases known by hand come first, then random ones until every answer has
 //! its share. Each answer to a check or a move of texts that document 01 reads
@@ -519,7 +520,7 @@ fn runs(random: &mut Random) -> File {
     let mut file = File::default();
     let requirement = cases::runs();
     let others = [cases::all().split_off(requirement.len()), forms::checks(), counters::checks(), zeros::checks()].concat();
-    let has_step = |known: &Known| known.answer == DONE && !run_vector(&known.case, 0).given.is_empty();
+    let has_step = |known: &Known| steps::run(known.case.texts()).expect("no gone event is stuck").cost != 0;
     let first = requirement.into_iter().chain(examples()).chain([backwards()]);
     for Known { name, case, answer } in first.chain(others.into_iter().filter(has_step)) {
         file.add_known(&name, &run_vector(&case, 0), answer);
