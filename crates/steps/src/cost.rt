@@ -31,6 +31,7 @@ fn reversed_with(number: Entry, later: &[Entry]) -> usize
     pairs
 }
 
+// Those of a matching to a target of so many events.
 pub(crate) fn cost_of(entries: &[Entry], targets: usize) -> usize
     requires { ⌜ length (now entries) ≤ 800 ⌝ }
     requires { ⌜ targets ≤ 800 ⌝ }
@@ -50,6 +51,7 @@ pub(crate) fn cost_of(entries: &[Entry], targets: usize) -> usize
         kept += 1;
         steps += reversed_with(number, &entries[i..count]);
     }
+    // No matching that is accepted keeps more.
     if targets < kept {
         return steps;
     }
