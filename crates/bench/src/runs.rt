@@ -15,12 +15,12 @@ use files::run::entries_of;
 use files::run::events_of;
 use files::run::put_count;
 use files::run::put_step;
-use files::run::swap_place;
 use steps::Run;
 use steps::Step;
 use steps::apply;
 use steps::next;
 use steps::start;
+use steps::swap_place;
 use text::word::same_bytes;
 use trace::reading::EVENT_LIMIT;
 

@@ -16,6 +16,7 @@ use steps::Step;
 use steps::apply;
 use steps::next;
 use steps::start;
+use steps::swap_place;
 use trace::reading::EVENT_LIMIT;
 use trace::writing::write_event;
 
@@ -104,17 +105,6 @@ fn with_room(out: &[u8], at: usize) -> usize {
     }
     print(front(out, at));
     0
-}
-
-// The place of a swap; 0 of another step.
-pub fn swap_place(step: Step) -> usize {
-    match step {
-        Step::Remove { place, number } => 0,
-        Step::Swap { place } => place,
-        Step::Insert { place } => 0,
-        Step::Done => 0,
-        Step::Stuck => 0,
-    }
 }
 
 // How many steps there are, and every step, as it is applied: none of so many is refused.

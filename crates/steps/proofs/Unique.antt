@@ -5,6 +5,7 @@ use Rattle.steps.proofs.next.Reads as next
 use Rattle.steps.proofs.apply.Reads as apply
 use Rattle.steps.proofs.replay.Reads as replay
 use Rattle.steps.proofs.start.Reads as start
+use Rattle.steps.proofs.swap_place.Reads as swap-place
 
 start-one : OneAnswer start.Post
 start-one κ a x y s t h k = h .result ∙ sym (k .result)
@@ -20,6 +21,9 @@ start-entries κ a x y s t h k = h .entries ∙ sym (k .entries)
 
 start-tags : OneOf start.Post (λ κ r s. s .1 .1 .1 .1 .1 .1 .0 .now)
 start-tags κ a x y s t h k = h .left ∙ sym (k .left)
+
+swap-place-one : OneAnswer swap-place.Post
+swap-place-one κ a x y s t h k = h ∙ sym k
 
 next-one : OneAnswer next.Post
 next-one κ a x y s t h k = h ∙ sym k
