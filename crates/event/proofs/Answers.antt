@@ -16,8 +16,8 @@ use Rattle.event.proofs.Has.{has-every}
 use Rattle.event.specs.Answer.{answer, done, first, answers, InTable, Where, nowhere, ordinal, location, amount}
 use Rattle.event.specs.declared.Answer.{Answer}
 
--- the table has the numbers 0 to 21
-all-rows : length answers ≡ 22
+-- the table has the numbers 0 to 22
+all-rows : length answers ≡ 23
 all-rows = refl
 
 -- the table has a number with a side and a place from 1 on

@@ -1,4 +1,4 @@
--- Document 01, "Numbers that come back", and document 02, C-11 and C-15: a number, a side and a place; and the table. Assumes nothing.
+-- Document 01, "Numbers that come back", and document 02, C-11, C-15 and C-16: a number, a side and a place; and the table. Assumes nothing.
 use Prim.Native.Nat.{ℕ}
 use mathlib.Core.Bool.{Bool, true, cond, _&&_}
 use mathlib.Core.List.{List, [], _∷_}
@@ -29,12 +29,16 @@ canBe ordinal p = leb 1 p
 canBe location p = leb p lastPlace
 canBe amount p = true
 
--- The table, by the answer's number: the sides that it comes with (0 none and the writer's, 1 source, 2 target, 3 matching), and what its place is.
+-- The sides that have a text: 1 the source, 2 the target, 3 the matching, 4 the list of registers.
+abbrev pub textSides : List ℕ
+textSides = 1 ∷ 2 ∷ 3 ∷ 4 ∷ []
+
+-- The table, by the answer's number: the sides that it comes with (0 none and the writer's, else that of a text), and what its place is.
 abbrev pub answers : List (List ℕ × Where)
 answers =
     (0 ∷ [], amount)  -- 0 done
-    ∷ (1 ∷ 2 ∷ 3 ∷ [], nowhere)  -- 1 text over its limit
-    ∷ (1 ∷ 2 ∷ 3 ∷ [], ordinal)  -- 2 line not of the layout
+    ∷ (textSides, nowhere)  -- 1 text over its limit
+    ∷ (textSides, ordinal)  -- 2 line not of the layout
     ∷ (0 ∷ 1 ∷ 2 ∷ 3 ∷ [], ordinal)  -- 3 801st event or entry
     ∷ (1 ∷ 2 ∷ [], ordinal)  -- 4 `init` after an event, or not ascending
     ∷ (0 ∷ 1 ∷ 2 ∷ [], ordinal)  -- 5 location used by plain and atomic events
@@ -54,6 +58,7 @@ answers =
     ∷ (0 ∷ 1 ∷ [], ordinal)  -- 19 code line would be lost
     ∷ (1 ∷ 2 ∷ [], ordinal)  -- 20 touched location without a line
     ∷ (1 ∷ 2 ∷ [], ordinal)  -- 21 zero line for an untouched location
+    ∷ (4 ∷ [], ordinal)  -- 22 register out of order, or the 33rd
     ∷ []
 
 -- An answer is a row of it.

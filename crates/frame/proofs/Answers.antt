@@ -8,7 +8,7 @@ use native.Mathlib.Omega.{arith}
 use lib.Dec.{ltb}
 use lib.ListN.{length}
 use Rattle.event.specs.Kind.{has}
-use Rattle.event.specs.Answer.{answer, done, InTable}
+use Rattle.event.specs.Answer.{answer, done, textSides, InTable}
 use Rattle.event.proofs.Answers.{Among, Given, none, one, among-cond, given-cond, given-fault, in-cond}
 use Rattle.text.specs.Cut.{isEmpty}
 use Rattle.text.specs.Line.{split}
@@ -29,7 +29,7 @@ unfolding headFault
 head-among side limit header t =
     among-cond _ (ltb limit (length t)) (one refl) (among-cond _ (headed header (split t)) none (one refl))
 
-pub head-in : (side limit : ℕ) (header t : List ℕ) → has side (1 ∷ 2 ∷ 3 ∷ []) ≡ true → InTable (headFault side limit header t)
+pub head-in : (side limit : ℕ) (header t : List ℕ) → has side textSides ≡ true → InTable (headFault side limit header t)
 unfolding headFault
 head-in side limit header t h =
     in-cond (ltb limit (length t)) (answer 1 side 0) _ (rw h) (in-cond (headed header (split t)) done (answer 2 side 1) refl (rw h))

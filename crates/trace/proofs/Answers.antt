@@ -12,7 +12,7 @@ use borrow.Author.Tests.{eq-eqb}
 use Rattle.laws.proofs.Cases.{by-cond, cases}
 use Rattle.laws.proofs.Lists.{every}
 use Rattle.event.specs.Kind.{has}
-use Rattle.event.specs.Answer.{answer, done, first, InTable}
+use Rattle.event.specs.Answer.{answer, done, first, textSides, InTable}
 use Rattle.event.specs.Memory.{stepped}
 use Rattle.event.specs.declared.Answer.{Answer}
 use Rattle.event.specs.declared.Event.{Event}
@@ -108,14 +108,14 @@ module _ (side : ℕ) (t room : List ℕ) where
       (λ n. one refl)
 
   -- every answer of a trace's reading is a row of the table, for a side that the table has there
-  refusal-in : has side (1 ∷ 2 ∷ 3 ∷ []) ≡ true → every (ranked side) lineFaults ≡ true → every (ranked side) coverFaults ≡ true
+  refusal-in : has side textSides ≡ true → every (ranked side) lineFaults ≡ true → every (ranked side) coverFaults ≡ true
       → every (ranked side) eventFaults ≡ true → InTable (first (first head lines) (first cover events))
   refusal-in s l c e =
       in-first (first head lines) (first cover events)
       (in-first head lines (head-in side (limitOf (formOf t)) (header (formOf t)) t s) (given-in _ side l lines-are))
       (in-first cover events (given-in _ side c cover-is) (given-in _ side e events-are))
 
-  known-in : has side (1 ∷ 2 ∷ 3 ∷ []) ≡ true → every (ranked side) lineFaults ≡ true → every (ranked side) coverFaults ≡ true
+  known-in : has side textSides ≡ true → every (ranked side) lineFaults ≡ true → every (ranked side) coverFaults ≡ true
       → every (ranked side) eventFaults ≡ true → ((n : ℕ) → InTable (answer 17 side n)) → InTable (readOf side t room .answer)
   known-in s l c e f = by-fault InTable refl (refusal-in s l c e) f
 
