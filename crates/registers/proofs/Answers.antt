@@ -1,0 +1,73 @@
+-- Which answers a list's reading gives, 1, 2 and 22 with side 4; in which order; and that a refusal lists nothing. Assumes nothing.
+use Prim.Native.Nat.{ℕ, _≤_, _<_}
+use mathlib.Core.Bool.{true, false, _||_}
+use mathlib.Core.List.{List, [], _∷_}
+use mathlib.Core.Logic.{_⊎_, inl, inr}
+use mathlib.Core.Path.{_≡_, refl}
+use native.Mathlib.Omega.{arith}
+use lib.Dec.{eqb, leb, ltb}
+use lib.ListN.{length}
+use borrow.Author.Tests.{lt-ltb, le-ltb}
+use Rattle.laws.proofs.Cases.{by-cond, cases, either}
+use Rattle.event.specs.Kind.{has}
+use Rattle.event.specs.Answer.{answer, done, first, InTable}
+use Rattle.event.specs.declared.Answer.{Answer}
+use Rattle.event.proofs.Answers.{Among, Given, none, among-first, among-more, given-among, given-in, in-first}
+use Rattle.text.specs.Line.{split, body}
+use Rattle.frame.specs.Reading.{headed, headFault, linesFault, textFault}
+use Rattle.frame.proofs.Answers.{lines-given, head-among, head-in}
+use Rattle.registers.specs.Reg.{header, regOf}
+use Rattle.registers.specs.Reading.{SoFar, nothing, listLimit, regLimit, regsFault, regsLayout, regsOf, unmarked, refused, listOf}
+use Rattle.registers.specs.Lines.{linesRead}
+use Rattle.registers.specs.declared.reg.RegRead.{RegRead}
+use Rattle.registers.specs.declared.reg.RegRead.the-variants.{Reg, Refused}
+use Rattle.registers.specs.declared.ListRead.{ListRead}
+
+-- the numbers of its refusals
+abbrev pub listFaults : List ℕ
+listFaults = 1 ∷ 2 ∷ 22 ∷ []
+
+line-fault : (s : SoFar) (r : RegRead) → (regsFault s r ≡ 0) ⊎ (has (regsFault s r) (2 ∷ 22 ∷ []) ≡ true)
+line-fault s Refused = inr refl
+line-fault s (Reg p) = by-cond (λ (f : ℕ). (f ≡ 0) ⊎ (has f (2 ∷ 22 ∷ []) ≡ true)) (ltb p (s .low) || leb regLimit (s .regs)) (inr refl) (inl refl)
+
+module _ (t : List ℕ) where
+  abbrev lines : Answer
+  lines = linesFault regsLayout 4 2 nothing (body (split t))
+
+  lines-are : Given (2 ∷ 22 ∷ []) 4 lines
+  lines-are = lines-given regsLayout (2 ∷ 22 ∷ []) 4 refl (λ s l. line-fault s (regOf l)) 2 nothing (body (split t)) (omega arith)
+
+  -- what holds of no refusal and of its first refusal holds of what it answers
+  by-fault : (P : Answer → Type 0) → P done → P (first (headFault 4 listLimit header t) lines) → P (listOf t .answer)
+  unfolding listOf textFault
+  by-fault P z h = by-cond (λ (r : ListRead). P (r .answer)) (eqb (first (headFault 4 listLimit header t) lines .number) 0) z h
+
+  pub read-among : Among listFaults (listOf t .answer)
+  read-among =
+      by-fault (Among listFaults) none
+      (among-first _ (headFault 4 listLimit header t) lines (among-more _ _ refl (head-among 4 listLimit header t))
+      (among-more _ _ refl (given-among _ 4 lines-are)))
+
+  -- every answer of a list's reading is a row of the table
+  pub read-in : InTable (listOf t .answer)
+  read-in = by-fault InTable refl (in-first (headFault 4 listLimit header t) lines (head-in 4 listLimit header t refl) (given-in _ 4 refl lines-are))
+
+  -- "answering 1, then line by line 2 and 22": 1, whatever the lines are; then line 1; then line by line
+  pub over-limit : listLimit < length t → listOf t ≡ refused (answer 1 4 0)
+  unfolding listOf textFault headFault
+  over-limit h = rw (lt-ltb listLimit (length t) h)
+
+  pub bad-head : length t ≤ listLimit → headed header (split t) ≡ false → listOf t ≡ refused (answer 2 4 1)
+  unfolding listOf textFault headFault
+  bad-head h k = rw (le-ltb listLimit (length t) h, k)
+
+  pub then-lines : length t ≤ listLimit → headed header (split t) ≡ true → listOf t ≡ linesRead nothing unmarked (body (split t))
+  unfolding listOf textFault headFault regsOf linesRead
+  then-lines h k = rw (le-ltb listLimit (length t) h, k)
+
+  -- a refusal lists nothing
+  pub refused-lists-none : (listOf t .answer .number ≡ 0 → ⊥) → listOf t .listed ≡ unmarked
+  unfolding listOf
+  refused-lists-none h =
+      cases (either (eqb (textFault regsLayout 4 t .number) 0)) (λ e. absurd (h (rw e))) (λ e. rw e)

@@ -1,0 +1,73 @@
+-- Lists on which the definition computes: which are lawful, and which refusal the others have at which line. Assumes nothing.
+use Prim.Native.String.{String}
+use Prim.Native.Nat.{ℕ, zero, suc, _+_}
+use mathlib.Core.List.{List, [], _∷_, _++_}
+use mathlib.Core.Path.{_≡_, refl}
+use Rattle.event.specs.Answer.{answer, done}
+use Rattle.text.specs.Cut.{cut, glue}
+use Rattle.text.specs.Line.{saidIn}
+use Rattle.text.specs.Number.{allDigits, valueOn, digitsOn, numberOf, dec, decimal}
+use Rattle.text.specs.Word.{bytes, sameBytes}
+use Rattle.frame.specs.Reading.{headFault, linesFault, textFault}
+use Rattle.registers.specs.Reg.{regRest, regOf, regLine}
+use Rattle.registers.specs.Reading.{regsOf, marked, marksOf, refused, readAs, listOf}
+
+-- a text with the locations that it lists; and one with its refusal
+abbrev Lists : String → List ℕ → Type 0
+Lists text ps = listOf (bytes text) ≡ readAs (marksOf ps)
+
+abbrev Refuses : String → ℕ → ℕ → Type 0
+Refuses text number place = listOf (bytes text) ≡ refused (answer number 4 place)
+
+-- "A header alone is lawful"; locations ascend strictly, and 0 and 255 are locations
+pub lawful :
+    Lists "regs\t1\n" []
+    × Lists "regs\t1\nreg\t0\n" (0 ∷ [])
+    × Lists "regs\t1\nreg\t7\nreg\t8\nreg\t255\n" (7 ∷ 8 ∷ 255 ∷ [])
+unfolding listOf textFault headFault linesFault saidIn regsOf regOf regRest marked numberOf digitsOn valueOn allDigits cut sameBytes
+lawful = (refl, refl, refl)
+
+-- 2: an empty text, another first line, no final LF, a line that is no register's
+pub malformed :
+    Refuses "" 2 1
+    × Refuses "\n" 2 1
+    × Refuses "regs\t1" 2 1
+    × Refuses "regs\t3\n" 2 1
+    × Refuses "trace\t1\n" 2 1
+    × Refuses "regs\t1\nreg\t7" 2 2
+    × Refuses "regs\t1\n\n" 2 2
+    × Refuses "regs\t1\nreg\t256\n" 2 2
+    × Refuses "regs\t1\nreg\t07\n" 2 2
+    × Refuses "regs\t1\nreg\t7\t8\n" 2 2
+    × Refuses "regs\t1\nreg\n" 2 2
+    × Refuses "regs\t1\nregs\t7\n" 2 2
+unfolding listOf textFault headFault linesFault saidIn regsOf regOf regRest marked numberOf digitsOn valueOn allDigits cut sameBytes
+malformed = (refl, refl, refl, refl, refl, refl, refl, refl, refl, refl, refl, refl)
+
+-- 22: a location below the one before, or that one again; the lower of two refused lines is told
+pub out-of-order :
+    Refuses "regs\t1\nreg\t8\nreg\t7\n" 22 3
+    × Refuses "regs\t1\nreg\t8\nreg\t8\n" 22 3
+    × Refuses "regs\t1\nreg\t10\nreg\t9\nreg\n" 22 3
+    × Refuses "regs\t1\nreg\t10\nreg\nreg\t9\n" 2 3
+    × Refuses "regs\t1\nreg\t1\nreg\t2\nreg\t1\n" 22 4
+unfolding listOf textFault headFault linesFault saidIn regsOf regOf regRest marked numberOf digitsOn valueOn allDigits cut sameBytes
+out-of-order = (refl, refl, refl, refl, refl)
+
+-- the text of n lines more, from a location on, that ends with what stands at its end
+abbrev rising : ℕ → ℕ → List ℕ → List ℕ
+rising zero p end = end
+rising (suc n) p end = regLine p ++ 10 ∷ rising n (p + 1) end
+
+abbrev listing : ℕ → ℕ → String → List ℕ
+listing n p end = bytes "regs\t1\n" ++ rising n p (bytes end)
+
+-- 32 registers are lawful, the 33rd is 22, also where it is out of order, and 2 where it is malformed
+pub limit :
+    (listOf (listing 32 100 "") .answer ≡ done)
+    × (listOf (listing 33 100 "") ≡ refused (answer 22 4 34))
+    × (listOf (listing 32 100 "reg\t100\n") ≡ refused (answer 22 4 34))
+    × (listOf (listing 32 100 "reg\t256\n") ≡ refused (answer 2 4 34))
+    × (listOf (listing 32 100 "reg\t255") ≡ refused (answer 2 4 34))
+unfolding listOf textFault headFault linesFault saidIn regsOf regOf regRest regLine marked numberOf digitsOn valueOn allDigits cut glue decimal dec sameBytes
+limit = (refl, refl, refl, refl, refl)
