@@ -1,6 +1,7 @@
 // The program: a form, 1 or 2, the name of a trace and the name of a file to write. It moves the trace to the form and prints the answer.
+use files::args::options_from;
+use files::args::print_usage;
 use files::moving::move_file;
-use libc::STDERR_FILENO;
 use record::form::Form;
 use text::word::same_bytes;
 
@@ -20,17 +21,19 @@ fn form_named(word: &[u8]) -> Named {
     Named::Nothing
 }
 
-fn print_usage() {
-    io::write_all(
-        STDERR_FILENO,
-        b"usage: laprunto_move FORM TRACE OUT (FORM is 1 or 2)\n",
-    );
+fn print_own_usage() {
+    print_usage(b"usage: laprunto_move FORM TRACE OUT (FORM is 1 or 2)\n");
 }
 
 // A word too few or too many, or another form, is no move.
 fn main() {
-    if os::arg_count() != 4 {
-        print_usage();
+    let options = options_from(4);
+    if !options.right {
+        print_own_usage();
+        return;
+    }
+    if os::arg_count() < 4 {
+        print_own_usage();
         return;
     }
     let mut form = io::buffer();
@@ -40,7 +43,7 @@ fn main() {
     let name_bytes = os::arg(2, &mut name);
     let out_bytes = os::arg(3, &mut out_name);
     let Named::Form(to) = form_named(&form[..form_bytes]) else {
-        print_usage();
+        print_own_usage();
         return;
     };
     move_file(to, &name[..name_bytes], &out_name[..out_bytes]);

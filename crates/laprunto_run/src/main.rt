@@ -1,15 +1,22 @@
 // The program: three file names, source, target and matching. It prints what `laprunto` prints and, of an accepted matching, the number of its
 // steps and a line for each.
+use files::args::options_from;
+use files::args::print_usage;
 use files::run::run_files;
-use libc::STDERR_FILENO;
 
-// A name that is missing is a file that can't be opened.
+fn print_own_usage() {
+    print_usage(b"usage: laprunto_run SOURCE TARGET MATCHING\n");
+}
+
+// A name that is missing is a file that can't be opened; a word too many is no run.
 fn main() {
+    let options = options_from(4);
+    if !options.right {
+        print_own_usage();
+        return;
+    }
     if os::arg_count() < 4 {
-        io::write_all(
-            STDERR_FILENO,
-            b"usage: laprunto_run SOURCE TARGET MATCHING\n",
-        );
+        print_own_usage();
     }
     let mut source = io::buffer();
     let mut target = io::buffer();
