@@ -13,6 +13,8 @@ use Rattle.event.proofs.kind.is_plain.Reads as is-plain
 use Rattle.event.proofs.kind.is_lawful.Reads as is-lawful
 use Rattle.event.proofs.memory.Memory.empty.Reads as empty
 use Rattle.event.proofs.memory.Memory.step.Reads as step
+use Rattle.event.proofs.listed.is_listed.Reads as is-listed
+use Rattle.event.proofs.listed.is_register.Reads as is-register
 use Rattle.event.proofs.room.get.Reads as get
 use Rattle.event.proofs.room.put.Reads as put
 
@@ -51,6 +53,12 @@ empty-one κ a x y s t h k = h ∙ sym k
 
 step-one : OneAnswer step.Post
 step-one κ a x y s t h k = h ∙ sym k
+
+is-listed-one : OneAnswer is-listed.Post
+is-listed-one κ a x y s t h k = h ∙ sym k
+
+is-register-one : OneAnswer is-register.Post
+is-register-one κ a x y s t h k = h ∙ sym k
 
 get-one : OneAnswer get.Post
 get-one κ a x y s t h k = h ∙ sym k

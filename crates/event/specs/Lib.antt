@@ -1,5 +1,6 @@
--- What the contracts of this crate say, by page: answers, the table of kinds, the memory, events in a room. Assumes nothing.
+-- What the contracts of this crate say, by page: answers, the table of kinds, the memory, registers, events in a room. Assumes nothing.
 pub mod Kind
 pub mod Answer
 pub mod Memory
+pub mod Listed
 pub mod Room

@@ -1,5 +1,7 @@
-// The alphabet of a trace: words, events, answers; the fixed table of kinds (`kind`), the memory (`memory`), events in a room (`room`).
+// The alphabet of a trace: words, events, answers; the fixed table of kinds (`kind`), the memory (`memory`), the registers (`listed`), events in a
+// room (`room`).
 pub mod kind;
+pub mod listed;
 pub mod memory;
 pub mod room;
 
