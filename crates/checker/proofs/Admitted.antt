@@ -12,6 +12,7 @@ use lib.ListN.{length}
 use Rattle.laws.proofs.Cases.{cases, either}
 use Rattle.laws.proofs.Lists.{every}
 use Rattle.event.specs.Kind.{has}
+use Rattle.event.specs.Listed.{noneListed}
 use Rattle.event.specs.Answer.{answer, done, first, InTable}
 use Rattle.event.specs.declared.Answer.{Answer}
 use Rattle.event.proofs.Answers.{Among, among-first, among-more, among-done, among-has, among-not, given-among, in-first}
@@ -104,14 +105,14 @@ module _ (l : Lent) where
       (λ e. passes (readingAnswer l) done traceFaults readings refl
       (rw (e, ← refused-as (eqb-false _ _ e)) p)) in
       let q : has (first starts (first counts (first names others)) .number) premise ≡ false = rw (by-tests z) at p in
-      let s = passes starts (first counts (first names others)) _ (start-among view 0 _ _) refl q in
+      let s = passes starts (first counts (first names others)) _ (start-among noneListed 0 _ _) refl q in
       let q₁ : has (first counts (first names others) .number) premise ≡ false = rw s at q in
       let c = passes counts (first names others) _ (count-among view (sourceOf l) (entriesFor l)) refl q₁ in
       let q₂ : has (first names others .number) premise ≡ false = rw c at q₁ in
       let n = passes names others _ names-are refl q₂ in
       record {
         reading = z;
-        start = among-done _ refl (start-among view 0 _ _) s;
+        start = among-done _ refl (start-among noneListed 0 _ _) s;
         count = among-done _ refl (count-among view (sourceOf l) (entriesFor l)) c;
         entries = among-done _ refl names-are n;
       }

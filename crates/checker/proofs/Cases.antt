@@ -16,13 +16,13 @@ use Rattle.matching.specs.Entry.{keepRest, goneRest, entryOf}
 use Rattle.frame.specs.Reading.{headFault, linesFault, textFault}
 use Rattle.matching.specs.Reading.{entriesOf, surveyOf as matchingSurvey, readOf as matchingRead}
 use Rattle.text.specs.Line.{saidIn}
-use Rattle.rules.specs.Verdict.{startAnswer, countAnswer, entryAnswer, sourceAnswer, targetAnswer, verdict}
+use Rattle.rules.specs.Verdict.{startAnswerIn, countAnswer, entryAnswer, sourceAnswer, targetAnswer, verdict}
 use Rattle.checker.specs.Check.{readingAnswer, verdictOf, checkOf}
 use Rattle.checker.specs.Line.{counted, nthLine, lineOf, faultSide, offending, offendingLine, standing}
 use Rattle.checker.specs.Cases.{table, counters, zeros, all-hold}
 
 cases : (all-hold table ≡ true) × ((all-hold counters ≡ true) × (all-hold zeros ≡ true))
-unfolding checkOf readingAnswer verdictOf verdict startAnswer countAnswer entryAnswer sourceAnswer targetAnswer readOf surveyOf
+unfolding checkOf readingAnswer verdictOf verdict startAnswerIn countAnswer entryAnswer sourceAnswer targetAnswer readOf surveyOf
     formOf faultOf textFault headFault linesFault saidIn startIn eventsOf initsOf coverFault lined firstBad eventFault uses recordOf eventRest initRest unlessSilent
     numberIf orderIf numberIn matchingRead matchingSurvey entriesOf
     entryOf keepRest goneRest numberOf digitsOn valueOn allDigits cut sameBytes stepped after latest lawful takes row

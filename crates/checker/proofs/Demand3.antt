@@ -13,6 +13,7 @@ use Rattle.event.specs.declared.Answer.{Answer}
 use Rattle.event.specs.declared.Event.{Event}
 use Rattle.event.specs.declared.memory.Memory.{Memory}
 use Rattle.event.specs.Kind.{places}
+use Rattle.event.proofs.Unlisted.{no-register}
 use Rattle.trace.specs.Fault.{eventFault}
 use Rattle.trace.specs.Reading.{eventsOf, surveyOf, readOf}
 use Rattle.frame.proofs.Settled.{first-done}
@@ -33,7 +34,7 @@ right-of : (side k : ℕ) (m : Memory) (b es : List Event) → eventFault side k
 right-of side k m b [] h = tt
 right-of side k m b (e ∷ es) h =
     let f = fault-parts side k m b e es h in
-    rw (f .0 .1) (right-of side (k + 1) (stepped m e .memory) (e ∷ b) es (f .1))
+    rw (no-register e, f .0 .1) (right-of side (k + 1) (stepped m e .memory) (e ∷ b) es (f .1))
 
 module _ (side : ℕ) (t room : List ℕ) (z : readOf side t room .answer .number ≡ 0) where
   survey : surveyOf side t .answer .number ≡ 0

@@ -10,6 +10,7 @@ use event::Answer;
 use event::Entry;
 use event::WORDS;
 use event::Word;
+use event::listed::Listed;
 use event::memory::Memory;
 use judge::judge;
 use trace::reading::TraceRead;
@@ -66,7 +67,9 @@ fn judged(
 {
     let source_words = source.events * WORDS;
     let target_words = target.events * WORDS;
+    let listed: Listed = [false; 256];
     let answer = judge(
+        &listed,
         source.memory,
         target.memory,
         &source_room[0..source_words],

@@ -13,7 +13,7 @@ use Rattle.laws.proofs.Cases.{cases, either}
 use Rattle.event.specs.Room.{eventAt, onward, capacity}
 use Rattle.event.specs.declared.Event.{Event}
 use Rattle.event.specs.Kind.{places}
-use Rattle.rules.specs.View.{View, view, isLoad, isWall}
+use Rattle.rules.specs.View.{View, viewIn, isLoad, isWall}
 use Rattle.rules.specs.Fault.{Fate, Item, closing, fate, group, item}
 use Rattle.fates.specs.Pass.{closingAfter, closingAt, itemsFrom}
 use Rattle.fates.proofs.Arrays.{ArrayOf, array-all, array-at}
@@ -21,19 +21,19 @@ use Rattle.fates.proofs.Events.{drop-next, onward-next}
 use Rattle.fates.proofs.Passes.{PlainAt, closing-at, walled}
 
 -- the items of a room
-module _ (l ns : List ℕ) (size : length ns ≡ capacity l) where
+module _ (regs : List Bool) (l ns : List ℕ) (size : length ns ≡ capacity l) where
   pub items-next : (j : ℕ) (e : Event) (k : ℕ) → j < capacity l → e ≡ eventAt l j → k ≡ getD ns j 0
-      → itemsFrom l ns j ≡ item (view e) (fate k) ∷ itemsFrom l ns (j + 1)
+      → itemsFrom regs l ns j ≡ item (viewIn regs e) (fate k) ∷ itemsFrom regs l ns (j + 1)
   items-next j e k h p q =
       let i : j < length ns = omega arith in
       rw (onward-next l (capacity l) j e h p, drop-next ns j k i q)
 
   -- the same where the index after j is called i
   pub items-before : (j i : ℕ) (e : Event) (k : ℕ) → i ≡ j + 1 → j < capacity l → e ≡ eventAt l j → k ≡ getD ns j 0
-      → itemsFrom l ns j ≡ item (view e) (fate k) ∷ itemsFrom l ns i
+      → itemsFrom regs l ns j ≡ item (viewIn regs e) (fate k) ∷ itemsFrom regs l ns i
   items-before j i e k z h p q = items-next j e k h p q ∙ rw (← z)
 
-  pub items-end : (j : ℕ) → j ≡ capacity l → itemsFrom l ns j ≡ []
+  pub items-end : (j : ℕ) → j ≡ capacity l → itemsFrom regs l ns j ≡ []
   unfolding onward
   items-end j e = let z : capacity l - j ≡ 0 = omega arith in rw z
 
@@ -57,9 +57,9 @@ pub closed-is : (cells : List Bool) {a b : List Item} → b ≡ a → Closed cel
 closed-is cells e m = rw e m
 
 -- the flags
-pub flag-is : (l ns : List ℕ) (j : ℕ) (e : Event) {i p : ℕ} {w : Bool} → i ≡ j + 1 → e ≡ eventAt l j → p ≡ e .place
-    → w ≡ closing (group p (itemsFrom l ns i)) → w ≡ closingAt l ns j
-flag-is l ns j e z q h g = g ∙ rw (h, q, z)
+pub flag-is : (regs : List Bool) (l ns : List ℕ) (j : ℕ) (e : Event) {i p : ℕ} {w : Bool} → i ≡ j + 1 → e ≡ eventAt l j → p ≡ e .place
+    → w ≡ closing (group p (itemsFrom regs l ns i)) → w ≡ closingAt regs l ns j
+flag-is regs l ns j e z q h g = g ∙ rw (h, q, z)
 
 pub flags-next : (flags : List Bool) (f : ℕ → Bool) (j n : ℕ) {i : ℕ} {w : Bool} → i ≡ j + 1 → j < length flags → w ≡ f j
     → ((k : ℕ) → i ≤ k → k < n → getD flags k false ≡ f k) → (k : ℕ) → j ≤ k → k < n → getD (set flags j w) k false ≡ f k

@@ -1,11 +1,14 @@
 -- What the rules see of an event, with its location, its value and whether it is used. Assumes nothing.
 use mathlib.Core.Path.{_≡_, refl}
 use mathlib.Core.Bool.{Bool, true, false, not, cond}
+use mathlib.Core.List.{List}
 use Prim.Native.Nat.{ℕ}
 use lib.Dec.{eqb}
 use Rattle.event.specs.Kind.{used, row, plain}
+use Rattle.event.specs.Listed.{isRegister}
 use Rattle.event.specs.declared.Event.{Event}
-use Rattle.rules.specs.View.{View, wall, load, store, view, isLoad, isWall}
+use Rattle.laws.proofs.Cases.{by-cond}
+use Rattle.rules.specs.View.{View, wall, load, store, view, viewIn, isLoad, isWall}
 
 pub data Sees : View → ℕ → ℕ → Bool → Type 0 where
   a-wall : {p v : ℕ} {u : Bool} → Sees wall p v u
@@ -22,9 +25,12 @@ sees e = go (plain e) (row (e .kind) .reads)
     go true false = a-store
     go false d = a-wall
 
--- at an index that is its location
-pub sees-at : (e : Event) {i : ℕ} → i ≡ e .place → Sees (view e) i (e .first) (eqb (e .order) used)
-sees-at e h = rw h (sees e)
+-- under a list; and at an index that is its location
+pub sees-in : (regs : List Bool) (e : Event) → Sees (viewIn regs e) (e .place) (e .first) (eqb (e .order) used)
+sees-in regs e = by-cond (λ v. Sees v (e .place) (e .first) (eqb (e .order) used)) (isRegister regs e) a-wall (sees e)
+
+pub sees-at : (regs : List Bool) (e : Event) {i : ℕ} → i ≡ e .place → Sees (viewIn regs e) i (e .first) (eqb (e .order) used)
+sees-at regs e h = rw h (sees-in regs e)
 
 -- what is not plain is a wall; what is plain and reads is a load
 module _ (p v : ℕ) (u : Bool) where

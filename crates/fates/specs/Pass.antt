@@ -8,7 +8,7 @@ use Prim.Native.Nat.{ℕ, _+_, _-_, _<_}
 use lib.Dec.{ltb}
 use lib.ListN.{getD, drop}
 use Rattle.event.specs.Room.{eventAt, onward, capacity}
-use Rattle.rules.specs.View.{View, wall, load, store, view, isWall}
+use Rattle.rules.specs.View.{View, wall, load, store, viewIn, isWall}
 use Rattle.rules.specs.Fault.{Item, closing, fate, group, is, isGone, unlike}
 use Rattle.fates.specs.declared.source.Cell.{Cell}
 use Rattle.fates.specs.declared.source.Tops.{Tops}
@@ -20,13 +20,13 @@ use Rattle.rules.specs.Verdict.{firstFault, items}
 abbrev pub closingAfter : Bool → ℕ → Bool → Bool
 closingAfter isLoad n closing = isLoad && (not (isGone n) || closing)
 
--- the events of a room from an index on, with their entries
-abbrev pub itemsFrom : List ℕ → List ℕ → ℕ → List Item
-itemsFrom l ns i = items view (onward l i (capacity l - i)) (drop i ns)
+-- the events of a room from an index on, with their entries, under a list
+abbrev pub itemsFrom : List Bool → List ℕ → List ℕ → ℕ → List Item
+itemsFrom regs l ns i = items (viewIn regs) (onward l i (capacity l - i)) (drop i ns)
 
 -- whether a store at the index, to the location of the event there, is closing
-abbrev pub closingAt : List ℕ → List ℕ → ℕ → Bool
-closingAt l ns i = closing (group (eventAt l i .place) (itemsFrom l ns (i + 1)))
+abbrev pub closingAt : List Bool → List ℕ → List ℕ → ℕ → Bool
+closingAt regs l ns i = closing (group (eventAt l i .place) (itemsFrom regs l ns (i + 1)))
 
 -- whether a plain event becomes the witness of its location
 abbrev pub takesOver : Bool → ℕ → Bool → Bool
@@ -41,8 +41,8 @@ abbrev pub topAfter : ℕ → ℕ → ℕ
 topAfter n top = cond (isGone n) top (larger n top)
 
 -- the flags say of each event whether a store there is closing
-abbrev pub Flagged : List Bool → List ℕ → List ℕ → Type 0
-Flagged flags l ns = (i : ℕ) → i < capacity l → getD flags i false ≡ closingAt l ns i
+abbrev pub Flagged : List Bool → List Bool → List ℕ → List ℕ → Type 0
+Flagged regs flags l ns = (i : ℕ) → i < capacity l → getD flags i false ≡ closingAt regs l ns i
 
 -- what the code makes of its numbers and tests
 abbrev pub cellOf : Bool → Bool → Cell

@@ -6,15 +6,15 @@ ghost use mathlib.Core.List.{[]};
 ghost use Prim.Native.Nat.{_≤_, _<_};
 ghost use lib.ListN.{length};
 ghost use Rattle.event.specs.Room.{Placed, wholeEvents, capacity};
-ghost use Rattle.rules.specs.View.{view};
+ghost use Rattle.rules.specs.View.{viewIn};
 ghost use Rattle.rules.specs.Fault.{fate, is, isGone, unlike};
 ghost use Rattle.rules.specs.Verdict.{sourceAnswer};
 ghost use Rattle.fates.specs.Pass.{Flagged, cellOf, closingAfter, crossedBy, sourceFaultBy, goneFault, keepFaultBy, removalFaultBy, takesOver, topAfter, topsOf, witnessOf, witnessed};
 use crate::is_gone;
 use crate::view::both;
-use crate::view::is_load;
+use crate::view::is_load_in;
 use crate::view::is_same;
-use crate::view::is_wall;
+use crate::view::is_wall_in;
 use event::Answer;
 use event::Entry;
 use event::Event;
@@ -22,6 +22,7 @@ use event::Number;
 use event::Word;
 use event::index_of;
 use event::kind::USED;
+use event::listed::Listed;
 use event::number_index;
 use event::room::get;
 
@@ -39,11 +40,11 @@ fn closing_after(load: bool, entry: Entry, closing: bool) -> bool
 }
 
 // For each source event, whether a store to its location there is closing.
-fn closing_flags(source: &[Word], entries: &[Entry]) -> [bool; 800]
+fn closing_flags(listed: &Listed, source: &[Word], entries: &[Entry]) -> [bool; 800]
     requires { ⌜ capacity (now source) ≤ 800 ⌝ }
     requires { ⌜ Placed (now source) ⌝ }
     requires { ⌜ length (now entries) ≡ capacity (now source) ⌝ }
-    ensures { λ r. ⌜ Flagged r (now (source .entry)) (now (entries .entry)) ⌝ }
+    ensures { λ r. ⌜ Flagged (now (listed .entry)) r (now (source .entry)) (now (entries .entry)) ⌝ }
 {
     let mut closing: [bool; 256] = [true; 256];
     let mut flags: [bool; 800] = [false; 800];
@@ -54,11 +55,11 @@ fn closing_flags(source: &[Word], entries: &[Entry]) -> [bool; 800]
         let place = index_of(e.place);
         let was = closing[place];
         flags[i] = was;
-        if is_wall(e) {
+        if is_wall_in(listed, e) {
             closing = [true; 256];
             continue;
         }
-        closing[place] = closing_after(is_load(e), entries[i], was);
+        closing[place] = closing_after(is_load_in(listed, e), entries[i], was);
     }
     flags
 }
@@ -140,13 +141,13 @@ fn is_witness(value: Word, witness: Witness) -> bool
 }
 
 // 13 or 14 of a gone event, or 0.
-fn gone_fault(e: Event, cell: Cell, witness: Witness) -> Number
-    ensures { λ r. ⌜ r ≡ goneFault (view e) cell (witnessed witness) ⌝ }
+fn gone_fault(listed: &Listed, e: Event, cell: Cell, witness: Witness) -> Number
+    ensures { λ r. ⌜ r ≡ goneFault (viewIn (now (listed .entry)) e) cell (witnessed witness) ⌝ }
 {
-    if is_wall(e) {
+    if is_wall_in(listed, e) {
         return 0;
     }
-    if is_load(e) {
+    if is_load_in(listed, e) {
         if both(e.order == USED, cell.fresh) {
             return 13;
         }
@@ -162,11 +163,11 @@ fn gone_fault(e: Event, cell: Cell, witness: Witness) -> Number
 }
 
 // 13 or 14 of a source event, or 0.
-fn removal_fault(e: Event, n: Entry, cell: Cell, witness: Witness) -> Number
-    ensures { λ r. ⌜ r ≡ removalFaultBy (view e) n cell (witnessed witness) ⌝ }
+fn removal_fault(listed: &Listed, e: Event, n: Entry, cell: Cell, witness: Witness) -> Number
+    ensures { λ r. ⌜ r ≡ removalFaultBy (viewIn (now (listed .entry)) e) n cell (witnessed witness) ⌝ }
 {
     if is_gone(n) {
-        return gone_fault(e, cell, witness);
+        return gone_fault(listed, e, cell, witness);
     }
     0
 }
@@ -180,21 +181,21 @@ fn differs(target: &[Word], e: Event, n: Entry) -> bool
 }
 
 // 12: whether an earlier kept event that may not change places with this one has the greater number.
-fn is_crossed(e: Event, n: Entry, tops: Tops) -> bool
-    ensures { λ r. ⌜ r ≡ crossedBy (view e) n tops ⌝ }
+fn is_crossed(listed: &Listed, e: Event, n: Entry, tops: Tops) -> bool
+    ensures { λ r. ⌜ r ≡ crossedBy (viewIn (now (listed .entry)) e) n tops ⌝ }
 {
-    if is_wall(e) {
+    if is_wall_in(listed, e) {
         return n < tops.all;
     }
     n < tops.walls || n < tops.here
 }
 
 // 10 to 12 of a source event, or 0.
-fn keep_fault(target: &[Word], e: Event, n: Entry, tops: Tops) -> Number
-    ensures { λ r. ⌜ r ≡ keepFaultBy (wholeEvents (now (target .entry))) e (view e) n tops ⌝ }
+fn keep_fault(listed: &Listed, target: &[Word], e: Event, n: Entry, tops: Tops) -> Number
+    ensures { λ r. ⌜ r ≡ keepFaultBy (wholeEvents (now (target .entry))) e (viewIn (now (listed .entry)) e) n tops ⌝ }
 {
     if is_gone(n) {
-        if is_wall(e) {
+        if is_wall_in(listed, e) {
             return 11;
         }
         return 0;
@@ -202,7 +203,7 @@ fn keep_fault(target: &[Word], e: Event, n: Entry, tops: Tops) -> Number
     if differs(target, e, n) {
         return 10;
     }
-    if is_crossed(e, n, tops) {
+    if is_crossed(listed, e, n, tops) {
         return 12;
     }
     0
@@ -210,6 +211,7 @@ fn keep_fault(target: &[Word], e: Event, n: Entry, tops: Tops) -> Number
 
 // 10 to 14 of a source event, or 0.
 fn event_fault(
+    listed: &Listed,
     target: &[Word],
     e: Event,
     n: Entry,
@@ -217,13 +219,13 @@ fn event_fault(
     witness: Witness,
     tops: Tops,
 ) -> Number
-    ensures { λ r. ⌜ r ≡ sourceFaultBy (wholeEvents (now (target .entry))) e (view e) n cell (witnessed witness) tops ⌝ }
+    ensures { λ r. ⌜ r ≡ sourceFaultBy (wholeEvents (now (target .entry))) e (viewIn (now (listed .entry)) e) n cell (witnessed witness) tops ⌝ }
 {
-    let fault = keep_fault(target, e, n, tops);
+    let fault = keep_fault(listed, target, e, n, tops);
     if fault != 0 {
         return fault;
     }
-    removal_fault(e, n, cell, witness)
+    removal_fault(listed, e, n, cell, witness)
 }
 
 // The witness of a location after a plain event there, which takes over or does not.
@@ -240,12 +242,18 @@ fn witness_after(over: bool, value: Word, witness: Witness) -> Witness
 }
 
 // The source events upward.
-fn source_pass(source: &[Word], target: &[Word], entries: &[Entry], flags: &[bool; 800]) -> Answer
+fn source_pass(
+    listed: &Listed,
+    source: &[Word],
+    target: &[Word],
+    entries: &[Entry],
+    flags: &[bool; 800],
+) -> Answer
     requires { ⌜ capacity (now source) ≤ 800 ⌝ }
     requires { ⌜ Placed (now source) ⌝ }
     requires { ⌜ length (now entries) ≡ capacity (now source) ⌝ }
-    requires { ⌜ Flagged (now flags) (now source) (now entries) ⌝ }
-    ensures { λ r. ⌜ r ≡ sourceAnswer view (wholeEvents (now (target .entry))) 1 [] (wholeEvents (now (source .entry))) (now (entries .entry)) ⌝ }
+    requires { ⌜ Flagged (now listed) (now flags) (now source) (now entries) ⌝ }
+    ensures { λ r. ⌜ r ≡ sourceAnswer (viewIn (now (listed .entry))) (wholeEvents (now (target .entry))) 1 [] (wholeEvents (now (source .entry))) (now (entries .entry)) ⌝ }
 {
     let mut fresh: [bool; 256] = [true; 256];
     let mut present: [bool; 256] = [false; 256];
@@ -262,19 +270,23 @@ fn source_pass(source: &[Word], target: &[Word], entries: &[Entry], flags: &[boo
         let witness = Witness::new(present[at], value[at]);
         let cell = Cell::new(first, flags[i]);
         let tops = Tops::new(all, walls, here[at]);
-        let fault = event_fault(target, e, n, cell, witness, tops);
+        let fault = event_fault(listed, target, e, n, cell, witness, tops);
         i += 1;
         if fault != 0 {
             return Answer::new(fault, 1, i);
         }
         all = top_after(n, all);
-        if is_wall(e) {
+        if is_wall_in(listed, e) {
             walls = top_after(n, walls);
             fresh = [true; 256];
             present = [false; 256];
             continue;
         }
-        let after = witness_after(takes_over(is_load(e), n, first), e.first, witness);
+        let after = witness_after(
+            takes_over(is_load_in(listed, e), n, first),
+            e.first,
+            witness,
+        );
         fresh[at] = false;
         present[at] = after.present;
         value[at] = after.value;
@@ -283,12 +295,12 @@ fn source_pass(source: &[Word], target: &[Word], entries: &[Entry], flags: &[boo
     Answer::new(0, 0, 0)
 }
 
-pub fn source_answer(source: &[Word], target: &[Word], entries: &[Entry]) -> Answer
+pub fn source_answer(listed: &Listed, source: &[Word], target: &[Word], entries: &[Entry]) -> Answer
     requires { ⌜ capacity (now source) ≤ 800 ⌝ }
     requires { ⌜ Placed (now source) ⌝ }
     requires { ⌜ length (now entries) ≡ capacity (now source) ⌝ }
-    ensures { λ r. ⌜ r ≡ sourceAnswer view (wholeEvents (now (target .entry))) 1 [] (wholeEvents (now (source .entry))) (now (entries .entry)) ⌝ }
+    ensures { λ r. ⌜ r ≡ sourceAnswer (viewIn (now (listed .entry))) (wholeEvents (now (target .entry))) 1 [] (wholeEvents (now (source .entry))) (now (entries .entry)) ⌝ }
 {
-    let flags = closing_flags(source, entries);
-    source_pass(source, target, entries, &flags)
+    let flags = closing_flags(listed, source, entries);
+    source_pass(listed, source, target, entries, &flags)
 }

@@ -1,11 +1,13 @@
 // What the rules see of an event.
 ghost use mathlib.Core.Path.{_≡_};
 ghost use mathlib.Core.Bool.{_&&_, _||_};
-ghost use Rattle.rules.specs.View.{view, same, isWall, isLoad};
+ghost use Rattle.rules.specs.View.{view, viewIn, same, isWall, isLoad};
 use event::Event;
 use event::kind::is_load_kind;
 use event::kind::is_plain;
 use event::kind::row_of;
+use event::listed::Listed;
+use event::listed::is_register;
 
 pub(crate) fn both(a: bool, b: bool) -> bool
     ensures { λ r. ⌜ r ≡ (a && b) ⌝ }
@@ -32,6 +34,25 @@ pub fn is_load(e: Event) -> bool
         return row_of(e.kind).reads;
     }
     false
+}
+
+// The same under a list: a plain access to a listed location is a wall, and no load.
+pub fn is_wall_in(listed: &Listed, e: Event) -> bool
+    ensures { λ r. ⌜ r ≡ isWall (viewIn (now (listed .entry)) e) ⌝ }
+{
+    if is_register(listed, e) {
+        return true;
+    }
+    is_wall(e)
+}
+
+pub fn is_load_in(listed: &Listed, e: Event) -> bool
+    ensures { λ r. ⌜ r ≡ isLoad (viewIn (now (listed .entry)) e) ⌝ }
+{
+    if is_register(listed, e) {
+        return false;
+    }
+    is_load(e)
 }
 
 // Whether two events are the same, the marks of loads and the code lines apart.

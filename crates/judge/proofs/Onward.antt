@@ -1,31 +1,33 @@
 -- The answers, one element on: at each element an answer stops with a refusal or goes on to the next, as a loop does. By the definitions, with the
 -- test taken apart. Assumes nothing.
-use mathlib.Core.Path.{_≡_, subst}
+use mathlib.Core.Path.{_≡_}
 use mathlib.Core.Logic.{_≢_}
-use mathlib.Core.Bool.{Bool, true, false, not, cond, _&&_, _||_}
+use mathlib.Core.Bool.{Bool, true, false, not, _&&_, _||_, or-true}
 use mathlib.Core.List.{List, _∷_}
 use Prim.Native.Nat.{ℕ, suc}
-use lib.Dec.{T, eqb, ltb, eqb-refl}
-use borrow.Author.Tests.{ne-eqb}
+use lib.Dec.{eqb, ltb}
+use borrow.Author.Tests.{eq-eqb, ne-eqb}
 use Rattle.event.specs.Kind.{has}
 use Rattle.event.specs.Answer.{answer}
+use Rattle.event.specs.Listed.{listed}
 use Rattle.event.specs.declared.Event.{Event}
 use Rattle.rules.specs.Fault.{Item, isGone}
 use Rattle.rules.specs.View.{View}
-use Rattle.rules.specs.Verdict.{entryAnswer, startAnswer, targetAnswer, targetFault, targetItem}
-use Rattle.rules.proofs.Truth.{taken}
-
-not-taken : {A : Type 0} (x y : A) (c : Bool) → c ≡ false → cond c x y ≡ y
-not-taken x y c e = rw e
+use Rattle.rules.specs.Verdict.{entryAnswer, startAnswerIn, targetAnswer, targetFault, targetItem}
 
 -- 7
-pub start-goes : (l v w : ℕ) (m n : List ℕ) → v ≡ w → startAnswer l (v ∷ m) (w ∷ n) ≡ startAnswer (suc l) m n
-unfolding startAnswer
-start-goes l v w m n e = taken (startAnswer (suc l) m n) (answer 7 2 l) (eqb v w) (subst (λ z. T (eqb v z)) e (eqb-refl v))
+module _ (regs : List Bool) (l v w : ℕ) (m n : List ℕ) where
+  pub start-goes : v ≡ w → startAnswerIn regs l (v ∷ m) (w ∷ n) ≡ startAnswerIn regs (suc l) m n
+  unfolding startAnswerIn
+  start-goes e = rw (eq-eqb v w e)
 
-pub start-stops : (l v w : ℕ) (m n : List ℕ) → v ≢ w → startAnswer l (v ∷ m) (w ∷ n) ≡ answer 7 2 l
-unfolding startAnswer
-start-stops l v w m n ne = not-taken (startAnswer (suc l) m n) (answer 7 2 l) (eqb v w) (ne-eqb v w ne)
+  pub start-skips : listed regs l ≡ true → startAnswerIn regs l (v ∷ m) (w ∷ n) ≡ startAnswerIn regs (suc l) m n
+  unfolding startAnswerIn
+  start-skips h = rw (h, or-true (eqb v w))
+
+  pub start-stops : v ≢ w → listed regs l ≡ false → startAnswerIn regs l (v ∷ m) (w ∷ n) ≡ answer 7 2 l
+  unfolding startAnswerIn
+  start-stops ne h = rw (ne-eqb v w ne, h)
 
 -- 9: the test, for a kept number
 pub entry-goes : (n i k : ℕ) (b ks : List ℕ) → (not (isGone k) && (ltb n k || has k b)) ≡ false → entryAnswer n i b (k ∷ ks) ≡ entryAnswer n (suc i) (k ∷ b) ks

@@ -1,4 +1,4 @@
-// The judge: the answer to two traces and a matching that were read, 7 to 16, in a pass or two for each question.
+// The judge: the answer to two traces and a matching that were read, 7 to 16, in a pass or two for each question, under a list of registers.
 pub mod entries;
 pub mod marks;
 pub mod start;
@@ -7,13 +7,13 @@ pub mod target;
 ghost use mathlib.Core.Path.{_≡_};
 ghost use Prim.Native.Nat.{_≤_};
 ghost use Rattle.event.specs.Room.{Placed, wholeEvents, capacity};
-ghost use Rattle.rules.specs.View.{view};
-ghost use Rattle.rules.specs.Verdict.{verdict};
+ghost use Rattle.rules.specs.Verdict.{verdictIn};
 use entries::entry_answer;
 use event::Answer;
 use event::Entry;
 use event::WORDS;
 use event::Word;
+use event::listed::Listed;
 use event::memory::Memory;
 use fates::source::source_answer;
 use start::start_answer;
@@ -21,6 +21,7 @@ use target::target_answer;
 
 // The rooms are the parts that hold the events and the entries.
 pub fn judge(
+    listed: &Listed,
     start: Memory,
     target_start: Memory,
     source: &[Word],
@@ -31,10 +32,10 @@ pub fn judge(
     requires { ⌜ Placed (now source) ⌝ }
     requires { ⌜ capacity (now target) ≤ 800 ⌝ }
     requires { ⌜ Placed (now target) ⌝ }
-    ensures { λ r. ⌜ r ≡ verdict view (start .cells) («target_start» .cells)
+    ensures { λ r. ⌜ r ≡ verdictIn (now (listed .entry)) (start .cells) («target_start» .cells)
         (wholeEvents (now (source .entry))) (wholeEvents (now (target .entry))) (now (entries .entry)) ⌝ }
 {
-    let begun = start_answer(start, target_start);
+    let begun = start_answer(listed, start, target_start);
     if begun.number != 0 {
         return begun;
     }
@@ -47,9 +48,9 @@ pub fn judge(
     if named.number != 0 {
         return named;
     }
-    let found = source_answer(source, target, entries);
+    let found = source_answer(listed, source, target, entries);
     if found.number != 0 {
         return found;
     }
-    target_answer(target, &marks)
+    target_answer(listed, target, &marks)
 }

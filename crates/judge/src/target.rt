@@ -3,7 +3,7 @@ ghost use mathlib.Core.Path.{_≡_};
 ghost use mathlib.Core.List.{List, []};
 ghost use Prim.Native.Nat.{ℕ, _≤_, _<_};
 ghost use Rattle.event.specs.Room.{Placed, wholeEvents, capacity};
-ghost use Rattle.rules.specs.View.{view};
+ghost use Rattle.rules.specs.View.{viewIn};
 ghost use Rattle.rules.specs.Verdict.{targetAnswer};
 ghost use Rattle.judge.specs.Pass.{Marked, targetFaultBy, unsupportedBy};
 use crate::marks::is_marked;
@@ -13,9 +13,10 @@ use event::WORDS;
 use event::Word;
 use event::index_of;
 use event::kind::is_load_kind;
+use event::listed::Listed;
 use event::room::get;
-use fates::view::is_load;
-use fates::view::is_wall;
+use fates::view::is_load_in;
+use fates::view::is_wall_in;
 
 // Whether a target event has no source and may not be inserted: it is no load, or the first access to its location since the last
 // synchronising event.
@@ -44,23 +45,23 @@ fn target_fault(kind: Word, unsupported: bool) -> Number
     0
 }
 
-pub(crate) fn target_answer(target: &[Word], marks: &[u64; 13]) -> Answer
+pub(crate) fn target_answer(listed: &Listed, target: &[Word], marks: &[u64; 13]) -> Answer
     requires { ⌜ capacity (now target) ≤ 800 ⌝ }
     requires { ⌜ Placed (now target) ⌝ }
-    ensures { λ r. ⌜ ((ns : List ℕ) → Marked (now (marks .entry)) ns → r ≡ targetAnswer view ns 1 [] (wholeEvents (now (target .entry)))) ⌝ }
+    ensures { λ r. ⌜ ((ns : List ℕ) → Marked (now (marks .entry)) ns → r ≡ targetAnswer (viewIn (now (listed .entry))) ns 1 [] (wholeEvents (now (target .entry)))) ⌝ }
 {
     let mut fresh: [bool; 256] = [true; 256];
     let mut k: usize = 0;
     while k < target.len() / WORDS {
         let e = get(target, k);
         let at = index_of(e.place);
-        let unsupported = is_unsupported(is_marked(marks, k + 1), is_load(e), fresh[at]);
+        let unsupported = is_unsupported(is_marked(marks, k + 1), is_load_in(listed, e), fresh[at]);
         let fault = target_fault(e.kind, unsupported);
         if fault != 0 {
             return Answer::new(fault, 2, k + 1);
         }
         k += 1;
-        if is_wall(e) {
+        if is_wall_in(listed, e) {
             fresh = [true; 256];
             continue;
         }

@@ -9,13 +9,15 @@ use borrow.Author.Tests.{le-leb}
 use lib.Dec.{eqb, ltb}
 use lib.ListN.{length}
 use Rattle.event.specs.Kind.{has, isLoadKind, places}
+use Rattle.event.specs.Listed.{listed, noneListed}
 use Rattle.event.specs.Answer.{first, InTable}
 use Rattle.event.specs.declared.Event.{Event}
 use Rattle.event.proofs.Answers.{Among, Given, none, one, among-cond, given-cond, given-fault, given-in, in-cond, in-first}
 use Rattle.laws.proofs.Cases.{by-cond}
-use Rattle.rules.specs.View.{View}
+use Rattle.rules.specs.View.{View, viewIn}
 use Rattle.rules.specs.Fault.{Item, item, fate, fateOf, isGone, unlike, wallGone, crossed, loadGone, storeGone, unsupported}
-use Rattle.rules.specs.Verdict.{startAnswer, countAnswer, entryAnswer, keepFault, removalFault, sourceFault, targetFault, items, targetItem, sourceAnswer, targetAnswer, verdict}
+use Rattle.rules.specs.Verdict.{startAnswerIn, countAnswer, entryAnswer, keepFault, removalFault, sourceFault, targetFault, items, targetItem}
+use Rattle.rules.specs.Verdict.{inOrder, sourceAnswer, targetAnswer, verdict, verdictIn}
 
 -- the numbers of the tests over source events and target events
 abbrev pub sourceFaults : List ℕ
@@ -46,6 +48,21 @@ entries-given n i b [] h = none
 entries-given n i b (k ∷ ks) h =
     given-cond _ _ (not (isGone k) && (ltb n k || has k b)) (one refl h) (entries-given n (suc i) (k ∷ b) ks (omega arith))
 
+-- 7 by its number alone
+pub start-among : (regs : List Bool) (l : ℕ) (c d : List ℕ) → Among (7 ∷ []) (startAnswerIn regs l c d)
+unfolding startAnswerIn
+start-among regs l [] d = none
+start-among regs l (v ∷ c) [] = none
+start-among regs l (v ∷ c) (w ∷ d) = among-cond _ (eqb v w || listed regs l) (start-among regs (suc l) c d) (one refl)
+
+-- its place is a location
+start-in : (regs : List Bool) (l : ℕ) (c d : List ℕ) → l + length c ≤ places → InTable (startAnswerIn regs l c d)
+unfolding startAnswerIn
+start-in regs l [] d h = refl
+start-in regs l (v ∷ c) [] h = refl
+start-in regs l (v ∷ c) (w ∷ d) h =
+    in-cond (eqb v w || listed regs l) _ _ (start-in regs (suc l) c d (omega arith)) (le-leb l 255 (omega arith))
+
 module _ (view : Event → View) where
   pub source-given : (t : List Event) (i : ℕ) (b : List Item) (s : List Event) (ns : List ℕ) → 1 ≤ i → Given sourceFaults 1 (sourceAnswer view t i b s ns)
   unfolding sourceAnswer
@@ -63,38 +80,34 @@ module _ (view : Event → View) where
       let x = targetItem view ns k e in
       given-fault _ _ (targetFault (e .kind) b x) k (target-fault (e .kind) b x) h (target-given ns (suc k) (x ∷ b) t (omega arith))
 
-  -- 7 and 8 by their numbers alone
-  pub start-among : (l : ℕ) (c d : List ℕ) → Among (7 ∷ []) (startAnswer l c d)
-  unfolding startAnswer
-  start-among l [] d = none
-  start-among l (v ∷ c) [] = none
-  start-among l (v ∷ c) (w ∷ d) = among-cond _ (eqb v w) (start-among (suc l) c d) (one refl)
-
+  -- 8 by its number alone
   pub count-among : (s : List Event) (ns : List ℕ) → Among (8 ∷ []) (countAnswer s ns)
   unfolding countAnswer
   count-among s ns = among-cond _ (eqb (length ns) (length s)) none (one refl)
-
-  -- 7's place is a location
-  start-in : (l : ℕ) (c d : List ℕ) → l + length c ≤ places → InTable (startAnswer l c d)
-  unfolding startAnswer
-  start-in l [] d h = refl
-  start-in l (v ∷ c) [] h = refl
-  start-in l (v ∷ c) (w ∷ d) h = in-cond (eqb v w) _ _ (start-in (suc l) c d (omega arith)) (le-leb l 255 (omega arith))
 
   count-in : (s : List Event) (ns : List ℕ) → InTable (countAnswer s ns)
   unfolding countAnswer
   count-in s ns = in-cond (eqb (length ns) (length s)) _ _ refl refl
 
-  -- "Numbers that come back": the verdict is a row of the table
-  pub verdict-in : (m n : List ℕ) (s t : List Event) (ns : List ℕ) → length m ≡ places → InTable (verdict view m n s t ns)
-  unfolding verdict
-  verdict-in m n s t ns h =
-      let a = startAnswer 0 m n in
+  -- the answers in their order
+  order-in : (regs : List Bool) (m n : List ℕ) (s t : List Event) (ns : List ℕ) → length m ≡ places
+      → InTable (inOrder view (startAnswerIn regs 0 m n) s t ns)
+  order-in regs m n s t ns h =
+      let a = startAnswerIn regs 0 m n in
       let b = countAnswer s ns in
       let c = entryAnswer (length t) 1 [] ns in
       let d = sourceAnswer view t 1 [] s ns in
       let e = targetAnswer view ns 1 [] t in
-      in-first a (first b (first c (first d e))) (start-in 0 m n (omega arith))
+      in-first a (first b (first c (first d e))) (start-in regs 0 m n (omega arith))
       (in-first b (first c (first d e)) (count-in s ns)
       (in-first c (first d e) (given-in _ _ refl (entries-given (length t) 1 [] ns (omega arith)))
       (in-first d e (given-in _ _ refl (source-given t 1 [] s ns (omega arith))) (given-in _ _ refl (target-given ns 1 [] t (omega arith))))))
+
+  -- "Numbers that come back": the verdict is a row of the table
+  pub verdict-in : (m n : List ℕ) (s t : List Event) (ns : List ℕ) → length m ≡ places → InTable (verdict view m n s t ns)
+  unfolding verdict
+  verdict-in = order-in noneListed
+
+pub listed-verdict-in : (regs : List Bool) (m n : List ℕ) (s t : List Event) (ns : List ℕ) → length m ≡ places → InTable (verdictIn regs m n s t ns)
+unfolding verdictIn
+listed-verdict-in regs = order-in (viewIn regs) regs

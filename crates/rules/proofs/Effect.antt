@@ -8,6 +8,7 @@ use lib.ListN.{length-set, length, getD, set}
 use lib.Seq.{set-getD}
 use lib.Dec.{T, eqb}
 use Rattle.event.specs.Kind.{used, row, lawful, plain, places}
+use Rattle.event.specs.Listed.{isRegister, steppedIn}
 use Rattle.event.specs.Memory.{after, latest, left, stepped}
 use Rattle.event.proofs.Lawful.{place-below}
 use Rattle.event.proofs.Table.{plain-load, plain-store}
@@ -15,7 +16,7 @@ use Rattle.event.specs.declared.Event.{Event}
 use Rattle.event.specs.declared.memory.Memory.{Memory}
 use Rattle.event.specs.declared.memory.Stepped.{Stepped}
 use Rattle.laws.proofs.Cases.{by-cond}
-use Rattle.rules.specs.View.{view, View, load, store, wall}
+use Rattle.rules.specs.View.{view, viewIn, View, load, store, wall}
 use Rattle.rules.proofs.Truth.{T-true}
 
 abbrev pub cell : Memory → ℕ → ℕ
@@ -40,13 +41,16 @@ kinds e = go (plain e) (row (e .kind) .reads) refl refl
     go false d p r = is-wall
 
 -- what is right is lawful
-pub right-lawful : (m : Memory) (e : Event) → T (stepped m e .right) → T (lawful e)
+latest-lawful : (m : Memory) (e : Event) → T (stepped m e .right) → T (lawful e)
 unfolding stepped
-right-lawful m e h = go (lawful e) (record { memory = record { cells = after (m .cells) e }; right = latest (m .cells) e }) h
+latest-lawful m e h = go (lawful e) (record { memory = record { cells = after (m .cells) e }; right = latest (m .cells) e }) h
   where
     go : (c : Bool) (r : Stepped) → T (cond {A = Stepped} c r (record { memory = m; right = false }) .right) → T c
     go true r h = tt
     go false r h = h
+
+pub right-lawful : (regs : List Bool) (m : Memory) (e : Event) → T (steppedIn regs m e .right) → T (lawful e)
+right-lawful regs m e = by-cond (λ c. T c → T (lawful e)) (isRegister regs e) (λ h. h) (latest-lawful m e)
 
 -- what a plain event does
 abbrev pub act : View → Memory → Stepped
@@ -76,13 +80,19 @@ bounds-of e (is-load k r) l = place-below e (T-true (lawful e) l)
 bounds-of e (is-store k r) l = place-below e (T-true (lawful e) l)
 bounds-of e is-wall l = tt
 
--- what is asked of a way to see events: a plain event acts by what is seen of it, within the memory
-pub record Truthful (look : Event → View) : Type 0 where
-  pub acts : (m : Memory) (e : Event) → T (lawful e) → Plain (look e) → stepped m e ≡ act (look e) m
+-- what is asked of a way to see events under a list: a plain event acts by what is seen of it, within the memory
+pub record Truthful (regs : List Bool) (look : Event → View) : Type 0 where
+  pub acts : (m : Memory) (e : Event) → T (lawful e) → Plain (look e) → steppedIn regs m e ≡ act (look e) m
   pub bounds : (e : Event) → T (lawful e) → Bound (look e)
 
-pub truthful : Truthful view
-truthful = record { acts = λ m e l p. acts-of m e (kinds e) l p; bounds = λ e l. bounds-of e (kinds e) l }
+-- what is plain under the list is no register, and acts as ever
+pub truthful : (regs : List Bool) → Truthful regs (viewIn regs)
+truthful regs = record { acts = λ m e l. plainly m e l (isRegister regs e); bounds = λ e l. by-cond Bound (isRegister regs e) tt (bounds-of e (kinds e) l) }
+  where
+    plainly : (m : Memory) (e : Event) → T (lawful e) → (c : Bool) → Plain (cond c wall (view e))
+        → _≡_ {A = Stepped} (record { memory = stepped m e .memory; right = cond c (lawful e) (stepped m e .right) }) (act (cond c wall (view e)) m)
+    plainly m e l true p = absurd p
+    plainly m e l false p = acts-of m e (kinds e) l p
 
 length-after : (l : List ℕ) (e : Event) → length (after l e) ≡ length l
 unfolding after

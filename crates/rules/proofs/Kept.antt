@@ -63,6 +63,6 @@ module _ (ns : List ℕ) (s t : List Event) (u : List Traced) (r : Entries (leng
       let q : _≡_ {A = ℕ} 0 1 = cc in absurd (omega arith))
 
 pub kept-and-gone : KeptAndGone
-kept-and-gone m n s t ns p u e =
+kept-and-gone regs m n s t ns p u e =
     let r = entries (length t) s ns (p .count) (p .entries) in
     (λ i ne. at-number ns s t u r e i (nth 0 ns i) refl ne, nowhere ns s t u r e)

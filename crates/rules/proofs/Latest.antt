@@ -11,12 +11,14 @@ use lib.ListN.{length}
 use lib.Seq.{getD-set-same, getD-set-other}
 use borrow.Author.Tests.{eqb-true, eqb-false}
 use Rattle.laws.proofs.Lists.{Each}
+use Rattle.event.specs.Listed.{noneListed, steppedIn}
 use Rattle.event.specs.Memory.{stepped}
 use Rattle.event.specs.Kind.{lawful, places}
 use Rattle.event.specs.declared.Event.{Event}
 use Rattle.event.specs.declared.memory.Memory.{Memory}
+use Rattle.event.specs.declared.memory.Stepped.{Stepped}
 use Rattle.rules.specs.View.{View, load, store, wall}
-use Rattle.rules.specs.Demand.{right}
+use Rattle.rules.specs.Demand.{right, rightIn}
 use Rattle.rules.specs.Fault.{Item, gone, item, stays, viewOf}
 use Rattle.rules.specs.Verdict.{items}
 use Rattle.rules.proofs.Word.{Agree, Letter, far, fits, goneLoad, goneStore, keptLoad, keptStore}
@@ -64,24 +66,24 @@ cell-put m p v l h = go (eqb l p) refl
     go true q = rw (eqb-true l p q) (getD-set-same (m .cells) p v 0 h)
     go false q = getD-set-other (m .cells) p l v 0 (eqb-false l p q)
 
-effect-of : (m : Memory) (e : Event) (v : View) → (Plain v → stepped m e ≡ act v m) → Bound v → length (m .cells) ≡ places → T (stepped m e .right)
-    → Effect (cell m) v (cell (stepped m e .memory))
+effect-of : (m : Memory) (r : Stepped) (v : View) → (Plain v → r ≡ act v m) → Bound v → length (m .cells) ≡ places → T (r .right)
+    → Effect (cell m) v (cell (r .memory))
 effect-of m e wall a b c h = tt
 effect-of m e (load p v u) a b c h = (sym (eqb→eq v (cell m p) (rw (a tt) at h)), λ l. rw (a tt))
 effect-of m e (store p v) a b c h = λ l. rw (a tt) (cell-put m p v l (omega arith))
 
-pub effect : {look : Event → View} → Truthful look → (m : Memory) (e : Event) → length (m .cells) ≡ places → T (stepped m e .right)
-    → Effect (cell m) (look e) (cell (stepped m e .memory))
-effect {look} truthful m e c h =
-    let l = right-lawful m e h in effect-of m e (look e) (truthful .acts m e l) (truthful .bounds e l) c h
+pub effect : {regs : List Bool} {look : Event → View} → Truthful regs look → (m : Memory) (e : Event) → length (m .cells) ≡ places
+    → T (steppedIn regs m e .right) → Effect (cell m) (look e) (cell (stepped m e .memory))
+effect {regs} {look} truthful m e c h =
+    let l = right-lawful regs m e h in effect-of m (steppedIn regs m e) (look e) (truthful .acts m e l) (truthful .bounds e l) c h
 
-module _ (look : Event → View) (truthful : Truthful look) where
-  agree : (l : ℕ) (m : Memory) (n : Option ℕ) {s : List Event} {x : List Item} → Over (Faces look) s x → length (m .cells) ≡ places → T (right m s)
+module _ (regs : List Bool) (look : Event → View) (truthful : Truthful regs look) where
+  agree : (l : ℕ) (m : Memory) (n : Option ℕ) {s : List Event} {x : List Item} → Over (Faces look) s x → length (m .cells) ≡ places → T (rightIn regs m s)
       → fits n (cell m l) → Agree n (word l x)
   agree l m n over-nil c h f = tt
   agree l m n (over-cons {x = e} {y = y} {s = s} {t = x} q o) c h f =
-      let a : T (stepped m e .right) = and-left (stepped m e .right) (right (stepped m e .memory) s) h in
-      let b : T (right (stepped m e .memory) s) = and-right (stepped m e .right) (right (stepped m e .memory) s) h in
+      let a : T (steppedIn regs m e .right) = and-left (steppedIn regs m e .right) (rightIn regs (stepped m e .memory) s) h in
+      let b : T (rightIn regs (stepped m e .memory) s) = and-right (steppedIn regs m e .right) (rightIn regs (stepped m e .memory) s) h in
       agree₁ l y n (cell m) (cell (stepped m e .memory)) (word l x) (rw q (effect truthful m e c a)) f
       (λ k g. agree l (stepped m e .memory) k o (step-length m e ∙ c) b g)
 
@@ -94,14 +96,19 @@ module _ (look : Event → View) (truthful : Truthful look) where
   over-targets ns k [] = over-nil
   over-targets ns k (e ∷ t) = over-cons refl (over-targets ns (suc k) t)
 
-  pub agrees-source : (m : Memory) (s : List Event) (ns : List ℕ) → length (m .cells) ≡ places → length ns ≡ length s → T (right m s) → Agrees (items look s ns)
+  pub agrees-source : (m : Memory) (s : List Event) (ns : List ℕ) → length (m .cells) ≡ places → length ns ≡ length s → T (rightIn regs m s) → Agrees (items look s ns)
   agrees-source m s ns c h r l = agree l m none (over-items s ns h) c r tt
 
-  pub agrees-target : (m : Memory) (ns : List ℕ) (t : List Event) → length (m .cells) ≡ places → T (right m t) → Agrees (targetItems look ns 1 t)
+  pub agrees-target : (m : Memory) (ns : List ℕ) (t : List Event) → length (m .cells) ≡ places → T (rightIn regs m t) → Agrees (targetItems look ns 1 t)
   agrees-target m ns t c r l = agree l m none (over-targets ns 1 t) c r tt
 
+pub all-lawful-in : (regs : List Bool) (m : Memory) (s : List Event) → T (rightIn regs m s) → Each (λ e. T (lawful e)) s
+all-lawful-in regs m [] h = tt
+all-lawful-in regs m (e ∷ s) h =
+    let q = steppedIn regs m e in (
+      right-lawful regs m e (and-left (q .right) (rightIn regs (q .memory) s) h),
+      all-lawful-in regs (q .memory) s (and-right (q .right) (rightIn regs (q .memory) s) h),
+    )
+
 pub all-lawful : (m : Memory) (s : List Event) → T (right m s) → Each (λ e. T (lawful e)) s
-all-lawful m [] h = tt
-all-lawful m (e ∷ s) h =
-    let q = stepped m e in
-    (right-lawful m e (and-left (q .right) (right (q .memory) s) h), all-lawful (q .memory) s (and-right (q .right) (right (q .memory) s) h))
+all-lawful = all-lawful-in noneListed

@@ -36,7 +36,8 @@ pub mod Effect
 pub mod Latest
 pub mod Values
 pub mod Along
--- the theorem, what it leaves in memory, and the table of kinds beside the view
+-- the theorem, what it leaves in memory, and the table of kinds beside the view; without a list
+pub mod Unlisted
 pub mod Theorem
 pub mod Outcome
 pub mod Answers
@@ -44,3 +45,4 @@ pub mod Kept
 pub mod Recode
 pub mod Looks
 pub mod Sync
+pub mod Registers

@@ -12,7 +12,7 @@ use Rattle.event.specs.declared.Answer.{Answer}
 use Rattle.rules.specs.View.{view}
 use Rattle.rules.specs.Moves.{Phase, one, two, Move, Moves, Run, remove, next, done as ended, step}
 use Rattle.rules.specs.Run.{Traced, traced, old, number, changes, Realises}
-use Rattle.rules.specs.Verdict.{startAnswer, countAnswer, entryAnswer, sourceAnswer, targetAnswer, verdict}
+use Rattle.rules.specs.Verdict.{startAnswerIn, countAnswer, entryAnswer, sourceAnswer, targetAnswer, verdict}
 use Rattle.rules.specs.Demand.{Passed}
 use Rattle.rules.specs.Looks.{RealisedByLooks, aLoad, twoLoads, oneLoad}
 use Rattle.rules.proofs.Theorem.{demand-3}
@@ -26,11 +26,11 @@ abbrev entries : List ℕ
 entries = 0 ∷ 1 ∷ []
 
 pub refused : verdict view (empty .cells) (empty .cells) twoLoads oneLoad entries ≡ answer 13 1 1
-unfolding row verdict startAnswer countAnswer entryAnswer sourceAnswer targetAnswer
+unfolding row verdict startAnswerIn countAnswer entryAnswer sourceAnswer targetAnswer
 refused = refl
 
 passed : Passed empty empty twoLoads oneLoad entries
-unfolding row takes lawful stepped after latest startAnswer countAnswer entryAnswer
+unfolding row takes lawful stepped after latest startAnswerIn countAnswer entryAnswer
 passed = record {
   source-cells = refl;
   target-cells = refl;

@@ -9,20 +9,20 @@ use Rattle.event.specs.Room.{noEvent}
 use Rattle.event.specs.Answer.{answer, first}
 use Rattle.event.specs.declared.Answer.{Answer}
 use Rattle.event.specs.declared.Event.{Event}
-use Rattle.rules.specs.View.{view, same}
+use Rattle.rules.specs.View.{viewIn, same}
 use Rattle.rules.specs.Fault.{Fate, Item, item, fate, fateOf, gone, stays, nth, unlike}
-use Rattle.rules.specs.Verdict.{items, countAnswer, sourceFault, targetFault, targetItem, sourceAnswer, targetAnswer, verdict}
+use Rattle.rules.specs.Verdict.{items, countAnswer, sourceFault, targetFault, targetItem, sourceAnswer, targetAnswer, verdictIn}
 use Rattle.rules.specs.Recode.{recode, Recoded}
 
-module _ (c d : Event → ℕ) where
+module _ (regs : List Bool) (c d : Event → ℕ) where
   many : (s : List Event) → length (map (recode c) s) ≡ length s
   many [] = refl
   many (e ∷ s) = ap suc (many s)
 
-  seen : (s : List Event) (ns : List ℕ) → items view (map (recode c) s) ns ≡ items view s ns
+  seen : (s : List Event) (ns : List ℕ) → items (viewIn regs) (map (recode c) s) ns ≡ items (viewIn regs) s ns
   seen [] ns = refl
   seen (e ∷ s) [] = refl
-  seen (e ∷ s) (n ∷ ns) = ap (λ (l : List Item). item (view e) (fate n) ∷ l) (seen s ns)
+  seen (e ∷ s) (n ∷ ns) = ap (λ (l : List Item). item (viewIn regs e) (fate n) ∷ l) (seen s ns)
 
   same-at : (e : Event) (t : List Event) (i : ℕ) → same (recode c e) (getD (map (recode d) t) i noEvent) ≡ same e (getD t i noEvent)
   same-at e [] i = refl
@@ -35,19 +35,19 @@ module _ (c d : Event → ℕ) where
   unlike-at e t (stays w (suc i)) = ap not (same-at e t i)
 
   source : (t : List Event) (i : ℕ) (b : List Item) (s : List Event) (ns : List ℕ)
-      → sourceAnswer view (map (recode d) t) i b (map (recode c) s) ns ≡ sourceAnswer view t i b s ns
+      → sourceAnswer (viewIn regs) (map (recode d) t) i b (map (recode c) s) ns ≡ sourceAnswer (viewIn regs) t i b s ns
   unfolding sourceAnswer
   source t i b [] ns = refl
   source t i b (e ∷ s) [] = refl
   source t i b (e ∷ s) (n ∷ ns) =
-      let x = item (view e) (fate n) in
+      let x = item (viewIn regs e) (fate n) in
       rw (unlike-at e t (fateOf x), seen s ns, source t (suc i) (x ∷ b) s ns)
 
-  target : (ns : List ℕ) (k : ℕ) (b : List Item) (t : List Event) → targetAnswer view ns k b (map (recode c) t) ≡ targetAnswer view ns k b t
+  target : (ns : List ℕ) (k : ℕ) (b : List Item) (t : List Event) → targetAnswer (viewIn regs) ns k b (map (recode c) t) ≡ targetAnswer (viewIn regs) ns k b t
   unfolding targetAnswer
   target ns k b [] = refl
-  target ns k b (e ∷ t) = rw (target ns (suc k) (targetItem view ns k e ∷ b) t)
+  target ns k b (e ∷ t) = rw (target ns (suc k) (targetItem (viewIn regs) ns k e ∷ b) t)
 
 pub recoded : Recoded
-unfolding verdict countAnswer
-recoded c d m n s t ns = rw (many c d s, many d d t, source c d t 1 [] s ns, target d d ns 1 [] t)
+unfolding verdictIn countAnswer
+recoded regs c d m n s t ns = rw (many regs c d s, many regs d d t, source regs c d t 1 [] s ns, target regs d d ns 1 [] t)

@@ -1,11 +1,13 @@
 -- What it means for events to be the same, marks and code lines apart: each event is its own like, and the rules see two such events alike. Assumes nothing.
 use mathlib.Core.Path.{_≡_}
 use mathlib.Core.Bool.{Bool, true, false, cond, _&&_, _||_}
+use mathlib.Core.List.{List}
 use Prim.Native.Nat.{ℕ}
 use lib.Dec.{T, eqb, eqb→eq, eqb-refl}
 use Rattle.event.specs.declared.Event.{Event}
 use Rattle.event.specs.Kind.{used, row, plain, isLoadKind}
-use Rattle.rules.specs.View.{same, view, load, store, wall}
+use Rattle.event.specs.Listed.{isRegister}
+use Rattle.rules.specs.View.{same, view, viewIn, load, store, wall}
 use Rattle.rules.proofs.Matching.{Alike, equal, marked}
 use Rattle.rules.proofs.Truth.{and, and-left, and-right, or-right}
 
@@ -51,3 +53,11 @@ alike e f h =
     let r = shared e f h in
     rw (r .kinds, r .places, r .firsts)
     (alike-view (plain f) (row (f .kind) .reads) (f .place) (f .first) (eqb (e .order) used) (eqb (f .order) used))
+
+-- a register's like is a register
+pub alike-in : (regs : List Bool) (e f : Event) → T (same e f) → Alike (viewIn regs e) (viewIn regs f)
+alike-in regs e f h = let r = shared e f h in go (isRegister regs e) (isRegister regs f) (rw (r .kinds, r .places)) (alike e f h)
+  where
+    go : (c d : Bool) → c ≡ d → Alike (view e) (view f) → Alike (cond c wall (view e)) (cond d wall (view f))
+    go true d q a = rw (← q) equal
+    go false d q a = rw (← q) a

@@ -1,15 +1,17 @@
 -- Document 01, "Which order suits which kind is one fixed table": what the rules do not move across is what the table calls synchronising. A test over
 -- the table: a kind that is not plain synchronises. Assumes nothing.
 use Prim.Native.Nat.{ℕ}
-use mathlib.Core.Bool.{Bool, true, false, not, cond, _&&_, _||_, false≢true}
-use mathlib.Core.Path.{_≡_, refl}
+use mathlib.Core.Bool.{Bool, true, false, not, cond, _&&_, _||_, false≢true, or-false, or-true}
+use mathlib.Core.List.{List}
+use mathlib.Core.Path.{_≡_, refl, sym, _∙_}
 use Rattle.event.specs.Kind.{row, takes, lawful, isLocation}
+use Rattle.event.specs.Listed.{isRegister}
 use Rattle.event.specs.declared.Event.{Event}
 use Rattle.event.specs.declared.kind.Orders.{Orders}
 use Rattle.event.specs.declared.kind.Orders.the-variants.{Bare, Marks, Reads, Writes, Updates, Fences, NoKind}
 use Rattle.event.proofs.Lawful.{order-of}
 use Rattle.event.proofs.Table.{each-row}
-use Rattle.rules.specs.View.{view, View, wall, isWall}
+use Rattle.rules.specs.View.{view, viewIn, View, wall, isWall}
 
 -- a kind at all
 abbrev isKind : Orders → Bool
@@ -49,3 +51,11 @@ wall-sync e h =
     seen (isKind (row (e .kind) .orders)) (isLocation (row (e .kind) .place)) (row (e .kind) .sync) (row (e .kind) .reads) _ _ refl refl
     (a-kind (row (e .kind) .orders) (e .order) (order-of e h))
     (synchronises (e .kind))
+
+-- under a list, and the registers
+pub wall-in : (regs : List Bool) (e : Event) → lawful e ≡ true → isWall (viewIn regs e) ≡ (row (e .kind) .sync || isRegister regs e)
+wall-in regs e h = go (isRegister regs e)
+  where
+    go : (c : Bool) → isWall (cond c wall (view e)) ≡ (row (e .kind) .sync || c)
+    go true = sym (or-true (row (e .kind) .sync))
+    go false = wall-sync e h ∙ sym (or-false (row (e .kind) .sync))

@@ -1,22 +1,27 @@
--- Document 01, "Numbers that come back": the answer to two traces and a matching that were read without refusal, and the order of its
--- tests. Places count from 1, but for a location. Assumes nothing.
-use mathlib.Core.Bool.{not, cond, _&&_, _||_}
+-- Document 01, "Numbers that come back", and document 02, C-16: the answer to two traces and a matching that were read without refusal, and the
+-- order of its tests. Places count from 1, but for a location. Assumes nothing.
+use mathlib.Core.Bool.{Bool, not, cond, _&&_, _||_}
 use mathlib.Core.List.{List, [], _∷_}
 use Prim.Native.Nat.{ℕ, suc}
 use lib.Dec.{eqb, ltb}
 use lib.ListN.{length}
 use Rattle.event.specs.Kind.{isLoadKind, has}
+use Rattle.event.specs.Listed.{listed, noneListed}
 use Rattle.event.specs.declared.Event.{Event}
 use Rattle.event.specs.declared.Answer.{Answer}
 use Rattle.event.specs.Answer.{answer, done, first}
-use Rattle.rules.specs.View.{View}
+use Rattle.rules.specs.View.{View, viewIn}
 use Rattle.rules.specs.Fault.{Item, item, stays, fate, fateOf, isGone, unlike, wallGone, crossed, loadGone, storeGone, unsupported}
 
--- 7: starting values differ, from the location l on; the place is the lowest such location.
-unfoldable pub startAnswer : ℕ → List ℕ → List ℕ → Answer
-startAnswer l [] n = done
-startAnswer l (v ∷ m) [] = done
-startAnswer l (v ∷ m) (w ∷ n) = cond (eqb v w) (startAnswer (suc l) m n) (answer 7 2 l)
+-- 7: starting values differ at a location that is not listed, from the location l on; the place is the lowest such location.
+unfoldable pub startAnswerIn : List Bool → ℕ → List ℕ → List ℕ → Answer
+startAnswerIn regs l [] n = done
+startAnswerIn regs l (v ∷ m) [] = done
+startAnswerIn regs l (v ∷ m) (w ∷ n) = cond (eqb v w || listed regs l) (startAnswerIn regs (suc l) m n) (answer 7 2 l)
+
+-- The same without a list.
+abbrev pub startAnswer : ℕ → List ℕ → List ℕ → Answer
+startAnswer = startAnswerIn noneListed
 
 -- 8: matching entries are not as many as source events; the place is their number.
 unfoldable pub countAnswer : List Event → List ℕ → Answer
@@ -76,10 +81,18 @@ module _ (view : Event → View) where
       let f = targetFault (e .kind) b x in
       cond (eqb f 0) (targetAnswer ns (suc k) (x ∷ b) t) (answer f 2 k)
 
-  -- The answer: 7, 8, 9 over all entries, then the source events, then the target events.
-  unfoldable pub verdict : List ℕ → List ℕ → List Event → List Event → List ℕ → Answer
-  verdict m n s t ns =
-      first (startAnswer 0 m n)
+  -- The answers in their order: that for the starting values, 8, 9 over all entries, then the source events, then the target events.
+  abbrev pub inOrder : Answer → List Event → List Event → List ℕ → Answer
+  inOrder start s t ns =
+      first start
       (first (countAnswer s ns)
       (first (entryAnswer (length t) 1 [] ns)
       (first (sourceAnswer t 1 [] s ns) (targetAnswer ns 1 [] t))))
+
+  -- The answer without a list.
+  unfoldable pub verdict : List ℕ → List ℕ → List Event → List Event → List ℕ → Answer
+  verdict m n s t ns = inOrder (startAnswer 0 m n) s t ns
+
+-- The answer under a list.
+unfoldable pub verdictIn : List Bool → List ℕ → List ℕ → List Event → List Event → List ℕ → Answer
+verdictIn regs m n s t ns = inOrder (viewIn regs) (startAnswerIn regs 0 m n) s t ns

@@ -1,9 +1,11 @@
--- Document 01, "Rules of change": what the rules see of an event, plain or synchronising. Assumes nothing.
+-- Document 01, "Rules of change", and document 02, C-16: what the rules see of an event, plain or synchronising. Assumes nothing.
 use mathlib.Core.Bool.{Bool, true, false, not, cond, _&&_, _||_}
 use mathlib.Core.Option.{Option, none, some}
+use mathlib.Core.List.{List}
 use Prim.Native.Nat.{ℕ}
 use lib.Dec.{eqb}
 use Rattle.event.specs.Kind.{used, row, plain, isLoadKind}
+use Rattle.event.specs.Listed.{isRegister}
 use Rattle.event.specs.declared.Event.{Event}
 
 -- A plain event is a load, which says whether its value is used, or a store; every synchronising event is a wall.
@@ -18,6 +20,10 @@ view e =
     cond (plain e)
     (cond (row (e .kind) .reads) (load (e .place) (e .first) (eqb (e .order) used)) (store (e .place) (e .first)))
     wall
+
+-- The same under a list: "A plain access to a listed location counts as synchronising everywhere".
+abbrev pub viewIn : List Bool → Event → View
+viewIn regs e = cond (isRegister regs e) wall (view e)
 
 -- It synchronises; it is a load.
 abbrev pub isWall : View → Bool

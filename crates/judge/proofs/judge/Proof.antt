@@ -1,5 +1,6 @@
 -- Each answer is handed on if it refuses, and the next is asked if it does not. Assumes nothing.
 use Prim.Native.Nat.{ℕ}
+use mathlib.Core.Bool.{Bool}
 use mathlib.Core.List.{List, []}
 use mathlib.Core.Path.{_≡_, refl, sym, _∙_, ap}
 use native.Mathlib.Omega.{arith}
@@ -9,8 +10,8 @@ use Rattle.event.specs.Answer.{answer, done, first}
 use Rattle.event.specs.Room.{onward, capacity}
 use Rattle.event.specs.declared.Answer.{Answer}
 use Rattle.event.specs.declared.Event.{Event}
-use Rattle.rules.specs.View.{view}
-use Rattle.rules.specs.Verdict.{countAnswer, entryAnswer, sourceAnswer, startAnswer, targetAnswer, verdict}
+use Rattle.rules.specs.View.{View, viewIn}
+use Rattle.rules.specs.Verdict.{countAnswer, entryAnswer, sourceAnswer, startAnswerIn, targetAnswer, verdictIn}
 use Rattle.fates.proofs.Events.{onward-length}
 use Rattle.judge.proofs.judge.Statement.{statement}
 use Rattle.judge.proofs.judge.Tie as tie
@@ -35,19 +36,23 @@ count-goes l ns h = rw (onward-length l 0 (capacity l), eq-eqb (length ns) (capa
 abbrev events : List ℕ → List Event
 events r = onward r 0 (capacity r)
 
-abbrev after-count : List ℕ → List ℕ → List ℕ → Answer
-after-count l t ns =
-    first (entryAnswer (capacity t) 1 [] ns) (first (sourceAnswer view (events t) 1 [] (events l) ns) (targetAnswer view ns 1 [] (events t)))
+abbrev after-count : (Event → View) → List ℕ → List ℕ → List ℕ → Answer
+after-count look l t ns =
+    first (entryAnswer (capacity t) 1 [] ns) (first (sourceAnswer look (events t) 1 [] (events l) ns) (targetAnswer look ns 1 [] (events t)))
 
-in-order : (m n l t ns : List ℕ) {r : Answer} → r ≡ first (startAnswer 0 m n) (first (countAnswer (events l) ns) (after-count l t ns))
-    → r ≡ verdict view m n (events l) (events t) ns
-unfolding verdict
-in-order m n l t ns e = rw (onward-length t 0 (capacity t)) e
+in-order : (regs : List Bool) (m n l t ns : List ℕ) {r : Answer}
+    → r ≡ first (startAnswerIn regs 0 m n) (first (countAnswer (events l) ns) (after-count (viewIn regs) l t ns))
+    → r ≡ verdictIn regs m n (events l) (events t) ns
+unfolding verdictIn
+in-order regs m n l t ns e = rw (onward-length t 0 (capacity t)) e
 
 -- the arguments
 module _ (c : tie.After-start-answer) where
   abbrev start : tie.Start
   start = c .before .before .before .before
+
+  abbrev regs : List Bool
+  regs = start .args .listed .now
 
   abbrev source : List ℕ
   source = start .args .source .now
@@ -61,13 +66,13 @@ module _ (c : tie.After-start-answer) where
 returns : tie.Need-returns
 returns c =
     let s = c .before .before in
-    in-order _ _ (source s) (target s) (entries s) (stops _ _ (s .start-answer .ensures) (c .if1 .taken))
+    in-order (regs s) _ _ (source s) (target s) (entries s) (stops _ _ (s .start-answer .ensures) (c .if1 .taken))
 
 returns-2 : tie.Need-returns-2
 returns-2 c =
     let s = c .before .before .before .before in
     let eight : c .new .result .number ≡ 0 → ⊥ = λ q. let o : _≡_ {A = ℕ} 8 0 = ap (λ (a : Answer). a .number) (sym (c .new .ensures)) ∙ q in omega arith in
-    in-order _ _ (source s) (target s) (entries s) (goes _ _ (s .start-answer .ensures) (c .before .before .if1 .left)
+    in-order (regs s) _ _ (source s) (target s) (entries s) (goes _ _ (s .start-answer .ensures) (c .before .before .if1 .left)
     (stops _ _ (c .new .ensures ∙ count-stops (source s) (entries s) (c .before .if2 .taken)) eight))
 
 -- the entries are as many as the source events
@@ -75,11 +80,11 @@ module _ (c : tie.Else2) where
   abbrev begun : tie.After-start-answer
   begun = c .before .before .before
 
-  on : {r : Answer} → r ≡ after-count (source begun) (target begun) (entries begun)
-      → r ≡ verdict view (start begun .args .start .cells) (start begun .args .target-start .cells) (events (source begun)) (events (target begun))
+  on : {r : Answer} → r ≡ after-count (viewIn (regs begun)) (source begun) (target begun) (entries begun)
+      → r ≡ verdictIn (regs begun) (start begun .args .start .cells) (start begun .args .target-start .cells) (events (source begun)) (events (target begun))
       (entries begun)
   on e =
-      in-order _ _ (source begun) (target begun) (entries begun) (goes _ _ (begun .start-answer .ensures) (c .before .if1 .left)
+      in-order (regs begun) _ _ (source begun) (target begun) (entries begun) (goes _ _ (begun .start-answer .ensures) (c .before .if1 .left)
       (goes _ _ (count-goes (source begun) (entries begun) (c .if2 .left)) refl e))
 
 returns-3 : tie.Need-returns-3

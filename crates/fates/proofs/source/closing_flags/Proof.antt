@@ -9,29 +9,29 @@ use lib.ListN.{length, getD, set, replicate, length-set}
 use Rattle.event.specs.declared.Event.{Event}
 use Rattle.event.specs.Room.{capacity}
 use Rattle.event.specs.Kind.{places}
-use Rattle.rules.specs.View.{view, isWall}
+use Rattle.rules.specs.View.{viewIn, isWall}
 use Rattle.rules.specs.Fault.{Item, fate, item}
 use Rattle.fates.specs.Pass.{closingAt, itemsFrom}
 use Rattle.fates.proofs.Closed.{Closed, closed-is, closed-plain, closed-start, closed-wall, flag-is, flags-next, items-before, items-end}
 use Rattle.fates.proofs.Events.{place-in}
 use Rattle.fates.proofs.Passes.{plain}
-use Rattle.fates.proofs.Sight.{sees}
+use Rattle.fates.proofs.Sight.{sees-in}
 use Rattle.fates.proofs.source.closing_flags.Statement.{statement}
 use Rattle.fates.proofs.source.closing_flags.Tie as tie
 
 -- the events from the index on are passed
-record Passed (source entries : List ℕ) (closing flags : List Bool) (i : ℕ) : Type 0 where
+record Passed (regs : List Bool) (source entries : List ℕ) (closing flags : List Bool) (i : ℕ) : Type 0 where
   bound : i ≤ capacity source
   closing-size : length closing ≡ places
   flags-size : length flags ≡ 800
-  closed : Closed closing (itemsFrom source entries i)
-  flagged : (k : ℕ) → i ≤ k → k < capacity source → getD flags k false ≡ closingAt source entries k
+  closed : Closed closing (itemsFrom regs source entries i)
+  flagged : (k : ℕ) → i ≤ k → k < capacity source → getD flags k false ≡ closingAt regs source entries k
 
 abbrev Inv-loop : tie.InvT-loop
-Inv-loop source entries closing₀ flags₀ i₀ closing flags i = Passed source entries closing flags i
+Inv-loop listed source entries closing₀ flags₀ i₀ closing flags i = Passed listed source entries closing flags i
 
 abbrev μ-loop : tie.MeasureT-loop
-μ-loop source entries closing₀ flags₀ i₀ closing flags i = i
+μ-loop listed source entries closing₀ flags₀ i₀ closing flags i = i
 
 -- the event before the index
 module _ (c : tie.After-index-of Inv-loop μ-loop) where
@@ -40,6 +40,9 @@ module _ (c : tie.After-index-of Inv-loop μ-loop) where
 
   abbrev begin : tie.Start Inv-loop μ-loop
   begin = turn .before .before .before
+
+  abbrev regs : List Bool
+  regs = begin .args .listed .now
 
   abbrev room : List ℕ
   room = begin .args .source .now
@@ -57,7 +60,7 @@ module _ (c : tie.After-index-of Inv-loop μ-loop) where
   entry = getD entries index 0
 
   abbrev behind : List Item
-  behind = itemsFrom room entries (turn .loop .i)
+  behind = itemsFrom regs room entries (turn .loop .i)
 
   in-room : c .index-of .result < places
   in-room = place-in room (begin .pre .1 .0) index (omega arith) event (c .before .get .ensures) (c .index-of .ensures)
@@ -68,26 +71,26 @@ module _ (c : tie.After-index-of Inv-loop μ-loop) where
   abbrev was : Bool
   was = getD (turn .loop .closing) (c .index-of .result) false
 
-  flags-are : (k : ℕ) → index ≤ k → k < capacity room → getD (set (turn .loop .flags) index was) k false ≡ closingAt room entries k
+  flags-are : (k : ℕ) → index ≤ k → k < capacity room → getD (set (turn .loop .flags) index was) k false ≡ closingAt regs room entries k
   flags-are =
-      flags-next (turn .loop .flags) (closingAt room entries) index (capacity room) step (omega arith)
-      (flag-is room entries index event step (c .before .get .ensures) (c .index-of .ensures) (turn .loop .inv .closed (c .index-of .result) in-room))
+      flags-next (turn .loop .flags) (closingAt regs room entries) index (capacity room) step (omega arith)
+      (flag-is regs room entries index event step (c .before .get .ensures) (c .index-of .ensures) (turn .loop .inv .closed (c .index-of .result) in-room))
       (turn .loop .inv .flagged)
 
-  passed : (cells : List Bool) → length cells ≡ places → Closed cells (item (view event) (fate entry) ∷ behind)
-      → Passed room entries cells (set (turn .loop .flags) index was) index
+  passed : (cells : List Bool) → length cells ≡ places → Closed cells (item (viewIn regs event) (fate entry) ∷ behind)
+      → Passed regs room entries cells (set (turn .loop .flags) index was) index
   passed cells size closed = record {
     bound = omega arith;
     closing-size = size;
     flags-size = simp length-set (turn .loop .inv .flags-size);
     closed =
-        let h = items-before room entries (begin .pre .1 .1) index (turn .loop .i) event entry step (omega arith) (c .before .get .ensures) refl in
+        let h = items-before regs room entries (begin .pre .1 .1) index (turn .loop .i) event entry step (omega arith) (c .before .get .ensures) refl in
         closed-is cells h closed;
     flagged = flags-are;
   }
 
-wall-is : (c : tie.After-is-wall Inv-loop μ-loop) {b : Bool} → c .is-wall .result ≡ b → isWall (view (event (c .before))) ≡ b
-wall-is c e = sym (c .is-wall .ensures) ∙ e
+wall-is : (c : tie.After-is-wall-in Inv-loop μ-loop) {b : Bool} → c .is-wall-in .result ≡ b → isWall (viewIn (regs (c .before)) (event (c .before))) ≡ b
+wall-is c e = sym (c .is-wall-in .ensures) ∙ e
 
 loop-holds : tie.Need-loop-holds Inv-loop μ-loop
 loop-holds c =
@@ -97,14 +100,14 @@ loop-holds c =
       bound = omega arith;
       closing-size = refl;
       flags-size = refl;
-      closed = closed-is (replicate places true) (items-end (b .args .source .now) (b .args .entries .now) e _ e) closed-start;
+      closed = closed-is (replicate places true) (items-end (b .args .listed .now) (b .args .source .now) (b .args .entries .now) e _ e) closed-start;
       flagged = λ k h i. absurd (omega arith);
     }
 
 loop-again : tie.Need-loop-again Inv-loop μ-loop
 loop-again c =
     let a = c .before .before in
-    passed a (replicate places true) refl (closed-wall (view (event a)) (wall-is (c .before) (c .if1 .taken)) _ (behind a))
+    passed a (replicate places true) refl (closed-wall (viewIn (regs a) (event a)) (wall-is (c .before) (c .if1 .taken)) _ (behind a))
 
 loop-again-2 : tie.Need-loop-again-2 Inv-loop μ-loop
 loop-again-2 c =
@@ -112,8 +115,8 @@ loop-again-2 c =
     let a = w .before in
     let t = turn a .loop in
     passed a _ (simp length-set (t .inv .closing-size))
-    (closed-plain (plain (sees (event a)) (wall-is w (c .before .before .before .if1 .left))) (entry a) (behind a) (t .closing) (a .index-of .ensures)
-    (in-room a) (t .inv .closing-size) (t .inv .closed) (c .before .before .is-load .ensures) (c .closing-after .ensures))
+    (closed-plain (plain (sees-in (regs a) (event a)) (wall-is w (c .before .before .before .if1 .left))) (entry a) (behind a) (t .closing) (a .index-of .ensures)
+    (in-room a) (t .inv .closing-size) (t .inv .closed) (c .before .before .is-load-in .ensures) (c .closing-after .ensures))
 
 pub closing-flags-spec : {M : Type 1} → statement M
 closing-flags-spec =

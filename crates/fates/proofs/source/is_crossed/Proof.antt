@@ -2,12 +2,13 @@
 use mathlib.Core.Path.{_≡_, sym, _∙_}
 use mathlib.Core.Bool.{Bool}
 use borrow.Author.Tests.{lt-ltb, le-ltb}
-use Rattle.rules.specs.View.{view, isWall}
+use Rattle.rules.specs.View.{viewIn, isWall}
 use Rattle.fates.proofs.source.is_crossed.Statement.{statement}
 use Rattle.fates.proofs.source.is_crossed.Tie as tie
 
-is : (b : Bool) (c : tie.After-is-wall) → c .is-wall .result ≡ b → isWall (view (c .before .args .e)) ≡ b
-is b c h = sym (c .is-wall .ensures) ∙ h
+is : (b : Bool) (c : tie.After-is-wall-in) → c .is-wall-in .result ≡ b
+    → isWall (viewIn (c .before .args .listed .now) (c .before .args .e)) ≡ b
+is b c h = sym (c .is-wall-in .ensures) ∙ h
 
 returns : tie.Need-returns
 returns c = rw (is _ (c .before .before) (c .before .if1 .taken))

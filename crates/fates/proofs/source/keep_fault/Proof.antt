@@ -10,10 +10,10 @@ gone-is : (c : tie.After-is-gone) {b : Bool} → c .is-gone .result ≡ b → is
 gone-is c h = sym (c .is-gone .ensures) ∙ h
 
 returns : tie.Need-returns
-returns c = rw (gone-is (c .before .before .before) (c .before .before .if1 .taken), sym (c .before .is-wall .ensures) ∙ c .if2 .taken)
+returns c = rw (gone-is (c .before .before .before) (c .before .before .if1 .taken), sym (c .before .is-wall-in .ensures) ∙ c .if2 .taken)
 
 returns-2 : tie.Need-returns-2
-returns-2 c = rw (gone-is (c .before .before .before) (c .before .before .if1 .taken), sym (c .before .is-wall .ensures) ∙ c .if2 .left)
+returns-2 c = rw (gone-is (c .before .before .before) (c .before .before .if1 .taken), sym (c .before .is-wall-in .ensures) ∙ c .if2 .left)
 
 returns-3 : tie.Need-returns-3
 returns-3 c = rw (sym (c .before .differs .ensures) ∙ c .if3 .taken, gone-is (c .before .before .before) (c .before .before .if1 .left))

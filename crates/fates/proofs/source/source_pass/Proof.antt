@@ -13,7 +13,7 @@ use Rattle.event.specs.declared.Answer.{Answer}
 use Rattle.event.specs.declared.Event.{Event}
 use Rattle.event.specs.Room.{eventAt, onward, capacity}
 use Rattle.event.specs.Kind.{places}
-use Rattle.rules.specs.View.{View, view, isLoad, isWall}
+use Rattle.rules.specs.View.{View, viewIn, isLoad, isWall}
 use Rattle.rules.specs.Fault.{Item, closing, fate, group, item}
 use Rattle.rules.specs.Verdict.{sourceAnswer, sourceFault}
 use Rattle.fates.specs.Pass.{closingAt, itemsFrom, takesOver, witnessOf, witnessed}
@@ -21,7 +21,7 @@ use Rattle.fates.specs.declared.source.Witness.{Witness}
 use Rattle.fates.proofs.Events.{drop-next, onward-next, place-in}
 use Rattle.fates.proofs.Onward.{source-goes, source-stops}
 use Rattle.fates.proofs.Passes.{plain}
-use Rattle.fates.proofs.Sight.{sees, sees-at}
+use Rattle.fates.proofs.Sight.{sees-in, sees-at}
 use Rattle.fates.proofs.Cells.{fault-at}
 use Rattle.fates.proofs.Tallied.{Tallied, right, tallied-plain, tallied-start, tallied-wall}
 use Rattle.fates.proofs.source.source_pass.Statement.{statement}
@@ -31,31 +31,31 @@ use Rattle.fates.proofs.source.source_pass.Tie as tie
 abbrev events : List ℕ → List Event
 events room = onward room 0 (capacity room)
 
-abbrev whole : List ℕ → List ℕ → List ℕ → Answer
-whole source target entries = sourceAnswer view (events target) 1 [] (events source) entries
+abbrev whole : List Bool → List ℕ → List ℕ → List ℕ → Answer
+whole regs source target entries = sourceAnswer (viewIn regs) (events target) 1 [] (events source) entries
 
 -- the events before the index are passed
-record Passed (source target entries : List ℕ) (fresh present : List Bool) (value here : List ℕ) (all walls i : ℕ) : Type 0 where
+record Passed (regs : List Bool) (source target entries : List ℕ) (fresh present : List Bool) (value here : List ℕ) (all walls i : ℕ) : Type 0 where
   bound : i ≤ length entries
   behind : List Item
   tallied : Tallied fresh present value here all walls behind
-  answers : whole source target entries ≡ sourceAnswer view (events target) (i + 1) behind (onward source i (capacity source - i)) (drop i entries)
+  answers : whole regs source target entries ≡ sourceAnswer (viewIn regs) (events target) (i + 1) behind (onward source i (capacity source - i)) (drop i entries)
 
 abbrev Inv-loop : tie.InvT-loop
-Inv-loop source target entries flags fresh₀ present₀ value₀ here₀ all₀ walls₀ i₀ fresh present value here all walls i =
-    Passed source target entries fresh present value here all walls i
+Inv-loop listed source target entries flags fresh₀ present₀ value₀ here₀ all₀ walls₀ i₀ fresh present value here all walls i =
+    Passed listed source target entries fresh present value here all walls i
 
 abbrev μ-loop : tie.MeasureT-loop
-μ-loop source target entries flags fresh₀ present₀ value₀ here₀ all₀ walls₀ i₀ fresh present value here all walls i =
+μ-loop listed source target entries flags fresh₀ present₀ value₀ here₀ all₀ walls₀ i₀ fresh present value here all walls i =
     length entries - i
 
-flag-told : (l ns : List ℕ) (j : ℕ) (e : Event) {p : ℕ} {w : Bool} → w ≡ closingAt l ns j → e ≡ eventAt l j → p ≡ e .place
-    → w ≡ closing (group p (itemsFrom l ns (j + 1)))
-flag-told l ns j e g q h = g ∙ rw (h, q)
+flag-told : (regs : List Bool) (l ns : List ℕ) (j : ℕ) (e : Event) {p : ℕ} {w : Bool} → w ≡ closingAt regs l ns j → e ≡ eventAt l j → p ≡ e .place
+    → w ≡ closing (group p (itemsFrom regs l ns (j + 1)))
+flag-told regs l ns j e g q h = g ∙ rw (h, q)
 
-none-left : (t : List Event) (k : ℕ) (b : List Item) (l : List ℕ) (i n : ℕ) (ns : List ℕ) → n ≡ 0 → sourceAnswer view t k b (onward l i n) ns ≡ done
+none-left : (look : Event → View) (t : List Event) (k : ℕ) (b : List Item) (l : List ℕ) (i n : ℕ) (ns : List ℕ) → n ≡ 0 → sourceAnswer look t k b (onward l i n) ns ≡ done
 unfolding onward sourceAnswer
-none-left t k b l i n ns e = rw e
+none-left look t k b l i n ns e = rw e
 
 over-told : (v : View) (n x : ℕ) (f h : Bool) (y : ℕ) {o d : Bool} (w : Witness) {w′ : Witness} → witnessed w ≡ cond o (some x) (witnessed w′)
     → o ≡ takesOver d n f → d ≡ isLoad v → w′ ≡ witnessOf h y
@@ -69,6 +69,9 @@ module _ (c : tie.After-index-of Inv-loop μ-loop) where
 
   abbrev begin : tie.Start Inv-loop μ-loop
   begin = turn .before .before .before .before
+
+  abbrev regs : List Bool
+  regs = begin .args .listed .now
 
   abbrev room : List ℕ
   room = begin .args .source .now
@@ -92,16 +95,16 @@ module _ (c : tie.After-index-of Inv-loop μ-loop) where
   behind = turn .loop .inv .behind
 
   abbrev here : Item
-  here = item (view event) (fate entry)
+  here = item (viewIn regs event) (fate entry)
 
   abbrev rest : List Event
   rest = onward room (index + 1) (capacity room - (index + 1))
 
   abbrev ahead : List Item
-  ahead = itemsFrom room entries (index + 1)
+  ahead = itemsFrom regs room entries (index + 1)
 
-  from-here : whole room target entries
-      ≡ sourceAnswer view (events target) (index + 1) behind (event ∷ rest) (entry ∷ drop (index + 1) entries)
+  from-here : whole regs room target entries
+      ≡ sourceAnswer (viewIn regs) (events target) (index + 1) behind (event ∷ rest) (entry ∷ drop (index + 1) entries)
   from-here =
       turn .loop .inv .answers
       ∙ rw (
@@ -115,8 +118,11 @@ module _ (c : tie.After-index-of Inv-loop μ-loop) where
   few : index < 800
   few = omega arith
 
+  shrinks : length entries - (index + 1) < length entries - index
+  shrinks = omega arith
+
   flag-is : getD (begin .args .flags .now) index false ≡ closing (group (c .index-of .result) ahead)
-  flag-is = flag-told room entries index event (begin .pre .1 .1 .1 index (omega arith)) (c .before .before .get .ensures) (c .index-of .ensures)
+  flag-is = flag-told regs room entries index event (begin .pre .1 .1 .1 index (omega arith)) (c .before .before .get .ensures) (c .index-of .ensures)
 
 -- its fault
 abbrev at : tie.After-event-fault Inv-loop μ-loop → tie.After-index-of Inv-loop μ-loop
@@ -126,24 +132,27 @@ module _ (c : tie.After-event-fault Inv-loop μ-loop) where
   told : sourceFault (events (target (at c))) (behind (at c)) (event (at c)) (here (at c)) (ahead (at c)) ≡ c .event-fault .result
   told =
       fault-at (events (target (at c))) (event (at c)) (behind (at c)) (ahead (at c)) _ _ _ (entry (at c))
-      (sees-at (event (at c)) (at c .index-of .ensures))
+      (sees-at (regs (at c)) (event (at c)) (at c .index-of .ensures))
       (right (turn (at c) .loop .inv .tallied) (ahead (at c)) (at c .index-of .result) (in-room (at c)) (flag-is (at c))
       (c .before .before .new2 .ensures) (c .before .before .before .before .new .ensures) (c .before .new3 .ensures))
       ∙ sym (c .event-fault .ensures)
 
   goes-on : c .event-fault .result ≡ 0 → {fresh present : List Bool} {value tops : List ℕ} {all walls : ℕ}
       → Tallied fresh present value tops all walls (here (at c) ∷ behind (at c))
-      → Passed (room (at c)) (target (at c)) (entries (at c)) fresh present value tops all walls (index (at c) + 1)
+      → Passed (regs (at c)) (room (at c)) (target (at c)) (entries (at c)) fresh present value tops all walls (index (at c) + 1)
   goes-on z t = record {
     bound = omega arith;
     behind = here (at c) ∷ behind (at c);
     tallied = t;
-    answers = from-here (at c) ∙ (source-goes view (events (target (at c))) _ (behind (at c)) (event (at c)) (rest (at c)) (entry (at c)) _ (told ∙ z)
+    answers = from-here (at c) ∙ (source-goes (viewIn (regs (at c))) (events (target (at c))) _ (behind (at c)) (event (at c)) (rest (at c)) (entry (at c)) _ (told ∙ z)
         ∙ rw (← add-one (index (at c) + 1)));
   }
 
-wall-is : (c : tie.After-is-wall Inv-loop μ-loop) {b : Bool} → c .is-wall .result ≡ b → isWall (view (event (at (c .before .before .before)))) ≡ b
-wall-is c e = sym (c .is-wall .ensures) ∙ e
+abbrev seen : tie.After-event-fault Inv-loop μ-loop → View
+seen c = viewIn (regs (at c)) (event (at c))
+
+wall-is : (c : tie.After-is-wall-in Inv-loop μ-loop) {b : Bool} → c .is-wall-in .result ≡ b → isWall (seen (c .before .before .before)) ≡ b
+wall-is c e = sym (c .is-wall-in .ensures) ∙ e
 
 loop-holds : tie.Need-loop-holds Inv-loop μ-loop
 loop-holds c =
@@ -154,14 +163,14 @@ loop-holds c =
 returns : tie.Need-returns Inv-loop μ-loop
 returns c =
     let f = c .before .before in
-    c .new4 .ensures ∙ sym (from-here (at f) ∙ source-stops view _ _ _ _ _ _ _ (c .before .if1 .taken) (told f))
+    c .new4 .ensures ∙ sym (from-here (at f) ∙ source-stops (viewIn (regs (at f))) _ _ _ _ _ _ _ (c .before .if1 .taken) (told f))
 
 loop-again : tie.Need-loop-again Inv-loop μ-loop
 loop-again c =
     let w = c .before .before in
     let f = w .before .before .before in
     goes-on f (w .before .before .if1 .left)
-    (tallied-wall (entry (at f)) (turn (at f) .loop .inv .tallied) (view (event (at f))) (wall-is w (c .before .if2 .taken))
+    (tallied-wall (entry (at f)) (turn (at f) .loop .inv .tallied) (seen f) (wall-is w (c .before .if2 .taken))
     (w .before .top-after .ensures) (c .top-after2 .ensures))
 
 loop-again-2 : tie.Need-loop-again-2 Inv-loop μ-loop
@@ -173,17 +182,17 @@ loop-again-2 c =
     let p = a .index-of .result in
     let h = wall-is w (c .before .before .before .before .if2 .left) in
     goes-on f (w .before .before .if1 .left)
-    (tallied-plain (entry a) (t .inv .tallied) (plain (sees (event a)) h) h (a .index-of .ensures) (in-room a) (w .before .top-after .ensures)
+    (tallied-plain (entry a) (t .inv .tallied) (plain (sees-in (regs a) (event a)) h) h (a .index-of .ensures) (in-room a) (w .before .top-after .ensures)
     (c .top-after3 .ensures) (c .before .witness-after .result)
-    (over-told (view (event a)) (entry a) (event a .first) (getD (t .fresh) p false) (getD (t .present) p false) (getD (t .value) p 0)
+    (over-told (seen f) (entry a) (event a .first) (getD (t .fresh) p false) (getD (t .present) p false) (getD (t .value) p 0)
     (c .before .witness-after .result) (c .before .witness-after .ensures) (c .before .before .takes-over .ensures)
-    (c .before .before .before .is-load .ensures) (f .before .before .before .before .new .ensures)))
+    (c .before .before .before .is-load-in .ensures) (f .before .before .before .before .new .ensures)))
 
 returns-2 : tie.Need-returns-2 Inv-loop μ-loop
 returns-2 c =
     let t = c .before .before in
     let e : capacity (t .before .before .before .before .args .source .now) - t .loop .i ≡ 0 = omega arith in
-    c .new5 .ensures ∙ sym (t .loop .inv .answers ∙ none-left _ _ _ _ _ _ _ e)
+    c .new5 .ensures ∙ sym (t .loop .inv .answers ∙ none-left _ _ _ _ _ _ _ _ e)
 
 pub source-pass-spec : {M : Type 1} → statement M
 source-pass-spec =
@@ -199,5 +208,5 @@ source-pass-spec =
     (λ c. omega (arith, in-room (at (c .before .before .before .before .before .before .before))))
     (λ c. in-room (at (c .before .before .before .before .before .before .before))) (λ c κs. tt)
     (λ c. omega (arith, in-room (at (c .before .before .before .before .before .before .before .before))))
-    (λ c. in-room (at (c .before .before .before .before .before .before .before .before))) (λ c. omega arith) loop-again-2 (λ c κs. tt)
+    (λ c. in-room (at (c .before .before .before .before .before .before .before .before))) (λ c. shrinks (at (c .before .before .before .before .before .before .before .before))) loop-again-2 (λ c κs. tt)
     returns-2)

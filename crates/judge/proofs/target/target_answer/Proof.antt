@@ -12,7 +12,7 @@ use Rattle.event.specs.declared.Answer.{Answer}
 use Rattle.event.specs.declared.Event.{Event}
 use Rattle.event.specs.Kind.{has, places}
 use Rattle.event.specs.Room.{onward, capacity}
-use Rattle.rules.specs.View.{View, view, isLoad, isWall}
+use Rattle.rules.specs.View.{View, viewIn, isLoad, isWall}
 use Rattle.rules.specs.Fault.{Item, isNone, item, near, stays, unsupported}
 use Rattle.rules.specs.Verdict.{targetItem, targetAnswer, targetFault}
 use Rattle.judge.specs.Pass.{Marked, targetFaultBy, unsupportedBy}
@@ -20,30 +20,30 @@ use Rattle.fates.proofs.Arrays.{Fresh, fresh-plain, fresh-start, fresh-wall}
 use Rattle.fates.proofs.Events.{onward-next, place-in}
 use Rattle.judge.proofs.Onward.{target-goes, target-stops}
 use Rattle.fates.proofs.Passes.{plain}
-use Rattle.fates.proofs.Sight.{Sees, a-load, a-store, a-wall, sees}
+use Rattle.fates.proofs.Sight.{Sees, a-load, a-store, a-wall, sees-in}
 use Rattle.judge.proofs.target.target_answer.Statement.{statement}
 use Rattle.judge.proofs.target.target_answer.Tie as tie
 
 -- the answer from the events of a room
-abbrev whole : List ℕ → List ℕ → Answer
-whole ns room = targetAnswer view ns 1 [] (onward room 0 (capacity room))
+abbrev whole : List Bool → List ℕ → List ℕ → Answer
+whole regs ns room = targetAnswer (viewIn regs) ns 1 [] (onward room 0 (capacity room))
 
 -- the events before the index are passed, by the numbers that some entries name
-record Passed (ns room : List ℕ) (fresh : List Bool) (k : ℕ) : Type 0 where
+record Passed (regs : List Bool) (ns room : List ℕ) (fresh : List Bool) (k : ℕ) : Type 0 where
   behind : List Item
   fresh-is : Fresh fresh behind
-  answers : whole ns room ≡ targetAnswer view ns (k + 1) behind (onward room k (capacity room - k))
+  answers : whole regs ns room ≡ targetAnswer (viewIn regs) ns (k + 1) behind (onward room k (capacity room - k))
 
-record Along (room marks : List ℕ) (fresh : List Bool) (k : ℕ) : Type 0 where
+record Along (regs : List Bool) (room marks : List ℕ) (fresh : List Bool) (k : ℕ) : Type 0 where
   bound : k ≤ capacity room
   size : length fresh ≡ places
-  passed : (ns : List ℕ) → Marked marks ns → Passed ns room fresh k
+  passed : (ns : List ℕ) → Marked marks ns → Passed regs ns room fresh k
 
 abbrev Inv-loop : tie.InvT-loop
-Inv-loop target marks fresh₀ k₀ fresh k = Along target marks fresh k
+Inv-loop listed target marks fresh₀ k₀ fresh k = Along listed target marks fresh k
 
 abbrev μ-loop : tie.MeasureT-loop
-μ-loop target marks fresh₀ k₀ fresh k = capacity target - k
+μ-loop listed target marks fresh₀ k₀ fresh k = capacity target - k
 
 -- by what is seen of the event
 unsupported-at : {v : View} {p x : ℕ} {u : Bool} (b : List Item) (sourced : Bool) (k : ℕ) → Sees v p x u
@@ -53,14 +53,14 @@ unsupported-at b false k a-wall = refl
 unsupported-at b false k a-load = refl
 unsupported-at b false k a-store = refl
 
-fault-told : (b : List Item) (ns : List ℕ) (k : ℕ) (e : Event) {i r : ℕ} {u s l f : Bool} → s ≡ has k ns → l ≡ isLoad (view e) → i ≡ e .place
-    → f ≡ isNone (near i b) → u ≡ unsupportedBy s l f → r ≡ targetFaultBy (e .kind) u → targetFault (e .kind) b (targetItem view ns k e) ≡ r
-fault-told b ns k e p q i g u r =
-    ap (targetFaultBy (e .kind)) (unsupported-at b (has k ns) k (sees e) ∙ sym (u ∙ rw (p, q, g, i))) ∙ sym r
+fault-told : (regs : List Bool) (b : List Item) (ns : List ℕ) (k : ℕ) (e : Event) {i r : ℕ} {u s l f : Bool} → s ≡ has k ns → l ≡ isLoad (viewIn regs e) → i ≡ e .place
+    → f ≡ isNone (near i b) → u ≡ unsupportedBy s l f → r ≡ targetFaultBy (e .kind) u → targetFault (e .kind) b (targetItem (viewIn regs) ns k e) ≡ r
+fault-told regs b ns k e p q i g u r =
+    ap (targetFaultBy (e .kind)) (unsupported-at b (has k ns) k (sees-in regs e) ∙ sym (u ∙ rw (p, q, g, i))) ∙ sym r
 
-none-left : (ns : List ℕ) (k : ℕ) (b : List Item) (l : List ℕ) (i n : ℕ) → n ≡ 0 → targetAnswer view ns k b (onward l i n) ≡ done
+none-left : (look : Event → View) (ns : List ℕ) (k : ℕ) (b : List Item) (l : List ℕ) (i n : ℕ) → n ≡ 0 → targetAnswer look ns k b (onward l i n) ≡ done
 unfolding onward targetAnswer
-none-left ns k b l i n e = rw e
+none-left look ns k b l i n e = rw e
 
 -- the event at the index
 module _ (c : tie.After-index-of Inv-loop μ-loop) where
@@ -69,6 +69,9 @@ module _ (c : tie.After-index-of Inv-loop μ-loop) where
 
   abbrev begin : tie.Start Inv-loop μ-loop
   begin = turn .before .before
+
+  abbrev regs : List Bool
+  regs = begin .args .listed .now
 
   abbrev room : List ℕ
   room = begin .args .target .now
@@ -90,33 +93,36 @@ abbrev at : tie.After-target-fault Inv-loop μ-loop → tie.After-index-of Inv-l
 at c = c .before .before .before .before
 
 module _ (c : tie.After-target-fault Inv-loop μ-loop) (ns : List ℕ) (m : Marked (begin (at c) .args .marks .now) ns) where
-  abbrev before : Passed ns (room (at c)) (turn (at c) .loop .fresh) (index (at c))
+  abbrev before : Passed (regs (at c)) ns (room (at c)) (turn (at c) .loop .fresh) (index (at c))
   before = turn (at c) .loop .inv .passed ns m
 
   abbrev here : Item
-  here = targetItem view ns (index (at c) + 1) (event (at c))
+  here = targetItem (viewIn (regs (at c))) ns (index (at c) + 1) (event (at c))
 
   told : targetFault (event (at c) .kind) (before .behind) here ≡ c .target-fault .result
   told =
-      fault-told (before .behind) ns (index (at c) + 1) (event (at c)) (c .before .before .before .is-marked .ensures ∙ m (index (at c) + 1) (omega arith) (omega arith))
-      (c .before .before .is-load .ensures) (at c .index-of .ensures) (before .fresh-is (at c .index-of .result) (in-room (at c)))
+      fault-told (regs (at c)) (before .behind) ns (index (at c) + 1) (event (at c)) (c .before .before .before .is-marked .ensures ∙ m (index (at c) + 1) (omega arith) (omega arith))
+      (c .before .before .is-load-in .ensures) (at c .index-of .ensures) (before .fresh-is (at c .index-of .result) (in-room (at c)))
       (c .before .is-unsupported .ensures) (c .target-fault .ensures)
 
-  from-here : whole ns (room (at c)) ≡ targetAnswer view ns (index (at c) + 1) (before .behind) (event (at c) ∷ rest (at c))
+  from-here : whole (regs (at c)) ns (room (at c)) ≡ targetAnswer (viewIn (regs (at c))) ns (index (at c) + 1) (before .behind) (event (at c) ∷ rest (at c))
   from-here =
       before .answers
       ∙ rw (onward-next (room (at c)) (capacity (room (at c))) (index (at c)) (event (at c)) (omega arith) (at c .before .get .ensures))
 
-  goes-on : c .target-fault .result ≡ 0 → {fresh : List Bool} → Fresh fresh (here ∷ before .behind) → Passed ns (room (at c)) fresh (index (at c) + 1)
+  goes-on : c .target-fault .result ≡ 0 → {fresh : List Bool} → Fresh fresh (here ∷ before .behind) → Passed (regs (at c)) ns (room (at c)) fresh (index (at c) + 1)
   goes-on z f = record {
     behind = here ∷ before .behind;
     fresh-is = f;
-    answers = from-here ∙ (target-goes view ns (index (at c) + 1) (before .behind) (event (at c)) (rest (at c)) (told ∙ z)
+    answers = from-here ∙ (target-goes (viewIn (regs (at c))) ns (index (at c) + 1) (before .behind) (event (at c)) (rest (at c)) (told ∙ z)
         ∙ rw (← add-one (index (at c) + 1)));
   }
 
-wall-is : (c : tie.After-is-wall Inv-loop μ-loop) {b : Bool} → c .is-wall .result ≡ b → isWall (view (event (at (c .before .before)))) ≡ b
-wall-is c e = sym (c .is-wall .ensures) ∙ e
+abbrev seen : tie.After-target-fault Inv-loop μ-loop → View
+seen c = viewIn (regs (at c)) (event (at c))
+
+wall-is : (c : tie.After-is-wall-in Inv-loop μ-loop) {b : Bool} → c .is-wall-in .result ≡ b → isWall (seen (c .before .before)) ≡ b
+wall-is c e = sym (c .is-wall-in .ensures) ∙ e
 
 loop-holds : tie.Need-loop-holds Inv-loop μ-loop
 loop-holds c =
@@ -127,7 +133,7 @@ loop-holds c =
 returns : tie.Need-returns Inv-loop μ-loop
 returns c ns m =
     let f = c .before .before in
-    c .new .ensures ∙ sym (from-here f ns m ∙ target-stops view ns _ _ _ _ (c .before .if1 .taken) (told f ns m))
+    c .new .ensures ∙ sym (from-here f ns m ∙ target-stops (viewIn (regs (at f))) ns _ _ _ _ (c .before .if1 .taken) (told f ns m))
 
 loop-again : tie.Need-loop-again Inv-loop μ-loop
 loop-again c =
@@ -136,7 +142,7 @@ loop-again c =
       bound = omega arith;
       size = refl;
       passed = λ ns m. goes-on f ns m (c .before .before .if1 .left)
-          (fresh-wall (view (event (at f))) (wall-is (c .before) (c .if2 .taken)) _ (before f ns m .behind));
+          (fresh-wall (seen f) (wall-is (c .before) (c .if2 .taken)) _ (before f ns m .behind));
     }
 
 loop-again-2 : tie.Need-loop-again-2 Inv-loop μ-loop
@@ -147,7 +153,7 @@ loop-again-2 c =
       bound = omega arith;
       size = simp length-set (t .inv .size);
       passed = λ ns m. goes-on f ns m (c .before .before .if1 .left)
-          (fresh-plain (plain (sees (event (at f))) (wall-is (c .before) (c .if2 .left))) _ (before f ns m .behind) (t .fresh) (at f .index-of .ensures)
+          (fresh-plain (plain (sees-in (regs (at f)) (event (at f))) (wall-is (c .before) (c .if2 .left))) _ (before f ns m .behind) (t .fresh) (at f .index-of .ensures)
           (in-room (at f)) (t .inv .size) (before f ns m .fresh-is));
     }
 
@@ -155,7 +161,7 @@ returns-2 : tie.Need-returns-2 Inv-loop μ-loop
 returns-2 c ns m =
     let t = c .before .before in
     let e : capacity (t .before .before .args .target .now) - t .loop .k ≡ 0 = omega arith in
-    c .new2 .ensures ∙ sym (t .loop .inv .passed ns m .answers ∙ none-left ns _ _ _ _ _ e)
+    c .new2 .ensures ∙ sym (t .loop .inv .passed ns m .answers ∙ none-left _ ns _ _ _ _ _ e)
 
 pub target-answer-spec : {M : Type 1} → statement M
 target-answer-spec =
