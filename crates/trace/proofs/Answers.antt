@@ -13,6 +13,7 @@ use Rattle.laws.proofs.Cases.{by-cond, cases}
 use Rattle.laws.proofs.Lists.{every}
 use Rattle.event.specs.Kind.{has}
 use Rattle.event.specs.Answer.{answer, done, first, textSides, InTable}
+use Rattle.event.specs.Listed.{steppedIn}
 use Rattle.event.specs.Memory.{stepped}
 use Rattle.event.specs.declared.Answer.{Answer}
 use Rattle.event.specs.declared.Event.{Event}
@@ -27,10 +28,10 @@ use Rattle.record.specs.declared.form.Form.{Form}
 use Rattle.record.specs.declared.Record.{Record}
 use Rattle.record.specs.declared.Record.the-variants.{Init, AnEvent, Refused}
 use Rattle.trace.specs.Cover.{touched, lined, lacksLine, isIdle, coverFault}
-use Rattle.trace.specs.Fault.{clashes, faultAt, eventFault, firstBad}
-use Rattle.trace.specs.Reading.{SoFar, formOf, eventLimit, lineFault, traceLayout, startOf, initsOf, eventsOf, faultOf, surveyOf, readOf}
-use Rattle.trace.specs.Moving.{movedText, moveHead, moveFault, moveOf}
-use Rattle.trace.specs.Writing.{countOf, roomEvents, layoutFault, lost, traceText, roomFault, inOut, writeFault, writeOf}
+use Rattle.trace.specs.Fault.{clashesIn, faultAt, eventFaultIn, firstBad}
+use Rattle.trace.specs.Reading.{SoFar, formOf, eventLimit, lineFault, traceLayout, startOf, initsOf, eventsOf, faultIn, surveyIn, readIn}
+use Rattle.trace.specs.Moving.{movedText, moveHead, moveFaultIn, moveIn}
+use Rattle.trace.specs.Writing.{countOf, roomEvents, layoutFault, lost, traceText, roomFaultIn, inOut, writeFaultIn, writeIn}
 use Rattle.trace.specs.declared.reading.TraceRead.{TraceRead}
 
 -- the numbers of a reading's refusals, and those of lines, of starting values and of events
@@ -51,13 +52,13 @@ line-fault s Refused = inr refl
 line-fault s (Init p v) = by-cond (λ (f : ℕ). (f ≡ 0) ⊎ (has f lineFaults ≡ true)) (ltb p (s .low)) (inr refl) (inl refl)
 line-fault s (AnEvent e) = by-cond (λ (f : ℕ). (f ≡ 0) ⊎ (has f lineFaults ≡ true)) (leb eventLimit (s .events)) (inr refl) (inl refl)
 
-events-given : (side k : ℕ) (m : Memory) (before es : List Event) → 1 ≤ k → Given eventFaults side (eventFault side k m before es)
-unfolding eventFault
-events-given side k m before [] h = none
-events-given side k m before (e ∷ es) h =
-    given-first eventFaults side {a = faultAt side k (clashes before e) (stepped m e .right)}
-    (given-cond _ side (clashes before e) (one refl h) (given-cond _ side (stepped m e .right) none (one refl h)))
-    (events-given side (k + 1) (stepped m e .memory) (e ∷ before) es (omega arith))
+events-given : (regs : List Bool) (side k : ℕ) (m : Memory) (before es : List Event) → 1 ≤ k → Given eventFaults side (eventFaultIn regs side k m before es)
+unfolding eventFaultIn
+events-given regs side k m before [] h = none
+events-given regs side k m before (e ∷ es) h =
+    given-first eventFaults side {a = faultAt side k (clashesIn regs before e) (steppedIn regs m e .right)}
+    (given-cond _ side (clashesIn regs before e) (one refl h) (given-cond _ side (steppedIn regs m e .right) none (one refl h)))
+    (events-given regs side (k + 1) (stepped m e .memory) (e ∷ before) es (omega arith))
 
 -- the first that is bad, of whatever
 bad-given : {A : Type 0} (bad : A → Bool) (number side k : ℕ) (es : List A) → 1 ≤ k → Given (number ∷ []) side (firstBad bad number side k es)
@@ -66,7 +67,7 @@ bad-given bad number side k [] h = none
 bad-given bad number side k (e ∷ es) h =
     given-cond _ side (bad e) (one (rw (eq-eqb number number refl)) h) (bad-given bad number side (k + 1) es (omega arith))
 
-module _ (side : ℕ) (t room : List ℕ) where
+module _ (regs : List Bool) (side : ℕ) (t room : List ℕ) where
   abbrev head : Answer
   head = headFault side (limitOf (formOf t)) (header (formOf t)) t
 
@@ -77,13 +78,13 @@ module _ (side : ℕ) (t room : List ℕ) where
   cover = coverFault (formOf t) side (initsOf t) (eventsOf t)
 
   abbrev events : Answer
-  events = eventFault side 1 (startOf t) [] (eventsOf t)
+  events = eventFaultIn regs side 1 (startOf t) [] (eventsOf t)
 
   lines-are : Given lineFaults side lines
   lines-are = lines-given (traceLayout (formOf t)) lineFaults side refl (λ s l. line-fault s (recordOf (formOf t) l)) 2 _ (body (split t)) (omega arith)
 
   events-are : Given eventFaults side events
-  events-are = events-given side 1 (startOf t) [] (eventsOf t) (omega arith)
+  events-are = events-given regs side 1 (startOf t) [] (eventsOf t) (omega arith)
 
   cover-is : Given coverFaults side cover
   unfolding coverFault
@@ -93,13 +94,13 @@ module _ (side : ℕ) (t room : List ℕ) where
       (given-more _ _ side refl (bad-given (isIdle (formOf t) (touched (eventsOf t))) 21 side 2 (initsOf t) (omega arith)))
 
   -- what holds of its first refusal, and of 17, holds of what it answers
-  by-fault : (P : Answer → Type 0) → P done → P (first (first head lines) (first cover events)) → ((n : ℕ) → P (answer 17 side n)) → P (readOf side t room .answer)
-  unfolding readOf surveyOf faultOf textFault
+  by-fault : (P : Answer → Type 0) → P done → P (first (first head lines) (first cover events)) → ((n : ℕ) → P (answer 17 side n)) → P (readIn regs side t room .answer)
+  unfolding readIn surveyIn faultIn textFault
   by-fault P z h f =
       let s = by-cond (λ (r : TraceRead). P (r .answer)) (eqb (first (first head lines) (first cover events) .number) 0) z h in
-      by-cond (λ (r : TraceRead). P (r .answer)) (leb (surveyOf side t .events) (length room / 6)) s (f _)
+      by-cond (λ (r : TraceRead). P (r .answer)) (leb (surveyIn regs side t .events) (length room / 6)) s (f _)
 
-  pub read-among : Among traceFaults (readOf side t room .answer)
+  pub read-among : Among traceFaults (readIn regs side t room .answer)
   read-among =
       by-fault (Among traceFaults) none
       (among-first _ (first head lines) (first cover events)
@@ -116,42 +117,42 @@ module _ (side : ℕ) (t room : List ℕ) where
       (in-first cover events (given-in _ side c cover-is) (given-in _ side e events-are))
 
   known-in : has side textSides ≡ true → every (ranked side) lineFaults ≡ true → every (ranked side) coverFaults ≡ true
-      → every (ranked side) eventFaults ≡ true → ((n : ℕ) → InTable (answer 17 side n)) → InTable (readOf side t room .answer)
+      → every (ranked side) eventFaults ≡ true → ((n : ℕ) → InTable (answer 17 side n)) → InTable (readIn regs side t room .answer)
   known-in s l c e f = by-fault InTable refl (refusal-in s l c e) f
 
-pub source-in : (t room : List ℕ) → InTable (readOf 1 t room .answer)
-source-in t room = known-in 1 t room refl refl refl refl (λ n. refl)
+pub source-in : (regs : List Bool) (t room : List ℕ) → InTable (readIn regs 1 t room .answer)
+source-in regs t room = known-in regs 1 t room refl refl refl refl (λ n. refl)
 
-pub target-in : (t room : List ℕ) → InTable (readOf 2 t room .answer)
-target-in t room = known-in 2 t room refl refl refl refl (λ n. refl)
+pub target-in : (regs : List Bool) (t room : List ℕ) → InTable (readIn regs 2 t room .answer)
+target-in regs t room = known-in regs 2 t room refl refl refl refl (λ n. refl)
 
-fault-in : (t : List ℕ) → InTable (faultOf 1 t)
-unfolding faultOf textFault
-fault-in t = refusal-in 1 t [] refl refl refl refl
+fault-in : (regs : List Bool) (t : List ℕ) → InTable (faultIn regs 1 t)
+unfolding faultIn textFault
+fault-in regs t = refusal-in regs 1 t [] refl refl refl refl
 
 -- every answer of the writer is; 17 is told alike of all texts that are handed back
 out-in : (n : ℕ) (out : List ℕ) → InTable (inOut n out)
 out-in n out = in-cond (leb n (length out)) (answer 0 0 n) (answer 17 0 n) refl refl
 
-pub written-in : (f : Form) (m : Memory) (room out : List ℕ) → InTable (writeOf f m room out)
-unfolding writeOf writeFault roomFault
-written-in f m room out =
+pub written-in : (regs : List Bool) (f : Form) (m : Memory) (room out : List ℕ) → InTable (writeIn regs f m room out)
+unfolding writeIn writeFaultIn roomFaultIn
+written-in regs f m room out =
     let l = layoutFault 1 (roomEvents room) in
-    let e = eventFault 0 1 m [] (roomEvents room) in
-    in-first (writeFault f m room) (inOut (length (traceText f m (roomEvents room))) out)
-    (in-first (roomFault m room) (lost f 0 1 (roomEvents room))
+    let e = eventFaultIn regs 0 1 m [] (roomEvents room) in
+    in-first (writeFaultIn regs f m room) (inOut (length (traceText f m (roomEvents room))) out)
+    (in-first (roomFaultIn regs m room) (lost f 0 1 (roomEvents room))
     (in-cond (ltb eventLimit (countOf room)) (answer 3 0 (eventLimit + 1)) (first l e) refl
     (in-first l e (given-in _ 0 refl (bad-given _ 18 0 1 (roomEvents room) (omega arith)))
-    (given-in _ 0 refl (events-given 0 1 m [] (roomEvents room) (omega arith)))))
+    (given-in _ 0 refl (events-given regs 0 1 m [] (roomEvents room) (omega arith)))))
     (given-in _ 0 refl (bad-given _ 19 0 1 (roomEvents room) (omega arith))))
     (out-in _ out)
 
 -- every answer of a move is
-pub moved-in : (to : Form) (t out : List ℕ) → InTable (moveOf to t out)
-unfolding moveOf moveFault moveHead
-moved-in to t out =
-    in-first (moveFault to t) (inOut (length (movedText to t)) out)
-    (in-first (moveHead to t) (first (faultOf 1 t) (lost to 1 1 (eventsOf t)))
+pub moved-in : (regs : List Bool) (to : Form) (t out : List ℕ) → InTable (moveIn regs to t out)
+unfolding moveIn moveFaultIn moveHead
+moved-in regs to t out =
+    in-first (moveFaultIn regs to t) (inOut (length (movedText to t)) out)
+    (in-first (moveHead to t) (first (faultIn regs 1 t) (lost to 1 1 (eventsOf t)))
     (in-cond (ltb (limitOf (formOf t)) (length t)) (answer 1 1 0) _ refl (in-cond (headed (header to) (split t)) (answer 2 1 1) done refl refl))
-    (in-first (faultOf 1 t) (lost to 1 1 (eventsOf t)) (fault-in t) (given-in _ 1 refl (bad-given _ 19 1 1 (eventsOf t) (omega arith)))))
+    (in-first (faultIn regs 1 t) (lost to 1 1 (eventsOf t)) (fault-in regs t) (given-in _ 1 refl (bad-given _ 19 1 1 (eventsOf t) (omega arith)))))
     (out-in _ out)

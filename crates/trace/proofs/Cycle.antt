@@ -1,7 +1,7 @@
 -- Rooms and texts in a cycle: what the writer makes of a room is read back into a room as the same events, and what a reading puts in a room
 -- is written as the same bytes. Both follow from one trace having one text, as six words are one event. Assumes nothing.
 use Prim.Native.Nat.{ℕ, zero, suc, _+_, _*_, _/_, _≤_}
-use mathlib.Core.Bool.{false, not}
+use mathlib.Core.Bool.{Bool, false, not}
 use mathlib.Core.Path.{_≡_, refl, ap}
 use mathlib.Core.List.{List, [], _∷_, _++_}
 use native.Mathlib.Omega.{arith}
@@ -24,9 +24,9 @@ use Rattle.frame.proofs.Settled.{first-done}
 use Rattle.record.specs.Form.{loses}
 use Rattle.record.specs.Record.{Fit}
 use Rattle.record.specs.declared.form.Form.{Form}
-use Rattle.trace.specs.Fault.{eventFault}
-use Rattle.trace.specs.Reading.{formOf, eventLimit, readAs, surveyOf, eventsOf, roomAfter}
-use Rattle.trace.specs.Writing.{countOf, roomEvents, layoutFault, lost, traceText, roomFault, inOut, writeFault, writeOf, outAfter}
+use Rattle.trace.specs.Fault.{eventFaultIn}
+use Rattle.trace.specs.Reading.{formOf, eventLimit, readAs, surveyIn, eventsOf, roomAfterIn}
+use Rattle.trace.specs.Writing.{countOf, roomEvents, layoutFault, lost, traceText, roomFaultIn, inOut, writeFaultIn, writeIn, outAfterIn}
 use Rattle.trace.specs.Text.{places, Valued, Fits}
 use Rattle.trace.proofs.OneText.{text-whole, written-read}
 use Rattle.trace.proofs.Range.{onward-length, room-fits}
@@ -35,13 +35,13 @@ use Rattle.trace.proofs.Readings.{counts, read-done}
 use Rattle.trace.proofs.Judged.{bad-done, fault-parts}
 
 -- that no event is at fault does not hang on the side, nor on where the counting starts
-pub fault-none : (side side′ k k′ : ℕ) (m : Memory) (before es : List Event) → eventFault side k m before es .number ≡ 0
-    → eventFault side′ k′ m before es ≡ done
-unfolding eventFault
-fault-none side side′ k k′ m before [] h = refl
-fault-none side side′ k k′ m before (e ∷ es) h =
-    let f = fault-parts side k m before e es h in
-    rw (f .0 .0, f .0 .1) (fault-none side side′ (k + 1) (k′ + 1) (stepped m e .memory) (e ∷ before) es (f .1))
+pub fault-none : (regs : List Bool) (side side′ k k′ : ℕ) (m : Memory) (before es : List Event) → eventFaultIn regs side k m before es .number ≡ 0
+    → eventFaultIn regs side′ k′ m before es ≡ done
+unfolding eventFaultIn
+fault-none regs side side′ k k′ m before [] h = refl
+fault-none regs side side′ k k′ m before (e ∷ es) h =
+    let f = fault-parts regs side k m before e es h in
+    rw (f .0 .0, f .0 .1) (fault-none regs side side′ (k + 1) (k′ + 1) (stepped m e .memory) (e ∷ before) es (f .1))
 
 -- neither 18 nor 19 is found where each event has a line in the form
 layout-done : (f : Form) (k : ℕ) (es : List Event) → Each (Fit f) es → layoutFault k es ≡ done
@@ -52,28 +52,28 @@ lost-done f side k es h = bad-done _ 19 side k es (each-imp (Fit f) (λ e. loses
 
 -- Document 01, "Lent room": "The writer is handed a starting memory, whose cells hold lawful values, and a part of a room". What it then writes
 -- is read back, whatever the side, as that memory and the events of that part.
-module _ (f : Form) (m : Memory) (room out : List ℕ) (size : length (m .cells) ≡ places) (values : Valued (m .cells))
-    (h : writeOf f m room out .number ≡ 0) where
-  no-refusals : (roomFault m room .number ≡ 0) × (lost f 0 1 (roomEvents room) .number ≡ 0)
-  unfolding writeOf writeFault
+module _ (regs : List Bool) (f : Form) (m : Memory) (room out : List ℕ) (size : length (m .cells) ≡ places) (values : Valued (m .cells))
+    (h : writeIn regs f m room out .number ≡ 0) where
+  no-refusals : (roomFaultIn regs m room .number ≡ 0) × (lost f 0 1 (roomEvents room) .number ≡ 0)
+  unfolding writeIn writeFaultIn
   no-refusals =
-      let w = first-done (writeFault f m room) (inOut (length (traceText f m (roomEvents room))) out) h in
-      first-done (roomFault m room) (lost f 0 1 (roomEvents room)) (w .0)
+      let w = first-done (writeFaultIn regs f m room) (inOut (length (traceText f m (roomEvents room))) out) h in
+      first-done (roomFaultIn regs m room) (lost f 0 1 (roomEvents room)) (w .0)
 
-  no-fault : (countOf room ≤ eventLimit) × ((layoutFault 1 (roomEvents room) .number ≡ 0) × (eventFault 0 1 m [] (roomEvents room) .number ≡ 0))
-  unfolding roomFault
+  no-fault : (countOf room ≤ eventLimit) × ((layoutFault 1 (roomEvents room) .number ≡ 0) × (eventFaultIn regs 0 1 m [] (roomEvents room) .number ≡ 0))
+  unfolding roomFaultIn
   no-fault =
       let c = not-first (λ (x : Answer). x .number) (ltb eventLimit (countOf room)) (answer 3 0 (eventLimit + 1)) _ (λ z. omega arith) (no-refusals .0) in
-      (ltb-false eventLimit (countOf room) (c .0), first-done (layoutFault 1 (roomEvents room)) (eventFault 0 1 m [] (roomEvents room)) (c .1))
+      (ltb-false eventLimit (countOf room) (c .0), first-done (layoutFault 1 (roomEvents room)) (eventFaultIn regs 0 1 m [] (roomEvents room)) (c .1))
 
   written-fits : Fits f m (roomEvents room)
   written-fits = room-fits room f m (countOf room) size values (no-fault .0) (no-fault .1 .0) (no-refusals .1)
 
-  pub room-written : (side : ℕ) → (surveyOf side (traceText f m (roomEvents room)) ≡ readAs (countOf room) m)
+  pub room-written : (side : ℕ) → (surveyIn regs side (traceText f m (roomEvents room)) ≡ readAs (countOf room) m)
       × (eventsOf (traceText f m (roomEvents room)) ≡ roomEvents room)
   room-written side =
       rw (onward-length room 0 (countOf room)) at
-      (read-written f side m (roomEvents room) written-fits (fault-none 0 side 1 1 m [] (roomEvents room) (no-fault .1 .1)))
+      (read-written f side m (roomEvents room) written-fits regs (fault-none regs 0 side 1 1 m [] (roomEvents room) (no-fault .1 .1)))
 
 -- the events of the words of events are those events
 room-words : (es : List Event) → roomEvents (flat es) ≡ es
@@ -83,34 +83,34 @@ room-words es =
 
 -- Document 01, "Lent room": "Otherwise the events (and entries, for the check) stand at the front of the rooms". Written from there, with the
 -- starting memory that the reading hands back, they are the bytes that were read.
-module _ (side : ℕ) (t room out : List ℕ) (h : surveyOf side t .answer .number ≡ 0) (fits : surveyOf side t .events ≤ length room / 6)
+module _ (regs : List Bool) (side : ℕ) (t room out : List ℕ) (h : surveyIn regs side t .answer .number ≡ 0) (fits : surveyIn regs side t .events ≤ length room / 6)
     (long : length t ≤ length out) where
   abbrev start : Memory
-  start = surveyOf side t .memory
+  start = surveyIn regs side t .memory
 
-  part : take (surveyOf side t .events * 6) (roomAfter side t room) ≡ flat (eventsOf t)
+  part : take (surveyIn regs side t .events * 6) (roomAfterIn regs side t room) ≡ flat (eventsOf t)
   part =
-      rw (read-done side t room h fits .1, counts side t h)
+      rw (read-done regs side t room h fits .1, counts regs side t h)
       (take-at (flat (eventsOf t)) (drop (length (eventsOf t) * 6) room) (length (eventsOf t) * 6) (flat-length (eventsOf t)))
 
-  no-refusal : roomFault start (flat (eventsOf t)) ≡ done
-  unfolding roomFault
+  no-refusal : roomFaultIn regs start (flat (eventsOf t)) ≡ done
+  unfolding roomFaultIn
   no-refusal =
-      let w = text-whole side t h in
+      let w = text-whole regs side t h in
       let n : (length (flat (eventsOf t)) + 5) / 6 ≤ eventLimit = omega (arith, flat-length (eventsOf t), w .fits .few) in
       rw (le-ltb eventLimit ((length (flat (eventsOf t)) + 5) / 6) n, room-words (eventsOf t), layout-done (formOf t) 1 (eventsOf t) (w .fits .events))
-      (fault-none side 0 1 1 start [] (eventsOf t) (w .sound))
+      (fault-none regs side 0 1 1 start [] (eventsOf t) (w .sound))
 
-  no-loss : writeFault (formOf t) start (flat (eventsOf t)) ≡ done
-  unfolding writeFault
-  no-loss = rw (no-refusal, room-words (eventsOf t)) (lost-done (formOf t) 0 1 (eventsOf t) (text-whole side t h .fits .events))
+  no-loss : writeFaultIn regs (formOf t) start (flat (eventsOf t)) ≡ done
+  unfolding writeFaultIn
+  no-loss = rw (no-refusal, room-words (eventsOf t)) (lost-done (formOf t) 0 1 (eventsOf t) (text-whole regs side t h .fits .events))
 
-  pub room-read : (writeOf (formOf t) (surveyOf side t .memory) (take (surveyOf side t .events * 6) (roomAfter side t room)) out ≡ answer 0 0 (length t))
-      × (outAfter (formOf t) (surveyOf side t .memory) (take (surveyOf side t .events * 6) (roomAfter side t room)) out ≡ t ++ drop (length t) out)
-  unfolding writeOf outAfter
+  pub room-read : (writeIn regs (formOf t) (surveyIn regs side t .memory) (take (surveyIn regs side t .events * 6) (roomAfterIn regs side t room)) out ≡ answer 0 0 (length t))
+      × (outAfterIn regs (formOf t) (surveyIn regs side t .memory) (take (surveyIn regs side t .events * 6) (roomAfterIn regs side t room)) out ≡ t ++ drop (length t) out)
+  unfolding writeIn outAfterIn
   room-read =
       let l = le-leb (length t) (length out) long in
       rw part (
-        rw (no-loss, room-words (eventsOf t), written-read side t h, l),
-        rw (no-loss, room-words (eventsOf t), written-read side t h, l),
+        rw (no-loss, room-words (eventsOf t), written-read regs side t h, l),
+        rw (no-loss, room-words (eventsOf t), written-read regs side t h, l),
       )

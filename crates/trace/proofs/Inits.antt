@@ -23,7 +23,7 @@ use Rattle.record.specs.declared.Record.{Record}
 use Rattle.record.specs.declared.Record.the-variants.{Init, AnEvent, Refused}
 use Rattle.record.proofs.Records.{blank, init-place}
 use Rattle.record.specs.declared.form.Form.{Form}
-use Rattle.trace.specs.Fault.{eventFault}
+use Rattle.trace.specs.Fault.{eventFaultIn}
 use Rattle.trace.specs.Reading.{SoFar, lineFault, afterLine, traceLayout, eventsIn, initsIn, filled, startIn, readAs, refused}
 use Rattle.trace.specs.Cover.{Start, coverFault}
 use Rattle.trace.specs.Survey.{closed, marked, soFar, surveyInits, surveyEvents}
@@ -60,42 +60,42 @@ settle-same : (F : Answer) (E : List Start → Answer) (R : List Start → Trace
     → settle refused (first F (E is)) (R is) ≡ settle refused (first F (E [])) (R [])
 settle-same F E R is h = cases (either (eqb (F .number) 0)) (λ e. rw (h (eqb-true (F .number) 0 e))) (λ e. rw (e, e))
 
-module _ (f : Form) (side k low : ℕ) (has : List Bool) (m : Memory) where
+module _ (regs : List Bool) (f : Form) (side k low : ℕ) (has : List Bool) (m : Memory) where
   abbrev opened : SoFar
   opened = record { low = low; events = 0 }
 
   inits-rest : (ls : List (List ℕ)) → Some ls → linesFault (traceLayout f) side k opened ls ≡ linesFault (traceLayout f) side k (closed 0) ls
-      → surveyInits f side k low has m ls ≡ surveyEvents f side k has m ls
+      → surveyInits regs f side k low has m ls ≡ surveyEvents regs f side k has m ls
   unfolding surveyInits surveyEvents startIn
   inits-rest ls o h =
       let at : List Start → Memory = λ is. record { cells = filled (m .cells) is } in
       rw h
       (settle-same (linesFault (traceLayout f) side k (closed 0) ls)
-      (λ is. first (coverFault f side (soFar has m ++ is) (eventsIn f ls)) (eventFault side 1 (at is) [] (eventsIn f ls)))
+      (λ is. first (coverFault f side (soFar has m ++ is) (eventsIn f ls)) (eventFaultIn regs side 1 (at is) [] (eventsIn f ls)))
       (λ is. readAs (length (eventsIn f ls)) (at is)) (initsIn f ls) (quiet f side k ls o)
       ∙ rw (append-nil (soFar has m)))
 
   -- no starting value comes first: what stands after the last LF, or another line
-  pub inits-last : (l : List ℕ) → surveyInits f side k low has m (l ∷ []) ≡ surveyEvents f side k has m (l ∷ [])
+  pub inits-last : (l : List ℕ) → surveyInits regs f side k low has m (l ∷ []) ≡ surveyEvents regs f side k has m (l ∷ [])
   unfolding linesFault
   inits-last l = inits-rest (l ∷ []) tt refl
 
   module _ (l : List ℕ) (ps : List (List ℕ)) (s : Some ps) where
-    pub inits-refused : recordOf f l ≡ Refused → surveyInits f side k low has m (l ∷ ps) ≡ surveyEvents f side k has m (l ∷ ps)
+    pub inits-refused : recordOf f l ≡ Refused → surveyInits regs f side k low has m (l ∷ ps) ≡ surveyEvents regs f side k has m (l ∷ ps)
     inits-refused h =
         inits-rest (l ∷ ps) tt (rw (lines-stop (traceLayout f) side k opened l ps 2 s (rw h) refl, lines-stop (traceLayout f) side k (closed 0) l ps 2 s (rw h) refl))
 
-    pub inits-event : (e : Event) → recordOf f l ≡ AnEvent e → surveyInits f side k low has m (l ∷ ps) ≡ surveyEvents f side k has m (l ∷ ps)
+    pub inits-event : (e : Event) → recordOf f l ≡ AnEvent e → surveyInits regs f side k low has m (l ∷ ps) ≡ surveyEvents regs f side k has m (l ∷ ps)
     inits-event e h =
         inits-rest (l ∷ ps) tt (rw (lines-go (traceLayout f) side k opened l ps s (rw h), lines-go (traceLayout f) side k (closed 0) l ps s (rw h), h))
 
     -- a starting value
-    pub inits-low : (p v : ℕ) → recordOf f l ≡ Init p v → p < low → surveyInits f side k low has m (l ∷ ps) ≡ refused (answer 4 side k)
+    pub inits-low : (p v : ℕ) → recordOf f l ≡ Init p v → p < low → surveyInits regs f side k low has m (l ∷ ps) ≡ refused (answer 4 side k)
     unfolding surveyInits
     inits-low p v h o = rw (lines-stop (traceLayout f) side k opened l ps 4 s (rw (h, lt-ltb p low o)) refl)
 
     pub inits-go : (p v : ℕ) → recordOf f l ≡ Init p v → low ≤ p → p < length (m .cells) → p < length has → ((j : ℕ) → low ≤ j → marked has j ≡ false)
-        → surveyInits f side k low has m (l ∷ ps) ≡ surveyInits f side (k + 1) (p + 1) (set has p true) (record { cells = set (m .cells) p v }) ps
+        → surveyInits regs f side k low has m (l ∷ ps) ≡ surveyInits regs f side (k + 1) (p + 1) (set has p true) (record { cells = set (m .cells) p v }) ps
     unfolding surveyInits saidIn startIn
     inits-go p v h o i j none =
         let more : soFar (set has p true) (record { cells = set (m .cells) p v }) ≡ soFar has m ++ (p, v) ∷ [] =

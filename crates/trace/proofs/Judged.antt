@@ -11,13 +11,14 @@ use borrow.Author.Tests.{eqb-true}
 use Rattle.laws.proofs.Cases.{cases, either}
 use Rattle.laws.specs.Each.{Each}
 use Rattle.event.specs.Answer.{answer, done, first}
+use Rattle.event.specs.Listed.{steppedIn}
 use Rattle.event.specs.Memory.{stepped}
 use Rattle.event.specs.Room.{eventAt, onward}
 use Rattle.event.specs.declared.Answer.{Answer}
 use Rattle.event.specs.declared.Event.{Event}
 use Rattle.event.specs.declared.memory.Memory.{Memory}
 use Rattle.frame.proofs.Settled.{first-done}
-use Rattle.trace.specs.Fault.{clashes, faultAt, eventFault, firstBad}
+use Rattle.trace.specs.Fault.{clashesIn, faultAt, eventFaultIn, firstBad}
 
 module _ (room : List ℕ) (i n : ℕ) where
   pub onward-next : i < n → onward room i (n - i) ≡ eventAt room i ∷ onward room (i + 1) (n - (i + 1))
@@ -109,15 +110,15 @@ module _ (bad : Event → Bool) (number side : ℕ) where
     sought-end h = s .same ∙ rw (onward-end room i n h) (bad-end bad number side (i + 1))
 
 -- what 5 and 6 say, by what they say of the first event
-module _ (side k : ℕ) (m : Memory) (before : List Event) (e : Event) (es : List Event) where
+module _ (regs : List Bool) (side k : ℕ) (m : Memory) (before : List Event) (e : Event) (es : List Event) where
   abbrev pub its-fault : Answer
-  its-fault = faultAt side k (clashes before e) (stepped m e .right)
+  its-fault = faultAt side k (clashesIn regs before e) (steppedIn regs m e .right)
 
   abbrev pub others-fault : Answer
-  others-fault = eventFault side (k + 1) (stepped m e .memory) (e ∷ before) es
+  others-fault = eventFaultIn regs side (k + 1) (stepped m e .memory) (e ∷ before) es
 
-  pub fault-next : eventFault side k m before (e ∷ es) ≡ first its-fault others-fault
-  unfolding eventFault
+  pub fault-next : eventFaultIn regs side k m before (e ∷ es) ≡ first its-fault others-fault
+  unfolding eventFaultIn
   fault-next = refl
 
 -- an event without 5 or 6 neither clashes nor has another value than the latest
@@ -127,15 +128,15 @@ fault-free side k false true h = (refl, refl)
 fault-free side k false false h = absurd (omega arith)
 
 -- where no event is at fault, the first neither clashes nor has another value than the latest, and no other is at fault
-pub fault-parts : (side k : ℕ) (m : Memory) (before : List Event) (e : Event) (es : List Event) → eventFault side k m before (e ∷ es) .number ≡ 0
-    → ((clashes before e ≡ false) × (stepped m e .right ≡ true)) × (others-fault side k m before e es .number ≡ 0)
-fault-parts side k m before e es h =
-    let d = first-done (its-fault side k m before e es) (others-fault side k m before e es) (rw (fault-next side k m before e es) at h) in
-    (fault-free side k (clashes before e) (stepped m e .right) (d .0), d .1)
+pub fault-parts : (regs : List Bool) (side k : ℕ) (m : Memory) (before : List Event) (e : Event) (es : List Event) → eventFaultIn regs side k m before (e ∷ es) .number ≡ 0
+    → ((clashesIn regs before e ≡ false) × (steppedIn regs m e .right ≡ true)) × (others-fault regs side k m before e es .number ≡ 0)
+fault-parts regs side k m before e es h =
+    let d = first-done (its-fault regs side k m before e es) (others-fault regs side k m before e es) (rw (fault-next regs side k m before e es) at h) in
+    (fault-free side k (clashesIn regs before e) (steppedIn regs m e .right) (d .0), d .1)
 
-pub fault-end : (side k : ℕ) (m : Memory) (before : List Event) → eventFault side k m before [] ≡ done
-unfolding eventFault
-fault-end side k m before = refl
+pub fault-end : (regs : List Bool) (side k : ℕ) (m : Memory) (before : List Event) → eventFaultIn regs side k m before [] ≡ done
+unfolding eventFaultIn
+fault-end regs side k m before = refl
 
 -- the first of two answers, where one does not refuse
 pub first-passes : (a b : Answer) → a .number ≡ 0 → first a b ≡ b

@@ -25,9 +25,8 @@ use Rattle.record.specs.Record.{Fit}
 use Rattle.record.specs.declared.form.Form.{Form}
 use Rattle.record.specs.declared.form.Form.the-variants.{One, Two}
 use Rattle.trace.specs.Cover.{touched}
-use Rattle.trace.specs.Fault.{eventFault}
-use Rattle.trace.specs.Moving.{movedText, moveHead, moveFault, moveSurvey}
-use Rattle.trace.specs.Reading.{formOf, startOf, eventsOf, faultOf, refused, readAs, surveyOf}
+use Rattle.trace.specs.Moving.{movedText, moveHead, moveFaultIn, moveSurveyIn}
+use Rattle.trace.specs.Reading.{formOf, startOf, eventsOf, faultIn, refused, readAs, surveyIn}
 use Rattle.trace.specs.Text.{Fits, longestText}
 use Rattle.trace.specs.Writing.{lost, traceText}
 use Rattle.trace.specs.declared.reading.TraceRead.{TraceRead}
@@ -39,39 +38,39 @@ use Rattle.trace.proofs.Range.{text-length, longest-short}
 use Rattle.trace.proofs.Readings.{survey-done}
 
 -- what is found of a text, by the first of its parts that refuses
-module _ (to : Form) (t : List ℕ) where
-  pub by-head : {a : Answer} → a ≡ moveHead to t → (a .number ≡ 0 → ⊥) → refused a ≡ moveSurvey to t
-  unfolding moveSurvey moveFault
+module _ (regs : List Bool) (to : Form) (t : List ℕ) where
+  pub by-head : {a : Answer} → a ≡ moveHead to t → (a .number ≡ 0 → ⊥) → refused a ≡ moveSurveyIn regs to t
+  unfolding moveSurveyIn moveFaultIn
   by-head q n =
       let e : eqb (moveHead to t .number) 0 ≡ false = ne-eqb _ _ (λ z. n (ap (λ (a : Answer). a .number) q ∙ z)) in
       rw (e, e) (ap refused q)
 
   module _ (h : moveHead to t .number ≡ 0) where
-    pub by-reading : {s : TraceRead} → s ≡ surveyOf 1 t → (s .answer .number ≡ 0 → ⊥) → s ≡ moveSurvey to t
-    unfolding moveSurvey moveFault surveyOf
+    pub by-reading : {s : TraceRead} → s ≡ surveyIn regs 1 t → (s .answer .number ≡ 0 → ⊥) → s ≡ moveSurveyIn regs to t
+    unfolding moveSurveyIn moveFaultIn surveyIn
     by-reading q n =
-        cases (either (eqb (faultOf 1 t .number) 0)) (λ e. absurd (n (ap (λ (s : TraceRead). s .answer .number) q ∙ rw e))) (λ e. q ∙ rw (h, e, e))
+        cases (either (eqb (faultIn regs 1 t .number) 0)) (λ e. absurd (n (ap (λ (s : TraceRead). s .answer .number) q ∙ rw e))) (λ e. q ∙ rw (h, e, e))
 
-    module _ (r : surveyOf 1 t .answer .number ≡ 0) where
-      pub by-loss : {a : Answer} → a ≡ lost to 1 1 (eventsOf t) → (a .number ≡ 0 → ⊥) → refused a ≡ moveSurvey to t
-      unfolding moveSurvey moveFault
+    module _ (r : surveyIn regs 1 t .answer .number ≡ 0) where
+      pub by-loss : {a : Answer} → a ≡ lost to 1 1 (eventsOf t) → (a .number ≡ 0 → ⊥) → refused a ≡ moveSurveyIn regs to t
+      unfolding moveSurveyIn moveFaultIn
       by-loss q n =
           let e : eqb (lost to 1 1 (eventsOf t) .number) 0 ≡ false = ne-eqb _ _ (λ z. n (ap (λ (a : Answer). a .number) q ∙ z)) in
-          rw (h, survey-done 1 t r .0, e) (ap refused q)
+          rw (h, survey-done regs 1 t r .0, e) (ap refused q)
 
-      pub by-none : lost to 1 1 (eventsOf t) .number ≡ 0 → surveyOf 1 t ≡ moveSurvey to t
-      unfolding moveSurvey moveFault
-      by-none n = rw (h, survey-done 1 t r .0, n) (survey-done 1 t r .1)
+      pub by-none : lost to 1 1 (eventsOf t) .number ≡ 0 → surveyIn regs 1 t ≡ moveSurveyIn regs to t
+      unfolding moveSurveyIn moveFaultIn
+      by-none n = rw (h, survey-done regs 1 t r .0, n) (survey-done regs 1 t r .1)
 
   -- what it tells: the refusal, or that there is none
-  pub found-fault : (moveSurvey to t .answer .number ≡ 0 → ⊥) → moveSurvey to t .answer ≡ moveFault to t
-  unfolding moveSurvey
-  found-fault n = cases (either (eqb (moveFault to t .number) 0)) (λ e. absurd (n (rw e))) (λ e. rw e)
+  pub found-fault : (moveSurveyIn regs to t .answer .number ≡ 0 → ⊥) → moveSurveyIn regs to t .answer ≡ moveFaultIn regs to t
+  unfolding moveSurveyIn
+  found-fault n = cases (either (eqb (moveFaultIn regs to t .number) 0)) (λ e. absurd (n (rw e))) (λ e. rw e)
 
-  pub found-none : moveSurvey to t .answer .number ≡ 0 → (moveFault to t .number ≡ 0) × (moveSurvey to t .memory ≡ startOf t)
-  unfolding moveSurvey
+  pub found-none : moveSurveyIn regs to t .answer .number ≡ 0 → (moveFaultIn regs to t .number ≡ 0) × (moveSurveyIn regs to t .memory ≡ startOf t)
+  unfolding moveSurveyIn
   found-none z =
-      let s = settled refused (λ (r : TraceRead). r .answer .number) (λ a. refl) (moveFault to t) (readAs (length (eventsOf t)) (startOf t)) z in
+      let s = settled refused (λ (r : TraceRead). r .answer .number) (λ a. refl) (moveFaultIn regs to t) (readAs (length (eventsOf t)) (startOf t)) z in
       (s .0, ap (λ (r : TraceRead). r .memory) (s .1))
 
 -- events that have a line in a form, and lose no code line in another, have a line in that
@@ -101,15 +100,15 @@ unfolding movedText
 moved-of to t p q = rw (p, q)
 
 -- a move that is not refused
-module _ (to : Form) (t : List ℕ) (h : moveFault to t .number ≡ 0) where
-  parts : (moveHead to t .number ≡ 0) × ((faultOf 1 t .number ≡ 0) × (lost to 1 1 (eventsOf t) .number ≡ 0))
-  unfolding moveFault
+module _ (regs : List Bool) (to : Form) (t : List ℕ) (h : moveFaultIn regs to t .number ≡ 0) where
+  parts : (moveHead to t .number ≡ 0) × ((faultIn regs 1 t .number ≡ 0) × (lost to 1 1 (eventsOf t) .number ≡ 0))
+  unfolding moveFaultIn
   parts =
-      let a = first-done (moveHead to t) (first (faultOf 1 t) (lost to 1 1 (eventsOf t))) h in
-      (a .0, first-done (faultOf 1 t) (lost to 1 1 (eventsOf t)) (a .1))
+      let a = first-done (moveHead to t) (first (faultIn regs 1 t) (lost to 1 1 (eventsOf t))) h in
+      (a .0, first-done (faultIn regs 1 t) (lost to 1 1 (eventsOf t)) (a .1))
 
-  read : surveyOf 1 t .answer .number ≡ 0
-  unfolding surveyOf
+  read : surveyIn regs 1 t .answer .number ≡ 0
+  unfolding surveyIn
   read = rw (parts .1 .0)
 
   not-to : headed (header to) (split t) ≡ false
@@ -120,11 +119,11 @@ module _ (to : Form) (t : List ℕ) (h : moveFault to t .number ≡ 0) where
 
   -- the text is of the other form
   pub from-other : formOf t ≡ other to
-  from-other = not-this (formOf t) to (λ e. false≢true (sym not-to ∙ (rw e at (line-one 1 t read))))
+  from-other = not-this (formOf t) to (λ e. false≢true (sym not-to ∙ (rw e at (line-one regs 1 t read))))
 
   -- its trace has a text in the form that it is moved to, which is read back without refusal
-  whole : Sound (formOf t) 1 (startOf t) (eventsOf t)
-  whole = rw (memory-is 1 t read) at (text-whole 1 t read)
+  whole : Sound regs (formOf t) 1 (startOf t) (eventsOf t)
+  whole = rw (memory-is regs 1 t read) at (text-whole regs 1 t read)
 
   pub moved-fits : Fits to (startOf t) (eventsOf t)
   moved-fits =
@@ -145,15 +144,15 @@ module _ (to : Form) (t : List ℕ) (h : moveFault to t .number ≡ 0) where
   not-headed-moved =
       rw (text-parts to (startOf t) (eventsOf t)) (not-headed to (its-lines to (startOf t) (eventsOf t)) (some-lines to (startOf t) (eventsOf t)))
 
-  back : (surveyOf 1 (movedText to t) ≡ readAs (length (eventsOf t)) (startOf t)) × (eventsOf (movedText to t) ≡ eventsOf t)
+  back : (surveyIn regs 1 (movedText to t) ≡ readAs (length (eventsOf t)) (startOf t)) × (eventsOf (movedText to t) ≡ eventsOf t)
   unfolding movedText
-  back = read-written to 1 (startOf t) (eventsOf t) moved-fits (fault-none 1 1 1 1 (startOf t) [] (eventsOf t) (whole .sound))
+  back = read-written to 1 (startOf t) (eventsOf t) moved-fits regs (fault-none regs 1 1 1 1 (startOf t) [] (eventsOf t) (whole .sound))
 
-  back-done : surveyOf 1 (movedText to t) .answer .number ≡ 0
+  back-done : surveyIn regs 1 (movedText to t) .answer .number ≡ 0
   back-done = rw (back .0)
 
   back-start : startOf (movedText to t) ≡ startOf t
-  back-start = sym (memory-is 1 (movedText to t) back-done) ∙ rw (back .0)
+  back-start = sym (memory-is regs 1 (movedText to t) back-done) ∙ rw (back .0)
 
   back-head : moveHead (other to) (movedText to t) ≡ done
   unfolding moveHead
@@ -162,14 +161,14 @@ module _ (to : Form) (t : List ℕ) (h : moveFault to t .number ≡ 0) where
       rw (form-moved, o, not-headed-moved)
 
   -- Document 02, C-11: "moving back gives the same bytes". Both ways: there is nothing about the move back that refuses.
-  pub there-and-back : (moveFault (other to) (movedText to t) ≡ done) × (movedText (other to) (movedText to t) ≡ t)
-  unfolding moveFault
+  pub there-and-back : (moveFaultIn regs (other to) (movedText to t) ≡ done) × (movedText (other to) (movedText to t) ≡ t)
+  unfolding moveFaultIn
   there-and-back = (
     rw (
       back-head,
-      (survey-done 1 (movedText to t) back-done .0),
+      (survey-done regs 1 (movedText to t) back-done .0),
       back .1,
       (lost-done (other to) 1 1 (eventsOf t) (rw from-other at (whole .fits .events))),
     ),
-    moved-of (other to) (movedText to t) back-start (back .1) ∙ rw (← from-other) (rw (memory-is 1 t read) at (written-read 1 t read)),
+    moved-of (other to) (movedText to t) back-start (back .1) ∙ rw (← from-other) (rw (memory-is regs 1 t read) at (written-read regs 1 t read)),
   )

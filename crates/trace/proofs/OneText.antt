@@ -2,7 +2,7 @@
 -- that trace, and parts glued together are the text again. Assumes nothing.
 use Prim.Native.Nat.{ℕ, _≤_}
 use mathlib.Core.Path.{_≡_, refl, sym, _∙_, ap}
-use mathlib.Core.Bool.{true}
+use mathlib.Core.Bool.{Bool, true}
 use mathlib.Core.List.{List, [], _∷_, _++_, map, append-assoc}
 use native.Mathlib.Omega.{arith}
 use lib.ListN.{length}
@@ -19,11 +19,11 @@ use Rattle.record.specs.Form.{header}
 use Rattle.record.specs.Layout.{eventLine}
 use Rattle.record.specs.declared.form.Form.{Form}
 use Rattle.trace.specs.Cover.{Start, touched, coverFault}
-use Rattle.trace.specs.Fault.{eventFault}
+use Rattle.trace.specs.Fault.{eventFaultIn}
 use Rattle.frame.specs.Reading.{headed, linesFault, textFault}
 use Rattle.frame.proofs.Heads.{framed}
 use Rattle.frame.proofs.Settled.{first-done}
-use Rattle.trace.specs.Reading.{formOf, traceLayout, eventsIn, initsIn, startFrom, startOf, faultOf, surveyOf, eventsOf, initsOf}
+use Rattle.trace.specs.Reading.{formOf, traceLayout, eventsIn, initsIn, startFrom, startOf, faultIn, surveyIn, eventsOf, initsOf}
 use Rattle.trace.specs.Writing.{textOf, startLine, textBy, traceText}
 use Rattle.trace.specs.Text.{Fits, longestText}
 use Rattle.trace.specs.declared.reading.TraceRead.{TraceRead}
@@ -68,34 +68,34 @@ module _ (f : Form) where
       (lines-length f is es (b .ascend) (b .heard) (i .few) (i .events))
 
 -- what is so of every text that is read without refusal; and that its lines are the prints of what it is read as
-pub record Sound (f : Form) (side : ℕ) (m : Memory) (es : List Event) : Type 0 where
+pub record Sound (regs : List Bool) (f : Form) (side : ℕ) (m : Memory) (es : List Event) : Type 0 where
   pub fits : Fits f m es
-  pub sound : eventFault side 1 m [] es .number ≡ 0
+  pub sound : eventFaultIn regs side 1 m [] es .number ≡ 0
 
-module _ (side : ℕ) (t : List ℕ) (h : surveyOf side t .answer .number ≡ 0) where
+module _ (regs : List Bool) (side : ℕ) (t : List ℕ) (h : surveyIn regs side t .answer .number ≡ 0) where
   no-fault : (textFault (traceLayout (formOf t)) side t .number ≡ 0)
-      × ((coverFault (formOf t) side (initsOf t) (eventsOf t) .number ≡ 0) × (eventFault side 1 (startOf t) [] (eventsOf t) .number ≡ 0))
-  unfolding faultOf
+      × ((coverFault (formOf t) side (initsOf t) (eventsOf t) .number ≡ 0) × (eventFaultIn regs side 1 (startOf t) [] (eventsOf t) .number ≡ 0))
+  unfolding faultIn
   no-fault =
       let c : Answer = coverFault (formOf t) side (initsOf t) (eventsOf t) in
-      let e : Answer = eventFault side 1 (startOf t) [] (eventsOf t) in
-      let d = first-done (textFault (traceLayout (formOf t)) side t) (first c e) (survey-done side t h .0) in
+      let e : Answer = eventFaultIn regs side 1 (startOf t) [] (eventsOf t) in
+      let d = first-done (textFault (traceLayout (formOf t)) side t) (first c e) (survey-done regs side t h .0) in
       (d .0, first-done c e (d .1))
 
-  pub memory-is : surveyOf side t .memory ≡ startOf t
-  memory-is = ap (λ (r : TraceRead). r .memory) (survey-done side t h .1)
+  pub memory-is : surveyIn regs side t .memory ≡ startOf t
+  memory-is = ap (λ (r : TraceRead). r .memory) (survey-done regs side t h .1)
 
   -- line 1 is that of its form
   pub line-one : headed (header (formOf t)) (split t) ≡ true
   line-one = framed (traceLayout (formOf t)) side t (no-fault .0) .first
 
-  pub text-whole : Sound (formOf t) side (surveyOf side t .memory) (eventsOf t)
+  pub text-whole : Sound regs (formOf t) side (surveyIn regs side t .memory) (eventsOf t)
   unfolding eventsOf
   text-whole =
       let f = framed (traceLayout (formOf t)) side t (no-fault .0) in
       rw memory-is (record { fits = lines-fit (formOf t) side (body (split t)) (f .some) (f .lines); sound = no-fault .1 .1 })
 
-  pub text-printed : split t ≡ header (formOf t) ∷ its-lines (formOf t) (surveyOf side t .memory) (eventsOf t)
+  pub text-printed : split t ≡ header (formOf t) ∷ its-lines (formOf t) (surveyIn regs side t .memory) (eventsOf t)
   unfolding eventsOf initsOf
   text-printed =
       let f = framed (traceLayout (formOf t)) side t (no-fault .0) in
@@ -105,14 +105,15 @@ module _ (side : ℕ) (t : List ℕ) (h : surveyOf side t .answer .number ≡ 0)
 -- Document 01, "Trace text": "`init` lines ascend strictly by location, and their value is never 0 (a 0 there is answer 2): a location without
 -- a line starts at 0." Document 02, C-15: in form 2 a touched location has its line, and no other has one of 0. So what is read writes back the same
 -- bytes.
-pub written-read : (side : ℕ) (t : List ℕ) → surveyOf side t .answer .number ≡ 0 → traceText (formOf t) (surveyOf side t .memory) (eventsOf t) ≡ t
-written-read side t h = text-glue (formOf t) (surveyOf side t .memory) (eventsOf t) t (text-printed side t h)
+pub written-read : (regs : List Bool) (side : ℕ) (t : List ℕ) → surveyIn regs side t .answer .number ≡ 0 → traceText (formOf t) (surveyIn regs side t .memory) (eventsOf t) ≡ t
+written-read regs side t h = text-glue (formOf t) (surveyIn regs side t .memory) (eventsOf t) t (text-printed regs side t h)
 
--- And so one trace has one text of a form.
-pub one-text : (side side′ : ℕ) (t u : List ℕ) → surveyOf side t .answer .number ≡ 0 → surveyOf side′ u .answer .number ≡ 0
-    → formOf t ≡ formOf u → surveyOf side t .memory ≡ surveyOf side′ u .memory → eventsOf t ≡ eventsOf u → t ≡ u
-one-text side side′ t u h k f p q = sym (written-read side t h) ∙ rw (f, p, q) (written-read side′ u k)
+-- And so one trace has one text of a form, whatever lists it is read under.
+pub one-text : (regs regs′ : List Bool) (side side′ : ℕ) (t u : List ℕ) → surveyIn regs side t .answer .number ≡ 0
+    → surveyIn regs′ side′ u .answer .number ≡ 0 → formOf t ≡ formOf u → surveyIn regs side t .memory ≡ surveyIn regs′ side′ u .memory
+    → eventsOf t ≡ eventsOf u → t ≡ u
+one-text regs regs′ side side′ t u h k f p q = sym (written-read regs side t h) ∙ rw (f, p, q) (written-read regs′ side′ u k)
 
 -- And so it is for every text that is read without refusal.
-pub lawful-length : (side : ℕ) (t : List ℕ) → surveyOf side t .answer .number ≡ 0 → length t ≤ longestText (formOf t)
-lawful-length side t h = rw (written-read side t h) at (text-length (formOf t) (touched (eventsOf t)) (surveyOf side t .memory) (eventsOf t) (text-whole side t h .fits))
+pub lawful-length : (regs : List Bool) (side : ℕ) (t : List ℕ) → surveyIn regs side t .answer .number ≡ 0 → length t ≤ longestText (formOf t)
+lawful-length regs side t h = rw (written-read regs side t h) at (text-length (formOf t) (touched (eventsOf t)) (surveyIn regs side t .memory) (eventsOf t) (text-whole regs side t h .fits))

@@ -23,11 +23,11 @@ use Rattle.record.specs.Form.{header, limitOf}
 use Rattle.record.specs.Layout.{eventLine, initLine}
 use Rattle.record.specs.Record.{Fit, recordOf}
 use Rattle.trace.specs.Cover.{Start, touched, coverFault, starts}
-use Rattle.trace.specs.Fault.{eventFault}
+use Rattle.trace.specs.Fault.{eventFaultIn}
 use Rattle.frame.specs.Reading.{headed, linesFault}
 use Rattle.frame.proofs.Heads.{by-lines}
 use Rattle.frame.proofs.Lines.{lines-end, lines-go}
-use Rattle.trace.specs.Reading.{SoFar, formOf, traceLayout, eventsIn, initsIn, startIn, readAs, faultOf, surveyOf, eventsOf, initsOf, readOf, front, roomAfter, eventLimit}
+use Rattle.trace.specs.Reading.{SoFar, formOf, traceLayout, eventsIn, initsIn, startIn, readAs, faultIn, surveyIn, eventsOf, initsOf, readIn, front, roomAfterIn, eventLimit}
 use Rattle.trace.specs.Writing.{textOf, hasLine, startLine, textBy, traceText}
 use Rattle.trace.specs.Text.{Fits}
 use Rattle.record.specs.declared.form.Form.{Form}
@@ -175,20 +175,20 @@ module _ (f : Form) where
 
     -- Document 01, "Lent room": "The writer makes the `init` lines from that memory and fills exactly the bytes that it counts." What is
     -- written so is read back as that memory and those events, without refusal.
-    pub read-written : eventFault side 1 m [] es ≡ done
-        → (surveyOf side (traceText f m es) ≡ readAs (length es) m) × (eventsOf (traceText f m es) ≡ es)
-    unfolding surveyOf faultOf eventsOf initsOf
-    read-written h =
+    pub read-written : (regs : List Bool) → eventFaultIn regs side 1 m [] es ≡ done
+        → (surveyIn regs side (traceText f m es) ≡ readAs (length es) m) × (eventsOf (traceText f m es) ≡ es)
+    unfolding surveyIn faultIn eventsOf initsOf
+    read-written regs h =
         let short : length (traceText f m es) ≤ limitOf f = omega (arith, text-length f (touched es) m es i, longest-short f) in
         let p = text-parts m es in
         let t = by-lines (traceLayout f) side (traceText f m es) (its-lines m es) short p (some-lines m es) in
         (rw (form-written m es, t, the-lines, p, the-start, the-inits, the-events, the-cover, h), rw (form-written m es, p) the-events)
 
     -- so a room that holds the events has them at its front
-    pub read-into : (room : List ℕ) → eventFault side 1 m [] es ≡ done → length es ≤ length room / 6
-        → (readOf side (traceText f m es) room ≡ readAs (length es) m)
-        × (roomAfter side (traceText f m es) room ≡ front es room)
-    read-into room h k =
-        let w = read-written h in
-        let d = read-done side (traceText f m es) room (rw (w .0)) (rw (w .0) k) in
+    pub read-into : (regs : List Bool) (room : List ℕ) → eventFaultIn regs side 1 m [] es ≡ done → length es ≤ length room / 6
+        → (readIn regs side (traceText f m es) room ≡ readAs (length es) m)
+        × (roomAfterIn regs side (traceText f m es) room ≡ front es room)
+    read-into regs room h k =
+        let w = read-written regs h in
+        let d = read-done regs side (traceText f m es) room (rw (w .0)) (rw (w .0) k) in
         (d .0 ∙ w .0, d .1 ∙ rw (w .1))

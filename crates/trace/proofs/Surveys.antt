@@ -8,6 +8,7 @@ use lib.Dec.{eqb}
 use lib.ListN.{length}
 use borrow.Author.Tests.{le-leb, lt-leb, lt-ltb}
 use Rattle.event.specs.Answer.{answer, done, first}
+use Rattle.event.specs.Listed.{steppedIn}
 use Rattle.event.specs.Memory.{stepped}
 use Rattle.event.specs.declared.Answer.{Answer}
 use Rattle.event.specs.declared.Event.{Event}
@@ -22,7 +23,7 @@ use Rattle.record.specs.declared.Record.the-variants.{Init, AnEvent, Refused}
 use Rattle.record.proofs.Records.{blank, init-place}
 use Rattle.record.specs.declared.form.Form.{Form}
 use Rattle.trace.specs.Cover.{Start, touches, touched, lined, lacksLine, isIdle, coverFault}
-use Rattle.trace.specs.Fault.{uses, firstBad, clashes, faultAt, eventFault}
+use Rattle.trace.specs.Fault.{uses, firstBad, clashesIn, faultAt, eventFaultIn}
 use Rattle.trace.specs.Reading.{traceLayout, eventsIn, refused, readAs, eventLimit}
 use Rattle.trace.specs.Survey.{closed, soFar, surveyEvents}
 use Rattle.trace.specs.declared.reading.TraceRead.{TraceRead}
@@ -34,20 +35,20 @@ coverOn f side is n before bare es =
     first (first bare (firstBad (lacksLine f (lined is)) 20 side (n + 1) es)) (firstBad (isIdle f (λ l. touched before l || touched es l)) 21 side 2 is)
 
 -- the lines from line k on, after n events, which left the memory m, are `before`, nearest first, and had the faults `bare` and `found`, if any
-unfoldable pub surveyOn : Form → ℕ → ℕ → ℕ → Memory → List Event → Answer → Answer → List Bool → Memory → List (List ℕ) → TraceRead
-surveyOn f side k n m before bare found has start ls =
+unfoldable pub surveyOn : List Bool → Form → ℕ → ℕ → ℕ → Memory → List Event → Answer → Answer → List Bool → Memory → List (List ℕ) → TraceRead
+surveyOn regs f side k n m before bare found has start ls =
     settle refused
     (first (linesFault (traceLayout f) side k (closed n) ls)
-    (first (coverOn f side (soFar has start) n before bare (eventsIn f ls)) (first found (eventFault side (n + 1) m before (eventsIn f ls)))))
+    (first (coverOn f side (soFar has start) n before bare (eventsIn f ls)) (first found (eventFaultIn regs side (n + 1) m before (eventsIn f ls)))))
     (readAs (n + length (eventsIn f ls)) start)
 
-pub on-start : (f : Form) (side k : ℕ) (has : List Bool) (m : Memory) (ls : List (List ℕ)) → surveyEvents f side k has m ls ≡ surveyOn f side k 0 m [] done done has m ls
+pub on-start : (regs : List Bool) (f : Form) (side k : ℕ) (has : List Bool) (m : Memory) (ls : List (List ℕ)) → surveyEvents regs f side k has m ls ≡ surveyOn regs f side k 0 m [] done done has m ls
 unfolding surveyEvents surveyOn coverFault uses
-on-start f side k has m ls = let z : 0 + length (eventsIn f ls) ≡ length (eventsIn f ls) = omega arith in rw z
+on-start regs f side k has m ls = let z : 0 + length (eventsIn f ls) ≡ length (eventsIn f ls) = omega arith in rw z
 
-module _ (f : Form) (side k n : ℕ) (m : Memory) (before : List Event) (bare found : Answer) (has : List Bool) (start : Memory) (l : List ℕ) where
+module _ (regs : List Bool) (f : Form) (side k n : ℕ) (m : Memory) (before : List Event) (bare found : Answer) (has : List Bool) (start : Memory) (l : List ℕ) where
   abbrev here : List (List ℕ) → TraceRead
-  here ls = surveyOn f side k n m before bare found has start ls
+  here ls = surveyOn regs f side k n m before bare found has start ls
 
   on-refused : (ls : List (List ℕ)) (x : ℕ) → eqb x 0 ≡ false → linesFault (traceLayout f) side k (closed n) ls ≡ answer x side k
       → here ls ≡ refused (answer x side k)
@@ -66,7 +67,7 @@ module _ (f : Form) (side k n : ℕ) (m : Memory) (before : List Event) (bare fo
     unfolding surveyOn saidIn uses firstBad
     at-end =
         let o : _≡_ {A = ℕ → Bool} (λ j. touched before j || false) (touched before) = fun-ext (λ j. or-false (touched before j)) in
-        rw (lines-end (traceLayout f) side k (closed n) l h, e, blank f, fault-end side (n + 1) m before, o)
+        rw (lines-end (traceLayout f) side k (closed n) l h, e, blank f, fault-end regs side (n + 1) m before, o)
 
     pub on-bare : eqb (bare .number) 0 ≡ false → here (l ∷ []) ≡ refused bare
     on-bare z = at-end ∙ rw (z, z, z, z)
@@ -94,17 +95,17 @@ module _ (f : Form) (side k n : ℕ) (m : Memory) (before : List Event) (bare fo
       on-full q = on-refused (l ∷ ps) 3 refl (lines-stop (traceLayout f) side k (closed n) l ps 3 s (rw (h, le-leb eventLimit n q)) refl)
 
       -- an event, whether it clashes and whether its value is the latest being asked only where nothing was found before
-      pub on-go : n < eventLimit → (clash : Bool) → (found .number ≡ 0 → clash ≡ clashes before e)
+      pub on-go : n < eventLimit → (clash : Bool) → (found .number ≡ 0 → clash ≡ clashesIn regs before e)
           → here (l ∷ ps)
-          ≡ surveyOn f side (k + 1) (n + 1) (stepped m e .memory) (e ∷ before) (cond (lacksLine f (lined (soFar has start)) e) (first bare (answer 20 side (n + 1))) bare)
-          (first found (faultAt side (n + 1) clash (stepped m e .right))) has start ps
+          ≡ surveyOn regs f side (k + 1) (n + 1) (stepped m e .memory) (e ∷ before) (cond (lacksLine f (lined (soFar has start)) e) (first bare (answer 20 side (n + 1))) bare)
+          (first found (faultAt side (n + 1) clash (steppedIn regs m e .right))) has start ps
       unfolding surveyOn saidIn uses
       on-go b clash q =
           let c : n + suc (length (eventsIn f ps)) ≡ n + 1 + length (eventsIn f ps) = omega arith in
-          let a : Answer = faultAt side (n + 1) clash (stepped m e .right) in
-          let d : Answer = faultAt side (n + 1) (clashes before e) (stepped m e .right) in
+          let a : Answer = faultAt side (n + 1) clash (steppedIn regs m e .right) in
+          let d : Answer = faultAt side (n + 1) (clashesIn regs before e) (steppedIn regs m e .right) in
           let w : first found a ≡ first found d = first-same found a d (λ z. rw (q z)) in
-          let o : Answer = others-fault side (n + 1) m before e (eventsIn f ps) in
+          let o : Answer = others-fault regs side (n + 1) m before e (eventsIn f ps) in
           let g = lines-go (traceLayout f) side k (closed n) l ps s (rw (h, lt-leb eventLimit n b)) in
           let t : _≡_ {A = ℕ → Bool} (λ j. touched before j || ((touches e && eqb (e .place) j) || touched (eventsIn f ps) j))
           (λ j. ((touches e && eqb (e .place) j) || touched before j) || touched (eventsIn f ps) j) =
@@ -115,7 +116,7 @@ module _ (f : Form) (side k n : ℕ) (m : Memory) (before : List Event) (bare fo
             c,
             t,
             bad-found (lacksLine f (lined (soFar has start))) 20 side refl (n + 1) e (eventsIn f ps) bare,
-            fault-next side (n + 1) m before e (eventsIn f ps),
+            fault-next regs side (n + 1) m before e (eventsIn f ps),
             first-assoc found d o,
             w,
           )

@@ -3,6 +3,12 @@ use mathlib.Core.Path.{sym, _∙_}
 use Rattle.laws.specs.Unique.{OneAnswer, OneOf}
 use Rattle.trace.proofs.read.Reads as read
 use Rattle.trace.proofs.write.Reads as write
+use Rattle.trace.proofs.read_in.Reads as read-in
+use Rattle.trace.proofs.read_listed.Reads as read-listed
+use Rattle.trace.proofs.write_in.Reads as write-in
+use Rattle.trace.proofs.write_listed.Reads as write-listed
+use Rattle.trace.proofs.moving.move_in.Reads as move-in
+use Rattle.trace.proofs.moving.move_listed.Reads as move-listed
 use Rattle.trace.proofs.reading.survey_in.Reads as survey-in
 use Rattle.trace.proofs.reading.store.Reads as store
 use Rattle.trace.proofs.form.form_of.Reads as form-of
@@ -41,3 +47,39 @@ write-event-one κ a x y s t h k = h .counted ∙ sym (k .counted)
 
 write-event-bytes : OneOf write-event.Post (λ κ r s. s .1 .1 .0 .now)
 write-event-bytes κ a x y s t h k = h .stored ∙ sym (k .stored)
+
+read-in-one : OneAnswer read-in.Post
+read-in-one κ a x y s t h k = h .0 ∙ sym (k .0)
+
+read-in-room : OneOf read-in.Post (λ κ r s. s .1 .1 .0 .now)
+read-in-room κ a x y s t h k = h .1 ∙ sym (k .1)
+
+read-listed-one : OneAnswer read-listed.Post
+read-listed-one κ a x y s t h k = h .0 ∙ sym (k .0)
+
+read-listed-room : OneOf read-listed.Post (λ κ r s. s .1 .1 .0 .now)
+read-listed-room κ a x y s t h k = h .1 ∙ sym (k .1)
+
+write-in-one : OneAnswer write-in.Post
+write-in-one κ a x y s t h k = h .0 ∙ sym (k .0)
+
+write-in-room : OneOf write-in.Post (λ κ r s. s .1 .1 .1 .1 .0 .now)
+write-in-room κ a x y s t h k = h .1 ∙ sym (k .1)
+
+write-listed-one : OneAnswer write-listed.Post
+write-listed-one κ a x y s t h k = h .0 ∙ sym (k .0)
+
+write-listed-room : OneOf write-listed.Post (λ κ r s. s .1 .1 .1 .1 .0 .now)
+write-listed-room κ a x y s t h k = h .1 ∙ sym (k .1)
+
+move-in-one : OneAnswer move-in.Post
+move-in-one κ a x y s t h k = h .0 ∙ sym (k .0)
+
+move-in-room : OneOf move-in.Post (λ κ r s. s .1 .1 .1 .0 .now)
+move-in-room κ a x y s t h k = h .1 ∙ sym (k .1)
+
+move-listed-one : OneAnswer move-listed.Post
+move-listed-one κ a x y s t h k = h .0 ∙ sym (k .0)
+
+move-listed-room : OneOf move-listed.Post (λ κ r s. s .1 .1 .1 .0 .now)
+move-listed-room κ a x y s t h k = h .1 ∙ sym (k .1)

@@ -2,7 +2,7 @@
 -- at most, so that one number for each location tells all; and whether it was touched at all it tells always. Assumes nothing.
 use Prim.Native.Nat.{ℕ, _<_}
 use mathlib.Core.Path.{_≡_, refl, sym, _∙_, fun-ext}
-use mathlib.Core.Bool.{Bool, true, false, cond, not, _&&_, _||_, and-true, and-false, or-false, or-assoc, or-comm}
+use mathlib.Core.Bool.{Bool, true, false, cond, not, _&&_, _||_, and-true, and-false, or-false, or-assoc, or-comm, false≢true}
 use mathlib.Core.List.{List, [], _∷_}
 use native.Mathlib.Omega.{arith}
 use lib.Dec.{eqb}
@@ -16,6 +16,10 @@ use Rattle.event.specs.declared.Event.{Event}
 use Rattle.trace.specs.Cover.{touches, touched}
 use Rattle.trace.specs.Fault.{uses, clashes}
 use Rattle.trace.specs.Way.{wayOf, opposed, joined, clashing, isUsed, waysAfter, waysOf}
+
+pub or-right : (a b : Bool) → (a || b) ≡ false → b ≡ false
+or-right true b h = absurd (false≢true (sym h))
+or-right false b h = h
 
 -- the array says how the events used each location
 abbrev pub Marks : List ℕ → List Event → Type 0

@@ -1,6 +1,6 @@
 -- The writer's answers in their order, by the first refusal and by the bytes needed; a move's 17 is told as the writer's. Assumes nothing.
 use Prim.Native.Nat.{ℕ, _+_, _≤_, _<_}
-use mathlib.Core.Bool.{false}
+use mathlib.Core.Bool.{Bool, false}
 use mathlib.Core.Path.{_≡_, refl, sym, _∙_, ap}
 use mathlib.Core.List.{List, []}
 use native.Mathlib.Omega.{arith}
@@ -14,25 +14,25 @@ use Rattle.event.specs.Room.{onward}
 use Rattle.event.specs.declared.Answer.{Answer}
 use Rattle.event.specs.declared.memory.Memory.{Memory}
 use Rattle.trace.specs.Reading.{eventLimit}
-use Rattle.trace.specs.Fault.{eventFault}
+use Rattle.trace.specs.Fault.{eventFaultIn}
 use Rattle.trace.specs.Put.{Put}
-use Rattle.trace.specs.Writing.{countOf, layoutFault, roomFault, answered, outWith}
+use Rattle.trace.specs.Writing.{countOf, layoutFault, roomFaultIn, answered, outWith}
 
-module _ (m : Memory) (room : List ℕ) {n : ℕ} (c : n ≡ countOf room) where
-  pub room-full : eventLimit < n → roomFault m room ≡ answer 3 0 (eventLimit + 1)
-  unfolding roomFault
+module _ (regs : List Bool) (m : Memory) (room : List ℕ) {n : ℕ} (c : n ≡ countOf room) where
+  pub room-full : eventLimit < n → roomFaultIn regs m room ≡ answer 3 0 (eventLimit + 1)
+  unfolding roomFaultIn
   room-full h = rw (← c, lt-ltb eventLimit n h)
 
-  pub room-layout : n ≤ eventLimit → (layoutFault 1 (onward room 0 n) .number ≡ 0 → ⊥) → roomFault m room ≡ layoutFault 1 (onward room 0 n)
-  unfolding roomFault
+  pub room-layout : n ≤ eventLimit → (layoutFault 1 (onward room 0 n) .number ≡ 0 → ⊥) → roomFaultIn regs m room ≡ layoutFault 1 (onward room 0 n)
+  unfolding roomFaultIn
   room-layout h x = rw (← c, le-ltb eventLimit n h, ne-eqb (layoutFault 1 (onward room 0 n) .number) 0 x)
 
-  pub room-events : n ≤ eventLimit → layoutFault 1 (onward room 0 n) .number ≡ 0 → roomFault m room ≡ eventFault 0 1 m [] (onward room 0 n)
-  unfolding roomFault
+  pub room-events : n ≤ eventLimit → layoutFault 1 (onward room 0 n) .number ≡ 0 → roomFaultIn regs m room ≡ eventFaultIn regs 0 1 m [] (onward room 0 n)
+  unfolding roomFaultIn
   room-events h x = rw (← c, le-ltb eventLimit n h, x)
 
   -- no refusal so far: the events are few, and all are lawful
-  pub room-sound : roomFault m room .number ≡ 0 → (n ≤ eventLimit) × (layoutFault 1 (onward room 0 n) .number ≡ 0)
+  pub room-sound : roomFaultIn regs m room .number ≡ 0 → (n ≤ eventLimit) × (layoutFault 1 (onward room 0 n) .number ≡ 0)
   room-sound z =
       cases (either (ltb eventLimit n))
       (λ y. let d : _≡_ {A = ℕ} 3 0 = rw (room-full (ltb-true eventLimit n y)) at z in absurd (omega arith))

@@ -1,16 +1,17 @@
--- Document 02, C-11: a trace text moved to the other form. Assumes nothing.
+-- Document 02, C-11 and C-16: a trace text moved to the other form, under a list of registers. Assumes nothing.
 use Prim.Native.Nat.{ℕ}
-use mathlib.Core.Bool.{cond}
+use mathlib.Core.Bool.{Bool, cond}
 use mathlib.Core.List.{List}
 use lib.Dec.{ltb}
 use lib.ListN.{length}
 use Rattle.event.specs.Answer.{answer, done, first}
+use Rattle.event.specs.Listed.{noneListed}
 use Rattle.event.specs.declared.Answer.{Answer}
 use Rattle.text.specs.Line.{split}
 use Rattle.frame.specs.Reading.{headed, settle}
 use Rattle.record.specs.Form.{header, limitOf}
 use Rattle.record.specs.declared.form.Form.{Form}
-use Rattle.trace.specs.Reading.{formOf, startOf, eventsOf, faultOf, refused, readAs}
+use Rattle.trace.specs.Reading.{formOf, startOf, eventsOf, faultIn, refused, readAs}
 use Rattle.trace.specs.Writing.{traceText, lost, answered, outWith}
 use Rattle.trace.specs.declared.reading.TraceRead.{TraceRead}
 
@@ -23,16 +24,23 @@ unfoldable pub moveHead : Form → List ℕ → Answer
 moveHead to t = cond (ltb (limitOf (formOf t)) (length t)) (answer 1 1 0) (cond (headed (header to) (split t)) (answer 2 1 1) done)
 
 -- The refusals of a move but 17: those, the reading's, and 19.
-unfoldable pub moveFault : Form → List ℕ → Answer
-moveFault to t = first (moveHead to t) (first (faultOf 1 t) (lost to 1 1 (eventsOf t)))
+unfoldable pub moveFaultIn : List Bool → Form → List ℕ → Answer
+moveFaultIn regs to t = first (moveHead to t) (first (faultIn regs 1 t) (lost to 1 1 (eventsOf t)))
 
 -- What is found of the text: the first of them, else its number of events and its starting memory.
-unfoldable pub moveSurvey : Form → List ℕ → TraceRead
-moveSurvey to t = settle refused (moveFault to t) (readAs (length (eventsOf t)) (startOf t))
+unfoldable pub moveSurveyIn : List Bool → Form → List ℕ → TraceRead
+moveSurveyIn regs to t = settle refused (moveFaultIn regs to t) (readAs (length (eventsOf t)) (startOf t))
 
 -- The move, and what the lent bytes hold afterwards.
-unfoldable pub moveOf : Form → List ℕ → List ℕ → Answer
-moveOf to t out = answered (moveFault to t) (movedText to t) out
+unfoldable pub moveIn : List Bool → Form → List ℕ → List ℕ → Answer
+moveIn regs to t out = answered (moveFaultIn regs to t) (movedText to t) out
 
-unfoldable pub movedOut : Form → List ℕ → List ℕ → List ℕ
-movedOut to t out = outWith (moveFault to t) (movedText to t) out
+unfoldable pub movedOutIn : List Bool → Form → List ℕ → List ℕ → List ℕ
+movedOutIn regs to t out = outWith (moveFaultIn regs to t) (movedText to t) out
+
+-- The same without a list, which lists none.
+abbrev pub moveOf : Form → List ℕ → List ℕ → Answer
+moveOf = moveIn noneListed
+
+abbrev pub movedOut : Form → List ℕ → List ℕ → List ℕ
+movedOut = movedOutIn noneListed

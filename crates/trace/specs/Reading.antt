@@ -1,11 +1,13 @@
--- Document 01, "Numbers that come back" and "Lent room", and document 02, C-11 and C-15: the reading of a trace text. Its form comes from the text.
+-- Document 01, "Numbers that come back" and "Lent room", and document 02, C-11, C-15 and C-16: the reading of a trace text, under a list of registers. Its form
+-- comes from the text. A reading without a list is the one that lists none.
 -- Assumes nothing.
 use Prim.Native.Nat.{ℕ, _+_, _*_, _/_}
-use mathlib.Core.Bool.{cond}
+use mathlib.Core.Bool.{Bool, cond}
 use mathlib.Core.List.{List, [], _∷_, _++_}
 use lib.Dec.{eqb, leb, ltb}
 use lib.ListN.{length, drop, set}
 use Rattle.event.specs.Answer.{done, first}
+use Rattle.event.specs.Listed.{noneListed}
 use Rattle.event.specs.Memory.{empty}
 use Rattle.event.specs.Room.{flat}
 use Rattle.event.specs.declared.Answer.{Answer}
@@ -16,7 +18,7 @@ use Rattle.frame.specs.Reading.{Layout, headed, textFault, settle, fitted}
 use Rattle.record.specs.Form.{header, limitOf}
 use Rattle.record.specs.Record.{recordOf}
 use Rattle.trace.specs.Cover.{Start, coverFault}
-use Rattle.trace.specs.Fault.{eventFault}
+use Rattle.trace.specs.Fault.{eventFaultIn}
 use Rattle.record.specs.declared.form.Form.{Form}
 use Rattle.record.specs.declared.form.Form.the-variants.{One, Two}
 use Rattle.record.specs.declared.Record.{Record}
@@ -99,10 +101,10 @@ abbrev pub startOf : List ℕ → Memory
 startOf t = startFrom (formOf t) empty (body (split t))
 
 -- The first refusal of a text: 1, then line by line 2, 4, 3, then 20, 21, then event by event 5, 6.
-unfoldable pub faultOf : ℕ → List ℕ → Answer
-faultOf side t =
+unfoldable pub faultIn : List Bool → ℕ → List ℕ → Answer
+faultIn regs side t =
     first (textFault (traceLayout (formOf t)) side t)
-    (first (coverFault (formOf t) side (initsOf t) (eventsOf t)) (eventFault side 1 (startOf t) [] (eventsOf t)))
+    (first (coverFault (formOf t) side (initsOf t) (eventsOf t)) (eventFaultIn regs side 1 (startOf t) [] (eventsOf t)))
 
 -- What a refusal hands back, no event and an empty memory; and what a reading of n events does.
 abbrev pub refused : Answer → TraceRead
@@ -112,21 +114,30 @@ abbrev pub readAs : ℕ → Memory → TraceRead
 readAs n m = record { answer = done; events = n; memory = m }
 
 -- Those answers of a text, with its number of events and its starting memory.
-unfoldable pub surveyOf : ℕ → List ℕ → TraceRead
-surveyOf side t = settle refused (faultOf side t) (readAs (length (eventsOf t)) (startOf t))
+unfoldable pub surveyIn : List Bool → ℕ → List ℕ → TraceRead
+surveyIn regs side t = settle refused (faultIn regs side t) (readAs (length (eventsOf t)) (startOf t))
+
+abbrev pub surveyOf : ℕ → List ℕ → TraceRead
+surveyOf = surveyIn noneListed
 
 -- 17, after the others: a room of so many words does not hold the events.
 abbrev pub roomFor : ℕ → ℕ → TraceRead → TraceRead
 roomFor side words r = fitted refused side (r .events) (words / 6) r
 
 -- A reading, by its text and the room lent.
-unfoldable pub readOf : ℕ → List ℕ → List ℕ → TraceRead
-readOf side t room = roomFor side (length room) (surveyOf side t)
+unfoldable pub readIn : List Bool → ℕ → List ℕ → List ℕ → TraceRead
+readIn regs side t room = roomFor side (length room) (surveyIn regs side t)
+
+abbrev pub readOf : ℕ → List ℕ → List ℕ → TraceRead
+readOf = readIn noneListed
 
 -- A room with events at its front.
 abbrev pub front : List Event → List ℕ → List ℕ
 front es room = flat es ++ drop (length es * 6) room
 
 -- The room afterwards: unchanged by a refusal, else with the events at its front.
-unfoldable pub roomAfter : ℕ → List ℕ → List ℕ → List ℕ
-roomAfter side t room = cond (eqb (readOf side t room .answer .number) 0) (front (eventsOf t) room) room
+unfoldable pub roomAfterIn : List Bool → ℕ → List ℕ → List ℕ → List ℕ
+roomAfterIn regs side t room = cond (eqb (readIn regs side t room .answer .number) 0) (front (eventsOf t) room) room
+
+abbrev pub roomAfter : ℕ → List ℕ → List ℕ → List ℕ
+roomAfter = roomAfterIn noneListed

@@ -1,4 +1,4 @@
--- The steps of a reading: the lines from some line on. Assumes nothing.
+-- The steps of a reading under a list of registers: the lines from some line on. Assumes nothing.
 use Prim.Native.Nat.{ℕ}
 use mathlib.Core.Bool.{Bool, false}
 use mathlib.Core.List.{List, [], _++_}
@@ -7,7 +7,7 @@ use Rattle.event.specs.Answer.{first}
 use Rattle.event.specs.declared.memory.Memory.{Memory}
 use Rattle.frame.specs.Reading.{linesFault, settle}
 use Rattle.trace.specs.Cover.{Start, coverFault, starts}
-use Rattle.trace.specs.Fault.{eventFault}
+use Rattle.trace.specs.Fault.{eventFaultIn}
 use Rattle.trace.specs.Reading.{SoFar, traceLayout, eventsIn, initsIn, startFrom, refused, readAs}
 use Rattle.record.specs.declared.form.Form.{Form}
 use Rattle.trace.specs.declared.reading.TraceRead.{TraceRead}
@@ -20,11 +20,11 @@ abbrev pub soFar : List Bool → Memory → List Start
 soFar has m = starts (λ l v. marked has l) 0 (m .cells)
 
 -- Lines from line k on, before any event, where an `init` line may have the location `low` or above, and those before made the memory m.
-unfoldable pub surveyInits : Form → ℕ → ℕ → ℕ → List Bool → Memory → List (List ℕ) → TraceRead
-surveyInits f side k low has m ls =
+unfoldable pub surveyInits : List Bool → Form → ℕ → ℕ → ℕ → List Bool → Memory → List (List ℕ) → TraceRead
+surveyInits regs f side k low has m ls =
     settle refused
     (first (linesFault (traceLayout f) side k (record { low = low; events = 0 }) ls)
-    (first (coverFault f side (soFar has m ++ initsIn f ls) (eventsIn f ls)) (eventFault side 1 (startFrom f m ls) [] (eventsIn f ls))))
+    (first (coverFault f side (soFar has m ++ initsIn f ls) (eventsIn f ls)) (eventFaultIn regs side 1 (startFrom f m ls) [] (eventsIn f ls))))
     (readAs (length (eventsIn f ls)) (startFrom f m ls))
 
 -- Where no `init` line may come after n events.
@@ -32,9 +32,9 @@ abbrev pub closed : ℕ → SoFar
 closed n = record { low = 256; events = n }
 
 -- Lines from line k on, all of which are to be events.
-unfoldable pub surveyEvents : Form → ℕ → ℕ → List Bool → Memory → List (List ℕ) → TraceRead
-surveyEvents f side k has m ls =
+unfoldable pub surveyEvents : List Bool → Form → ℕ → ℕ → List Bool → Memory → List (List ℕ) → TraceRead
+surveyEvents regs f side k has m ls =
     settle refused
     (first (linesFault (traceLayout f) side k (closed 0) ls)
-    (first (coverFault f side (soFar has m) (eventsIn f ls)) (eventFault side 1 m [] (eventsIn f ls))))
+    (first (coverFault f side (soFar has m) (eventsIn f ls)) (eventFaultIn regs side 1 m [] (eventsIn f ls))))
     (readAs (length (eventsIn f ls)) m)

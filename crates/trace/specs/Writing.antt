@@ -1,4 +1,5 @@
--- Document 01, "Lent room" and "The writer", and document 02, C-11 and C-15: a starting memory and a room written as a text of a form. Assumes nothing.
+-- Document 01, "Lent room" and "The writer", and document 02, C-11, C-15 and C-16: a starting memory and a room written as a text of a form, under a list of
+-- registers. Assumes nothing.
 use Prim.Native.Nat.{ℕ, _+_, _/_}
 use mathlib.Core.Bool.{Bool, cond, not, _&&_, _||_}
 use mathlib.Core.List.{List, [], _∷_, _++_, map}
@@ -6,6 +7,7 @@ use lib.Dec.{eqb, leb, ltb}
 use lib.ListN.{length, drop}
 use Rattle.event.specs.Answer.{answer, done, first}
 use Rattle.event.specs.Kind.{lawful}
+use Rattle.event.specs.Listed.{noneListed}
 use Rattle.event.specs.Room.{onward}
 use Rattle.event.specs.declared.Answer.{Answer}
 use Rattle.event.specs.declared.Event.{Event}
@@ -14,7 +16,7 @@ use Rattle.record.specs.Form.{header, loses, silent}
 use Rattle.record.specs.Layout.{initLine, eventLine}
 use Rattle.record.specs.declared.form.Form.{Form}
 use Rattle.trace.specs.Cover.{Start, touched, starts}
-use Rattle.trace.specs.Fault.{eventFault, firstBad}
+use Rattle.trace.specs.Fault.{eventFaultIn, firstBad}
 use Rattle.trace.specs.Reading.{eventLimit}
 
 -- How many events a part of a room has: one that is cut short at its end counts.
@@ -57,10 +59,10 @@ abbrev pub traceText : Form → Memory → List Event → List ℕ
 traceText f m es = textBy f (touched es) m es
 
 -- Answers 3, 18, 5 and 6 of the writer.
-unfoldable pub roomFault : Memory → List ℕ → Answer
-roomFault m room =
+unfoldable pub roomFaultIn : List Bool → Memory → List ℕ → Answer
+roomFaultIn regs m room =
     cond (ltb eventLimit (countOf room)) (answer 3 0 (eventLimit + 1))
-    (first (layoutFault 1 (roomEvents room)) (eventFault 0 1 m [] (roomEvents room)))
+    (first (layoutFault 1 (roomEvents room)) (eventFaultIn regs 0 1 m [] (roomEvents room)))
 
 -- 17: the room for the bytes is too short; else 0 with the bytes written.
 abbrev pub inOut : ℕ → List ℕ → Answer
@@ -75,11 +77,18 @@ abbrev pub outWith : Answer → List ℕ → List ℕ → List ℕ
 outWith fault t out = cond (eqb (answered fault t out .number) 0) (t ++ drop (length t) out) out
 
 -- The writer's refusals but 17: 3, 18, 5, 6 and 19.
-unfoldable pub writeFault : Form → Memory → List ℕ → Answer
-writeFault f m room = first (roomFault m room) (lost f 0 1 (roomEvents room))
+unfoldable pub writeFaultIn : List Bool → Form → Memory → List ℕ → Answer
+writeFaultIn regs f m room = first (roomFaultIn regs m room) (lost f 0 1 (roomEvents room))
 
-unfoldable pub writeOf : Form → Memory → List ℕ → List ℕ → Answer
-writeOf f m room out = answered (writeFault f m room) (traceText f m (roomEvents room)) out
+unfoldable pub writeIn : List Bool → Form → Memory → List ℕ → List ℕ → Answer
+writeIn regs f m room out = answered (writeFaultIn regs f m room) (traceText f m (roomEvents room)) out
 
-unfoldable pub outAfter : Form → Memory → List ℕ → List ℕ → List ℕ
-outAfter f m room out = outWith (writeFault f m room) (traceText f m (roomEvents room)) out
+unfoldable pub outAfterIn : List Bool → Form → Memory → List ℕ → List ℕ → List ℕ
+outAfterIn regs f m room out = outWith (writeFaultIn regs f m room) (traceText f m (roomEvents room)) out
+
+-- The same without a list, which lists none.
+abbrev pub writeOf : Form → Memory → List ℕ → List ℕ → Answer
+writeOf = writeIn noneListed
+
+abbrev pub outAfter : Form → Memory → List ℕ → List ℕ → List ℕ
+outAfter = outAfterIn noneListed

@@ -1,8 +1,10 @@
 // Answers 5 and 6 of one event: how its location was used, and whether its value is the latest.
 ghost use mathlib.Core.Path.{_≡_};
-ghost use mathlib.Core.Bool.{_||_, not};
+ghost use mathlib.Core.Bool.{true, cond, _||_, not};
 ghost use Prim.Native.Nat.{_<_};
 ghost use Rattle.event.specs.Answer.{done, first};
+ghost use Rattle.event.specs.Kind.{lawful};
+ghost use Rattle.event.specs.Listed.{isRegister, usesAtomically};
 ghost use Rattle.trace.specs.Fault.{faultAt};
 ghost use Rattle.trace.specs.Way.{wayOf, opposed, joined, clashing, waysAfter};
 use event::Answer;
@@ -12,6 +14,9 @@ use event::Word;
 use event::index_of;
 use event::kind::Place;
 use event::kind::row_of;
+use event::listed::Listed;
+use event::listed::is_listed;
+use event::listed::is_register;
 
 // How a location is used: not at all, by plain events, by atomic ones.
 pub type Way = u8;
@@ -60,6 +65,15 @@ pub(crate) fn joined_way(was: Way, way: Way) -> Way
     way
 }
 
+fn is_either(a: bool, b: bool) -> bool
+    ensures { λ r. ⌜ r ≡ (a || b) ⌝ }
+{
+    if a {
+        return true;
+    }
+    b
+}
+
 // Whether an event clashes with an earlier one, by how its location was used so far; the ways are those after it.
 pub(crate) fn use_place(ways: &mut [Way; 256], e: Event) -> bool
     requires { ⌜ e .place < 256 ⌝ }
@@ -70,6 +84,29 @@ pub(crate) fn use_place(ways: &mut [Way; 256], e: Event) -> bool
     let was = ways[place];
     ways[place] = joined_way(was, way);
     are_opposed(was, way)
+}
+
+// The same under a list, of which an atomic use clashes by itself.
+pub(crate) fn use_listed(listed: &Listed, ways: &mut [Way; 256], e: Event) -> bool
+    requires { ⌜ e .place < 256 ⌝ }
+    ensures { λ r. ⌜ (r ≡ (usesAtomically (now (listed .entry)) e || clashing (now (ways .entry)) e)) × (now (ways .exit) ≡ waysAfter (now (ways .entry)) e) ⌝ }
+{
+    let clash = use_place(ways, e);
+    if is_listed(listed, e.place) {
+        return is_either(way_of(e.kind) == ATOMIC, clash);
+    }
+    clash
+}
+
+// Whether an event's value is right, by whether it is the latest: that of a register need not be.
+pub(crate) fn is_right(listed: &Listed, e: Event, latest: bool) -> bool
+    requires { ⌜ lawful e ≡ true ⌝ }
+    ensures { λ r. ⌜ r ≡ cond (isRegister (now (listed .entry)) e) (lawful e) latest ⌝ }
+{
+    if latest {
+        return true;
+    }
+    is_register(listed, e)
 }
 
 // The first of two answers that refuses.

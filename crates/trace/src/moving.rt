@@ -5,7 +5,8 @@ ghost use mathlib.Core.List.{map};
 ghost use Prim.Native.Nat.{_+_, _<_};
 ghost use lib.ListN.{length};
 ghost use Rattle.record.specs.Layout.{eventLine};
-ghost use Rattle.trace.specs.Moving.{moveHead, moveSurvey, moveOf, movedOut};
+ghost use Rattle.trace.specs.Listed.{moveListed, movedListed};
+ghost use Rattle.trace.specs.Moving.{moveHead, moveSurveyIn, moveIn, movedOutIn, moveOf, movedOut};
 ghost use Rattle.trace.specs.Put.{Put, Small};
 ghost use Rattle.trace.specs.Reading.{eventsOn, eventsOf};
 ghost use Rattle.trace.specs.Way.{isUsed, waysOf};
@@ -21,6 +22,7 @@ use crate::reading::survey;
 use crate::writing::put_event;
 use crate::writing::put_start;
 use event::Answer;
+use event::listed::Listed;
 use event::memory::Memory;
 use record::Record;
 use record::form::Form;
@@ -92,14 +94,14 @@ fn move_head(to: Form, text: &[u8]) -> Answer
 }
 
 // The refusals of a move but 17, and else the starting memory.
-fn survey_to(to: Form, text: &[u8]) -> TraceRead
-    ensures { λ r. ⌜ r ≡ moveSurvey to (now (text .entry)) ⌝ }
+fn survey_to(listed: &Listed, to: Form, text: &[u8]) -> TraceRead
+    ensures { λ r. ⌜ r ≡ moveSurveyIn (now (listed .entry)) to (now (text .entry)) ⌝ }
 {
     let head = move_head(to, text);
     if head.number != 0 {
         return refusal(head);
     }
-    let surveyed = survey(text, 1);
+    let surveyed = survey(listed, text, 1);
     let found = surveyed.answer;
     if found.number != 0 {
         return surveyed;
@@ -183,11 +185,11 @@ fn moved_size(to: Form, ways: &[Way; 256], memory: Memory, text: &[u8]) -> usize
     put_moved(to, &mut none, ways, memory, text)
 }
 
-// A text of the other form, moved to a form, at the front of the lent bytes; a refusal changes nothing.
-pub fn move_to(to: Form, text: &[u8], out: &mut [u8]) -> Answer
-    ensures { λ r. ⌜ (r ≡ moveOf to (now (text .entry)) (now (out .entry))) × (now (out .exit) ≡ movedOut to (now (text .entry)) (now (out .entry))) ⌝ }
+// A text of the other form, moved to a form under a list of registers, at the front of the lent bytes; a refusal changes nothing.
+pub fn move_in(listed: &Listed, to: Form, text: &[u8], out: &mut [u8]) -> Answer
+    ensures { λ r. ⌜ (r ≡ moveIn (now (listed .entry)) to (now (text .entry)) (now (out .entry))) × (now (out .exit) ≡ movedOutIn (now (listed .entry)) to (now (text .entry)) (now (out .entry))) ⌝ }
 {
-    let surveyed = survey_to(to, text);
+    let surveyed = survey_to(listed, to, text);
     let fault = surveyed.answer;
     if fault.number != 0 {
         return fault;
@@ -201,4 +203,25 @@ pub fn move_to(to: Form, text: &[u8], out: &mut [u8]) -> Answer
     }
     put_moved(to, out, &ways, memory, text);
     Answer::new(0, 0, size)
+}
+
+// The same without a list: none is listed.
+pub fn move_to(to: Form, text: &[u8], out: &mut [u8]) -> Answer
+    ensures { λ r. ⌜ (r ≡ moveOf to (now (text .entry)) (now (out .entry))) × (now (out .exit) ≡ movedOut to (now (text .entry)) (now (out .entry))) ⌝ }
+{
+    let listed: Listed = [false; 256];
+    move_in(&listed, to, text, out)
+}
+
+// With the text of a list, whose answer comes first.
+pub fn move_listed(list: &[u8], to: Form, text: &[u8], out: &mut [u8]) -> Answer
+    ensures { λ r. ⌜ (r ≡ moveListed (now (list .entry)) to (now (text .entry)) (now (out .entry))) × (now (out .exit) ≡ movedListed (now (list .entry)) to (now (text .entry)) (now (out .entry))) ⌝ }
+{
+    let read = registers::read(list);
+    let found = read.answer;
+    if found.number != 0 {
+        return found;
+    }
+    let listed = read.listed;
+    move_in(&listed, to, text, out)
 }

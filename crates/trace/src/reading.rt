@@ -7,7 +7,7 @@ ghost use Rattle.event.specs.Memory.{empty as emptyMemory};
 ghost use Rattle.event.specs.Room.{putAt};
 ghost use Rattle.text.specs.Line.{splitFrom};
 ghost use Rattle.frame.specs.Store.{putAll};
-ghost use Rattle.trace.specs.Reading.{surveyOf, refused, roomFor, eventsOn, eventsOf};
+ghost use Rattle.trace.specs.Reading.{surveyIn, refused, roomFor, eventsOn, eventsOf};
 ghost use Rattle.trace.specs.Survey.{surveyInits, surveyEvents};
 use crate::cover::idle_fault;
 use crate::cover::lacks_line;
@@ -16,7 +16,8 @@ use crate::fault::Way;
 use crate::fault::fault_at;
 use crate::fault::first_of;
 use crate::fault::is_at_fault;
-use crate::fault::use_place;
+use crate::fault::is_right;
+use crate::fault::use_listed;
 use crate::form::form_of;
 use crate::form::head_fault_of;
 use event::Answer;
@@ -24,6 +25,7 @@ use event::Number;
 use event::WORDS;
 use event::Word;
 use event::index_of;
+use event::listed::Listed;
 use event::memory::Memory;
 use event::memory::Stepped;
 use event::room::put;
@@ -59,6 +61,7 @@ pub(crate) fn refusal(answer: Answer) -> TraceRead
 // The lines from line `line` on, which are to be events: each is tried for 2, 4, 3, and its event for 20 and for 5, 6, which come after all lines; `has`
 // says which locations have a line. 20 comes before 21, and that before 5 and 6.
 fn survey_events(
+    listed: &Listed,
     form: Form,
     text: &[u8],
     from: usize,
@@ -70,7 +73,7 @@ fn survey_events(
     requires { ⌜ from ≤ length (now text) ⌝ }
     requires { ⌜ line ≤ from ⌝ }
     requires { ⌜ 0 < from ⌝ }
-    ensures { λ r. ⌜ r ≡ surveyEvents form side line (now (has .entry)) start (splitFrom (now (text .entry)) from) ⌝ }
+    ensures { λ r. ⌜ r ≡ surveyEvents (now (listed .entry)) form side line (now (has .entry)) start (splitFrom (now (text .entry)) from) ⌝ }
 {
     let mut last = Stepped {
         memory: start,
@@ -102,10 +105,11 @@ fn survey_events(
         if lacks_line(form, has, e) {
             bare = first_of(bare, Answer::new(20, side, n));
         }
-        let clash = use_place(&mut ways, e);
+        let clash = use_listed(listed, &mut ways, e);
         last = last.memory.step(e);
-        if is_at_fault(clash, last.right) {
-            found = fault_at(found, clash, last.right, side, n);
+        let right = is_right(listed, e, last.right);
+        if is_at_fault(clash, right) {
+            found = fault_at(found, clash, right, side, n);
         }
         k += 1;
         at = to + 1;
@@ -131,10 +135,10 @@ fn survey_events(
 }
 
 // The lines after line 1: the starting values, then the events.
-fn survey_lines(form: Form, text: &[u8], from: usize, side: Number) -> TraceRead
+fn survey_lines(listed: &Listed, form: Form, text: &[u8], from: usize, side: Number) -> TraceRead
     requires { ⌜ from ≤ length (now text) ⌝ }
     requires { ⌜ 2 ≤ from ⌝ }
-    ensures { λ r. ⌜ r ≡ surveyInits form side 2 0 (replicate 256 false) emptyMemory (splitFrom (now (text .entry)) from) ⌝ }
+    ensures { λ r. ⌜ r ≡ surveyInits (now (listed .entry)) form side 2 0 (replicate 256 false) emptyMemory (splitFrom (now (text .entry)) from) ⌝ }
 {
     let mut start = Memory::empty();
     let mut has: [bool; 256] = [false; 256];
@@ -143,14 +147,14 @@ fn survey_lines(form: Form, text: &[u8], from: usize, side: Number) -> TraceRead
     let mut low: Word = 0;
     loop {
         let LineStep::Line { to } = next_line(text, at) else {
-            return survey_events(form, text, at, k, side, &has, start);
+            return survey_events(listed, form, text, at, k, side, &has, start);
         };
         match record_of(form, &text[at..to]) {
             Record::Refused => {
-                return survey_events(form, text, at, k, side, &has, start);
+                return survey_events(listed, form, text, at, k, side, &has, start);
             }
             Record::AnEvent(_) => {
-                return survey_events(form, text, at, k, side, &has, start);
+                return survey_events(listed, form, text, at, k, side, &has, start);
             }
             Record::Init { place, value } => {
                 if place < low {
@@ -168,22 +172,22 @@ fn survey_lines(form: Form, text: &[u8], from: usize, side: Number) -> TraceRead
 }
 
 // The answers of a text but 17, with its number of events and its starting memory.
-pub(crate) fn survey(text: &[u8], side: Number) -> TraceRead
-    ensures { λ r. ⌜ r ≡ surveyOf side (now (text .entry)) ⌝ }
+pub(crate) fn survey(listed: &Listed, text: &[u8], side: Number) -> TraceRead
+    ensures { λ r. ⌜ r ≡ surveyIn (now (listed .entry)) side (now (text .entry)) ⌝ }
 {
     let form = form_of(text);
     let found = head_fault_of(form, text, side);
     if found.number != 0 {
         return refusal(found);
     }
-    survey_lines(form, text, line_two(text), side)
+    survey_lines(listed, form, text, line_two(text), side)
 }
 
 // Those and 17, for a room of so many words.
-pub fn survey_in(text: &[u8], side: Number, words: usize) -> TraceRead
-    ensures { λ r. ⌜ r ≡ roomFor side words (surveyOf side (now (text .entry))) ⌝ }
+pub fn survey_in(listed: &Listed, text: &[u8], side: Number, words: usize) -> TraceRead
+    ensures { λ r. ⌜ r ≡ roomFor side words (surveyIn (now (listed .entry)) side (now (text .entry))) ⌝ }
 {
-    let surveyed = survey(text, side);
+    let surveyed = survey(listed, text, side);
     let events = surveyed.events;
     if words / WORDS < events {
         return refusal(Answer::new(17, side, events));

@@ -9,15 +9,16 @@ ghost use Rattle.text.specs.Number.{decimal};
 ghost use Rattle.record.specs.Layout.{orderWords, wordAt, eventLine};
 ghost use Rattle.record.specs.Form.{header};
 ghost use Rattle.record.specs.Table.{wordIn};
-ghost use Rattle.trace.specs.Fault.{eventFault};
+ghost use Rattle.trace.specs.Fault.{eventFaultIn};
 ghost use Rattle.trace.specs.Put.{Put, Small, tabIf, bareLine, initPart, startText};
 ghost use Rattle.trace.specs.Way.{isUsed};
-ghost use Rattle.trace.specs.Writing.{countOf, layoutFault, lost, textOf, hasLine, initLines, textBy, roomFault, writeFault};
+ghost use Rattle.trace.specs.Writing.{countOf, layoutFault, lost, textOf, hasLine, initLines, textBy, roomFaultIn, writeFaultIn};
 use crate::cover::has_line;
 use crate::fault::UNTOUCHED;
 use crate::fault::Way;
 use crate::fault::fault_at;
-use crate::fault::use_place;
+use crate::fault::is_right;
+use crate::fault::use_listed;
 use crate::reading::EVENT_LIMIT;
 use event::Answer;
 use event::Event;
@@ -25,6 +26,7 @@ use event::WORDS;
 use event::Word;
 use event::index_of;
 use event::kind::is_lawful;
+use event::listed::Listed;
 use event::memory::Memory;
 use event::memory::Stepped;
 use event::room::get;
@@ -80,10 +82,10 @@ fn loss_of(form: Form, room: &[Word], n: usize) -> Answer
 }
 
 // 5 and 6, event by event.
-fn event_fault(start: Memory, room: &[Word], n: usize) -> Answer
+fn event_fault(listed: &Listed, start: Memory, room: &[Word], n: usize) -> Answer
     requires { ⌜ n ≤ 800 ⌝ }
     requires { ⌜ layoutFault 1 (onward (now room) 0 n) .number ≡ 0 ⌝ }
-    ensures { λ r. ⌜ r ≡ eventFault 0 1 start [] (onward (now (room .entry)) 0 n) ⌝ }
+    ensures { λ r. ⌜ r ≡ eventFaultIn (now (listed .entry)) 0 1 start [] (onward (now (room .entry)) 0 n) ⌝ }
 {
     let mut last = Stepped {
         memory: start,
@@ -94,9 +96,10 @@ fn event_fault(start: Memory, room: &[Word], n: usize) -> Answer
     let mut i: usize = 0;
     while i < n {
         let e = get(room, i);
-        let clash = use_place(&mut ways, e);
+        let clash = use_listed(listed, &mut ways, e);
         last = last.memory.step(e);
-        let found = fault_at(none, clash, last.right, 0, i + 1);
+        let right = is_right(listed, e, last.right);
+        let found = fault_at(none, clash, right, 0, i + 1);
         if found.number != 0 {
             return found;
         }
@@ -106,8 +109,8 @@ fn event_fault(start: Memory, room: &[Word], n: usize) -> Answer
 }
 
 // Answers 3, 18, 5 and 6, in this order.
-fn room_fault(memory: Memory, room: &[Word]) -> Answer
-    ensures { λ r. ⌜ r ≡ roomFault memory (now (room .entry)) ⌝ }
+fn room_fault(listed: &Listed, memory: Memory, room: &[Word]) -> Answer
+    ensures { λ r. ⌜ r ≡ roomFaultIn (now (listed .entry)) memory (now (room .entry)) ⌝ }
 {
     let n = count_of(room);
     if EVENT_LIMIT < n {
@@ -117,14 +120,14 @@ fn room_fault(memory: Memory, room: &[Word]) -> Answer
     if found.number != 0 {
         return found;
     }
-    event_fault(memory, room, n)
+    event_fault(listed, memory, room, n)
 }
 
 // And 19.
-pub(crate) fn write_fault(form: Form, memory: Memory, room: &[Word]) -> Answer
-    ensures { λ r. ⌜ r ≡ writeFault form memory (now (room .entry)) ⌝ }
+pub(crate) fn write_fault(listed: &Listed, form: Form, memory: Memory, room: &[Word]) -> Answer
+    ensures { λ r. ⌜ r ≡ writeFaultIn (now (listed .entry)) form memory (now (room .entry)) ⌝ }
 {
-    let found = room_fault(memory, room);
+    let found = room_fault(listed, memory, room);
     if found.number != 0 {
         return found;
     }

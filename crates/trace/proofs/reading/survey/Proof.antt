@@ -13,7 +13,7 @@ use Rattle.frame.proofs.Heads.{head-refuses, head-passes, head-length, line-two
 use Rattle.record.specs.Form.{header, limitOf}
 use Rattle.record.specs.declared.form.Form.{Form}
 use Rattle.record.specs.declared.form.Form.the-variants.{One, Two}
-use Rattle.trace.specs.Reading.{SoFar, formOf, traceLayout, faultOf, surveyOf, eventsOf, initsOf}
+use Rattle.trace.specs.Reading.{SoFar, formOf, traceLayout, faultIn, surveyIn, eventsOf, initsOf}
 use Rattle.event.specs.Memory.{empty}
 use Rattle.trace.specs.Survey.{marked, surveyInits}
 use Rattle.trace.proofs.Inits.{unmarked}
@@ -38,7 +38,7 @@ header-long One = omega arith
 header-long Two = omega arith
 
 returns : tie.Need-returns
-unfolding surveyOf faultOf
+unfolding surveyIn faultIn
 returns c =
     let h = c .before .before .before in
     let z = ne-eqb _ _ (c .before .if1 .taken) in
@@ -63,7 +63,7 @@ survey-lines-requires c κs =
     )
 
 returns-2 : tie.Need-returns-2
-unfolding surveyOf faultOf surveyInits eventsOf initsOf
+unfolding surveyIn faultIn surveyInits eventsOf initsOf
 returns-2 c =
     let p = c .before in
     let f = h p .before .form-of .ensures in

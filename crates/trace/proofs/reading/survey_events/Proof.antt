@@ -1,7 +1,7 @@
 -- The reading from each line on is that from the next line on, until a line is refused or no LF is left; nothing may stand after the last one.
 -- While no event was at fault, the array says how the events so far used each location, afterwards only whether they did. Assumes nothing.
 use Prim.Native.Nat.{ℕ, _+_, _-_, _≤_, _<_}
-use mathlib.Core.Bool.{Bool, true, cond}
+use mathlib.Core.Bool.{Bool, true, cond, _||_}
 use mathlib.Core.List.{List, [], _∷_}
 use mathlib.Core.Path.{_≡_, refl, sym, _∙_, ap, fun-ext}
 use native.Mathlib.Omega.{arith}
@@ -14,6 +14,8 @@ use Rattle.event.specs.declared.Answer.{Answer}
 use Rattle.event.specs.declared.Event.{Event}
 use Rattle.event.specs.declared.memory.Memory.{Memory}
 use Rattle.event.specs.declared.memory.Stepped.{Stepped}
+use Rattle.event.specs.Kind.{lawful}
+use Rattle.event.specs.Listed.{isRegister, usesAtomically, steppedIn}
 use Rattle.event.proofs.Lawful.{place-below}
 use Rattle.text.specs.Cut.{isEmpty}
 use Rattle.text.specs.Line.{splitFrom}
@@ -25,18 +27,18 @@ use Rattle.record.specs.declared.Record.the-variants.{AnEvent}
 use Rattle.record.proofs.Records.{line-lawful}
 use Rattle.record.specs.declared.form.Form.{Form}
 use Rattle.trace.specs.Cover.{touched, lined, lacksLine, isIdle}
-use Rattle.trace.specs.Fault.{firstBad, clashes, faultAt}
+use Rattle.trace.specs.Fault.{firstBad, clashesIn, faultAt}
 use Rattle.trace.specs.Reading.{refused}
 use Rattle.trace.specs.Survey.{marked, soFar, surveyEvents}
 use Rattle.trace.specs.declared.reading.TraceRead.{TraceRead}
 use Rattle.trace.proofs.Judged.{fault-free, faultless, first-stays}
 use Rattle.trace.proofs.Starts.{lined-starts}
 use Rattle.trace.proofs.Surveys.{surveyOn, on-start, on-open, on-bare, on-idle, on-found, on-end, on-bad, on-init, on-full, on-go}
-use Rattle.trace.proofs.Ways.{Marks, marks-start, marks-told, clash, marks-next, Touch, touch-told, touch-start, touch-next}
+use Rattle.trace.proofs.Ways.{or-right, Marks, marks-start, marks-told, clash, marks-next, Touch, touch-told, touch-start, touch-next}
 use Rattle.trace.proofs.reading.survey_events.Statement.{statement}
 use Rattle.trace.proofs.reading.survey_events.Tie as tie
 
-record Inv (form : Form) (text : List ℕ) (from line side : ℕ) (has : List Bool) (start m : Memory) (ways : List ℕ) (bare found : Answer) (at k n : ℕ) : Type 0 where
+record Inv (regs : List Bool) (form : Form) (text : List ℕ) (from line side : ℕ) (has : List Bool) (start m : Memory) (ways : List ℕ) (bare found : Answer) (at k n : ℕ) : Type 0 where
   within : at ≤ length text
   lined : k ≤ at
   counted : n < at
@@ -45,29 +47,32 @@ record Inv (form : Form) (text : List ℕ) (from line side : ℕ) (has : List Bo
   none : found .number ≡ 0 → found ≡ done
   marks : found .number ≡ 0 → Marks ways before
   touch : Touch ways before
-  same : surveyEvents form side line has start (splitFrom text from) ≡ surveyOn form side k n m before bare found has start (splitFrom text at)
+  same : surveyEvents regs form side line has start (splitFrom text from) ≡ surveyOn regs form side k n m before bare found has start (splitFrom text at)
 
 abbrev Inv-loop : tie.InvT-loop
-Inv-loop form text from line side has start last₀ ways₀ bare₀ found₀ at₀ k₀ n₀ last ways bare found at k n =
-    Inv form text from line side has start (last .memory) ways bare found at k n
+Inv-loop regs form text from line side has start last₀ ways₀ bare₀ found₀ at₀ k₀ n₀ last ways bare found at k n =
+    Inv regs form text from line side has start (last .memory) ways bare found at k n
 
 abbrev μ-loop : tie.MeasureT-loop
-μ-loop form text from line side has start last₀ ways₀ bare₀ found₀ at₀ k₀ n₀ last ways bare found at k n = length text - at
+μ-loop regs form text from line side has start last₀ ways₀ bare₀ found₀ at₀ k₀ n₀ last ways bare found at k n = length text - at
 
 -- a refusal that is returned
 refuses : {r w : TraceRead} {a b : Answer} → r ≡ refused a → a ≡ b → w ≡ refused b → r ≡ w
 refuses p q e = p ∙ (ap refused q ∙ sym e)
 
 -- what the step and the judging of an event hand back
-on-told : (form : Form) (side k n : ℕ) (es : List Event) (has : List Bool) (start : Memory) (ls : List (List ℕ)) (clash : Bool) (a : Answer) {s s′ : Stepped}
-    {f b b′ : Answer} → s ≡ s′ → f ≡ first a (faultAt side n clash (s .right)) → b ≡ b′
-    → surveyOn form side k n (s′ .memory) es b′ (first a (faultAt side n clash (s′ .right))) has start ls ≡ surveyOn form side k n (s .memory) es b f has start ls
-on-told form side k n es has start ls clash a p q o = rw (q, p, o)
+on-told : (regs : List Bool) (form : Form) (side k n : ℕ) (es : List Event) (has : List Bool) (start : Memory) (ls : List (List ℕ)) (clash : Bool) (a : Answer) {s s′ : Stepped}
+    {r r′ : Bool} {f b b′ : Answer} → s ≡ s′ → r ≡ r′ → f ≡ first a (faultAt side n clash r) → b ≡ b′
+    → surveyOn regs form side k n (s′ .memory) es b′ (first a (faultAt side n clash r′)) has start ls ≡ surveyOn regs form side k n (s .memory) es b f has start ls
+on-told regs form side k n es has start ls clash a p e q o = rw (q, p, e, o)
 
 -- a turn's place
 module _ (c : tie.After-next-line Inv-loop μ-loop) where
   abbrev begin : tie.Start Inv-loop μ-loop
   begin = c .before .before .before .before .before
+
+  abbrev regs : List Bool
+  regs = begin .args .listed .now
 
   abbrev text : List ℕ
   text = begin .args .text .now
@@ -82,16 +87,16 @@ module _ (c : tie.After-next-line Inv-loop μ-loop) where
   memory = c .before .loop .last .memory
 
   abbrev whole : TraceRead
-  whole = surveyEvents (begin .args .form) (begin .args .side) (begin .args .line) has (begin .args .start) (splitFrom text (begin .args .from))
+  whole = surveyEvents regs (begin .args .form) (begin .args .side) (begin .args .line) has (begin .args .start) (splitFrom text (begin .args .from))
 
-  inv : Inv (begin .args .form) text (begin .args .from) (begin .args .line) (begin .args .side) has (begin .args .start) memory (c .before .loop .ways)
+  inv : Inv regs (begin .args .form) text (begin .args .from) (begin .args .line) (begin .args .side) has (begin .args .start) memory (c .before .loop .ways)
       (c .before .loop .bare) (c .before .loop .found) at (c .before .loop .k) (c .before .loop .n)
   inv = c .before .loop .inv
 
   -- the reading from there on
   abbrev on : List (List ℕ) → TraceRead
   on ls =
-      surveyOn (begin .args .form) (begin .args .side) (c .before .loop .k) (c .before .loop .n) memory (inv .before) (c .before .loop .bare) (c .before .loop .found)
+      surveyOn regs (begin .args .form) (begin .args .side) (c .before .loop .k) (c .before .loop .n) memory (inv .before) (c .before .loop .bare) (c .before .loop .found)
       has (begin .args .start) ls
 
 -- its line has a LF
@@ -149,7 +154,7 @@ module _ (c : tie.Joined2 Inv-loop μ-loop) where
 
   -- there is a cell for each location
   size : length (begin d .args .start .cells) ≡ 256
-  size = simp length-map at (begin d .good .1 .1 .1 .1 .1 .1 .0 .1 .1 .0 .1 .0 .1)
+  size = simp length-map at (begin d .good .1 .1 .1 .1 .1 .1 .1 .0 .1 .1 .0 .1 .0 .1)
 
   abbrev lacking : Bool
   lacking = lacksLine (begin d .args .form) (lined (soFar (has d) (begin d .args .start))) (event y)
@@ -167,10 +172,13 @@ module _ (c : tie.Joined2 Inv-loop μ-loop) where
 
 -- and is judged
 module _ (c : tie.Joined3 Inv-loop μ-loop) where
-  abbrev stepped-on : tie.After-step Inv-loop μ-loop
-  stepped-on = c .before .before
+  abbrev judged : tie.After-is-right Inv-loop μ-loop
+  judged = c .before .before
 
-  abbrev u : tie.After-use-place Inv-loop μ-loop
+  abbrev stepped-on : tie.After-step Inv-loop μ-loop
+  stepped-on = judged .before
+
+  abbrev u : tie.After-use-listed Inv-loop μ-loop
   u = stepped-on .before
 
   abbrev b : tie.Joined2 Inv-loop μ-loop
@@ -189,43 +197,49 @@ module _ (c : tie.Joined3 Inv-loop μ-loop) where
   found = p .before .loop .found
 
   abbrev right-now : Bool
-  right-now = stepped-on .step .result .right
+  right-now = judged .is-right .result
 
   abbrev after : Answer
   after = c .if3 .found
 
-  clash-is : found .number ≡ 0 → u .use-place .result ≡ clashes (inv p .before) (event v)
-  clash-is z = u .use-place .ensures .0 ∙ sym (clash ways (inv p .before) (event v) (inside v) (inv p .marks z))
+  clash-is : found .number ≡ 0 → u .use-listed .result ≡ clashesIn (regs p) (inv p .before) (event v)
+  clash-is z =
+      u .use-listed .ensures .0
+      ∙ ap (λ (b : Bool). usesAtomically (regs p) (event v) || b) (sym (clash ways (inv p .before) (event v) (inside v) (inv p .marks z)))
+
+  right-is : right-now ≡ steppedIn (regs p) (memory p) (event v) .right
+  right-is = judged .is-right .ensures ∙ ap (λ (s : Stepped). cond (isRegister (regs p) (event v)) (lawful (event v)) (s .right)) (stepped-on .step .ensures)
 
   -- where the event is not at fault, what was found before stays
-  told : after ≡ first found (faultAt (begin p .args .side) (p .before .loop .n + 1) (u .use-place .result) right-now)
+  told : after ≡ first found (faultAt (begin p .args .side) (p .before .loop .n + 1) (u .use-listed .result) right-now)
   told =
       cases (c .if3 .came) (λ t. t .2 ∙ t .1 .ensures)
       (λ e. e .1
-      ∙ faultless found (inv p .none) (begin p .args .side) (p .before .loop .n + 1) (u .use-place .result) right-now
+      ∙ faultless found (inv p .none) (begin p .args .side) (p .before .loop .n + 1) (u .use-listed .result) right-now
       (sym (c .before .is-at-fault .ensures) ∙ e .0 .left))
 
-  goes-on : whole p ≡ surveyOn (begin p .args .form) (begin p .args .side) (p .before .loop .k + 1) (p .before .loop .n + 1) (stepped-on .step .result .memory)
+  goes-on : whole p ≡ surveyOn (regs p) (begin p .args .form) (begin p .args .side) (p .before .loop .k + 1) (p .before .loop .n + 1) (stepped-on .step .result .memory)
       (event v ∷ inv p .before) (b .if2 .bare) after (has p) (begin p .args .start) (others (r v))
   goes-on =
       by-line (r v)
-      (on-go _ _ _ _ _ _ _ _ _ _ _ _ (line (t (r v)) .some) (event v) (its v) (asked b .before .if1 .left) (u .use-place .result) clash-is
-      ∙ on-told _ _ _ _ _ _ _ _ (u .use-place .result) found (stepped-on .step .ensures) told (bare-told b))
+      (on-go _ _ _ _ _ _ _ _ _ _ _ _ _ (line (t (r v)) .some) (event v) (its v) (asked b .before .if1 .left) (u .use-listed .result) clash-is
+      ∙ on-told _ _ _ _ _ _ _ _ _ (u .use-listed .result) found (stepped-on .step .ensures) right-is told (bare-told b))
 
   none-after : after .number ≡ 0 → after ≡ done
   none-after z =
-      first-stays found (begin p .args .side) (p .before .loop .n + 1) (u .use-place .result) right-now told z
+      first-stays found (begin p .args .side) (p .before .loop .n + 1) (u .use-listed .result) right-now told z
 
-  marks-after : after .number ≡ 0 → Marks (u .use-place .last .0) (event v ∷ inv p .before)
+  marks-after : after .number ≡ 0 → Marks (u .use-listed .last .1 .0) (event v ∷ inv p .before)
   marks-after z =
       let f = first-done found _ (ap (λ (a : Answer). a .number) (sym told) ∙ z) in
-      let free = sym (u .use-place .ensures .0) ∙ fault-free (begin p .args .side) (p .before .loop .n + 1) (u .use-place .result) right-now (f .1) .0 in
-      marks-told (event v ∷ inv p .before) (u .use-place .ensures .1)
+      let none = fault-free (begin p .args .side) (p .before .loop .n + 1) (u .use-listed .result) right-now (f .1) .0 in
+      let free = or-right (usesAtomically (regs p) (event v)) _ (sym (u .use-listed .ensures .0) ∙ none) in
+      marks-told (event v ∷ inv p .before) (u .use-listed .ensures .1)
       (marks-next ways (inv p .before) (event v) (inside v) (inv p .marks (f .0)) (inv p .size) free)
 
-  touch-after : Touch (u .use-place .last .0) (event v ∷ inv p .before)
+  touch-after : Touch (u .use-listed .last .1 .0) (event v ∷ inv p .before)
   touch-after =
-      touch-told (event v ∷ inv p .before) (u .use-place .ensures .1) (touch-next ways (event v) (inside v) (inv p .size) (inv p .before) (inv p .touch))
+      touch-told (event v ∷ inv p .before) (u .use-listed .ensures .1) (touch-next ways (event v) (inside v) (inv p .size) (inv p .before) (inv p .touch))
 
 loop-holds : tie.Need-loop-holds Inv-loop μ-loop
 loop-holds c = record {
@@ -237,26 +251,26 @@ loop-holds c = record {
   none = λ z. c .new2 .ensures;
   marks = λ z. marks-start;
   touch = touch-start;
-  same = rw (c .new2 .ensures, c .before .new .ensures) (on-start _ _ _ _ _ _);
+  same = rw (c .new2 .ensures, c .before .new .ensures) (on-start _ _ _ _ _ _ _);
 }
 
 returns : tie.Need-returns Inv-loop μ-loop
 returns c =
     let q = c .before .before .before .before in
     refuses (c .refusal .ensures) (c .before .new3 .ensures)
-    (by-line q (on-bad _ _ _ _ _ _ _ _ _ _ _ _ (line (t q) .some) (is q (c .before .before .enum-told2 .given .1))))
+    (by-line q (on-bad _ _ _ _ _ _ _ _ _ _ _ _ _ (line (t q) .some) (is q (c .before .before .enum-told2 .given .1))))
 
 returns-2 : tie.Need-returns-2 Inv-loop μ-loop
 returns-2 c =
     let q = c .before .before .before .before in
     refuses (c .refusal2 .ensures) (c .before .new4 .ensures)
-    (by-line q (on-init _ _ _ _ _ _ _ _ _ _ _ _ (line (t q) .some) _ _ (is q (c .before .before .enum-told3 .given .1))))
+    (by-line q (on-init _ _ _ _ _ _ _ _ _ _ _ _ _ (line (t q) .some) _ _ (is q (c .before .before .enum-told3 .given .1))))
 
 returns-3 : tie.Need-returns-3 Inv-loop μ-loop
 returns-3 c =
     let q = c .before .before .before .before in
     refuses (c .refusal3 .ensures) (c .before .new5 .ensures)
-    (by-line (r q) (on-full _ _ _ _ _ _ _ _ _ _ _ _ (line (t (r q)) .some) _ (its q) (c .before .before .if1 .taken)))
+    (by-line (r q) (on-full _ _ _ _ _ _ _ _ _ _ _ _ _ (line (t (r q)) .some) _ (its q) (c .before .before .if1 .taken)))
 
 loop-again : tie.Need-loop-again Inv-loop μ-loop
 loop-again c =
@@ -265,7 +279,7 @@ loop-again c =
       within = omega (arith, n);
       lined = omega (arith, n, inv (p c));
       counted = omega (arith, n, inv (p c));
-      size = ap length (u c .use-place .ensures .1) ∙ simp length-set (inv (p c) .size);
+      size = ap length (u c .use-listed .ensures .1) ∙ simp length-set (inv (p c) .size);
       before = event (v c) ∷ inv (p c) .before;
       none = none-after c;
       marks = marks-after c;
@@ -284,7 +298,7 @@ module _ (c : tie.After-enum-told Inv-loop μ-loop) where
 returns-4 : tie.Need-returns-4 Inv-loop μ-loop
 returns-4 c =
     let q = c .before .before .before in
-    refuses (c .refusal4 .ensures) (c .before .new7 .ensures) (rest q (on-open _ _ _ _ _ _ _ _ _ _ _ (rest-some _ _ (c .before .before .if4 .taken))))
+    refuses (c .refusal4 .ensures) (c .before .new7 .ensures) (rest q (on-open _ _ _ _ _ _ _ _ _ _ _ _ (rest-some _ _ (c .before .before .if4 .taken))))
 
 -- and nothing stands there
 module _ (c : tie.Else4 Inv-loop μ-loop) where
@@ -300,7 +314,7 @@ module _ (c : tie.Else4 Inv-loop μ-loop) where
 returns-5 : tie.Need-returns-5 Inv-loop μ-loop
 returns-5 c =
     let h = c .before .before .before in
-    refuses (c .refusal5 .ensures) refl (rest (h .before) (on-bare _ _ _ _ _ _ _ _ _ _ _ (ends h) (nothing h) (ne-eqb _ _ (c .before .if5 .taken))))
+    refuses (c .refusal5 .ensures) refl (rest (h .before) (on-bare _ _ _ _ _ _ _ _ _ _ _ _ (ends h) (nothing h) (ne-eqb _ _ (c .before .if5 .taken))))
 
 -- each event has its line, and 21 is asked
 module _ (c : tie.After-idle-fault Inv-loop μ-loop) where
@@ -322,7 +336,7 @@ returns-6 : tie.Need-returns-6 Inv-loop μ-loop
 returns-6 c =
     let i = c .before .before .before in
     refuses (c .refusal6 .ensures) (idle-is i)
-    (rest (h i .before) (on-idle _ _ _ _ _ _ _ _ _ _ _ (ends (h i)) (nothing (h i)) (i .before .before .if5 .left)
+    (rest (h i .before) (on-idle _ _ _ _ _ _ _ _ _ _ _ _ (ends (h i)) (nothing (h i)) (i .before .before .if5 .left)
     (ne-eqb _ _ (λ z. c .before .if6 .taken (ap (λ (x : Answer). x .number) (idle-is i) ∙ z)))))
 
 returns-7 : tie.Need-returns-7 Inv-loop μ-loop
@@ -330,7 +344,7 @@ returns-7 c =
     let e = c .before .before .before in
     let i = e .before .before in
     refuses (c .refusal7 .ensures) refl
-    (rest (h i .before) (on-found _ _ _ _ _ _ _ _ _ _ _ (ends (h i)) (nothing (h i)) (i .before .before .if5 .left) (number-is i (e .if6 .left))
+    (rest (h i .before) (on-found _ _ _ _ _ _ _ _ _ _ _ _ (ends (h i)) (nothing (h i)) (i .before .before .if5 .left) (number-is i (e .if6 .left))
     (ne-eqb _ _ (c .before .if7 .taken))))
 
 returns-8 : tie.Need-returns-8 Inv-loop μ-loop
@@ -338,7 +352,7 @@ returns-8 c =
     let e = c .before .before .before in
     let i = e .before .before in
     rw (c .new8 .ensures)
-    (sym (rest (h i .before) (on-end _ _ _ _ _ _ _ _ _ _ _ (ends (h i)) (nothing (h i)) (i .before .before .if5 .left) (number-is i (e .if6 .left)) (c .before .if7 .left))))
+    (sym (rest (h i .before) (on-end _ _ _ _ _ _ _ _ _ _ _ _ (ends (h i)) (nothing (h i)) (i .before .before .if5 .left) (number-is i (e .if6 .left)) (c .before .if7 .left))))
 
 pub survey-events-spec : {M : Type 1} → statement M
 survey-events-spec =
@@ -374,8 +388,9 @@ survey-events-spec =
     (search needs)
     (λ c κs. inside (y (c .before)))
     (search needs)
+    (λ c κs. line-lawful _ _ _ (its (y (c .before .before .before))))
     (search needs)
-    (λ c κs. inv (d (c .before .before .before .before .before)) .none)
+    (λ c κs. inv (d (c .before .before .before .before .before .before)) .none)
     (λ c. omega (arith, line (t (r (v c))), inv (p c), begin (p c) .good))
     (λ c. omega (arith, line (t (r (v c))), begin (p c) .good))
     (λ c. omega (arith, line (t (r (v c))), begin (p c) .good))

@@ -24,7 +24,7 @@ use Rattle.trace.proofs.Inits.{unmarked, inits-last, inits-refused, ini
 use Rattle.trace.proofs.reading.survey_lines.Statement.{statement}
 use Rattle.trace.proofs.reading.survey_lines.Tie as tie
 
-record Inv (form : Form) (text : List ℕ) (from side : ℕ) (start : Memory) (has : List Bool) (at k low : ℕ) : Type 0 where
+record Inv (regs : List Bool) (form : Form) (text : List ℕ) (from side : ℕ) (start : Memory) (has : List Bool) (at k low : ℕ) : Type 0 where
   within : at ≤ length text
   second : 2 ≤ k
   lined : k ≤ at
@@ -32,18 +32,21 @@ record Inv (form : Form) (text : List ℕ) (from side : ℕ) (start : Memory) (h
   size : length (start .cells) ≡ 256
   marks : length has ≡ 256
   none : (j : ℕ) → low ≤ j → marked has j ≡ false
-  same : surveyInits form side 2 0 (replicate 256 false) empty (splitFrom text from) ≡ surveyInits form side k low has start (splitFrom text at)
+  same : surveyInits regs form side 2 0 (replicate 256 false) empty (splitFrom text from) ≡ surveyInits regs form side k low has start (splitFrom text at)
 
 abbrev Inv-loop : tie.InvT-loop
-Inv-loop form text from side start₀ has₀ at₀ k₀ low₀ start has at k low = Inv form text from side start has at k low
+Inv-loop regs form text from side start₀ has₀ at₀ k₀ low₀ start has at k low = Inv regs form text from side start has at k low
 
 abbrev μ-loop : tie.MeasureT-loop
-μ-loop form text from side start₀ has₀ at₀ k₀ low₀ start has at k low = length text - at
+μ-loop regs form text from side start₀ has₀ at₀ k₀ low₀ start has at k low = length text - at
 
 -- a turn's place
 module _ (c : tie.After-next-line Inv-loop μ-loop) where
   abbrev begin : tie.Start Inv-loop μ-loop
   begin = c .before .before .before .before
+
+  abbrev regs : List Bool
+  regs = begin .args .listed .now
 
   abbrev text : List ℕ
   text = begin .args .text .now
@@ -61,15 +64,15 @@ module _ (c : tie.After-next-line Inv-loop μ-loop) where
   has = c .before .loop .has
 
   abbrev whole : TraceRead
-  whole = surveyInits (begin .args .form) (begin .args .side) 2 0 (replicate 256 false) empty (splitFrom text (begin .args .from))
+  whole = surveyInits regs (begin .args .form) (begin .args .side) 2 0 (replicate 256 false) empty (splitFrom text (begin .args .from))
 
-  inv : Inv (begin .args .form) text (begin .args .from) (begin .args .side) start has at k (c .before .loop .low)
+  inv : Inv regs (begin .args .form) text (begin .args .from) (begin .args .side) start has at k (c .before .loop .low)
   inv = c .before .loop .inv
 
   -- no starting value stands there: the reading of events
   rest : {r : TraceRead} {ls : List (List ℕ)} → splitFrom text at ≡ ls
-      → surveyInits (begin .args .form) (begin .args .side) k (c .before .loop .low) has start ls ≡ surveyEvents (begin .args .form) (begin .args .side) k has start ls
-      → r ≡ surveyEvents (begin .args .form) (begin .args .side) k has start (splitFrom text at) → r ≡ whole
+      → surveyInits regs (begin .args .form) (begin .args .side) k (c .before .loop .low) has start ls ≡ surveyEvents regs (begin .args .form) (begin .args .side) k has start ls
+      → r ≡ surveyEvents regs (begin .args .form) (begin .args .side) k has start (splitFrom text at) → r ≡ whole
   rest p e q = (rw p at q) ∙ sym ((rw p at (inv .same)) ∙ e)
 
 -- its line has a LF
@@ -117,15 +120,15 @@ module _ (c : tie.After-place Inv-loop μ-loop) where
   abbrev others : List (List ℕ)
   others = splitFrom (text p) (to (t r) + 1)
 
-  by-line : {w : TraceRead} → surveyInits (begin p .args .form) (begin p .args .side) (k p) (p .before .loop .low) (has p) (start p) (this r ∷ others) ≡ w → whole p ≡ w
+  by-line : {w : TraceRead} → surveyInits (regs p) (begin p .args .form) (begin p .args .side) (k p) (p .before .loop .low) (has p) (start p) (this r ∷ others) ≡ w → whole p ≡ w
   by-line e = inv p .same ∙ rw (line (t r) .parts) e
 
   goes-on : (i : ℕ) → i ≡ cell → p .before .loop .low ≤ cell
-      → whole p ≡ surveyInits (begin p .args .form) (begin p .args .side) (k p + 1) (cell + 1) (set (has p) i true) (record { cells = set (start p .cells) i value })
+      → whole p ≡ surveyInits (regs p) (begin p .args .form) (begin p .args .side) (k p + 1) (cell + 1) (set (has p) i true) (record { cells = set (start p .cells) i value })
       others
   goes-on i e o =
       rw e
-      (by-line (inits-go _ _ _ _ _ _ _ _ (line (t r) .some) cell value its o (omega (arith, inside, inv p .size)) (omega (arith, inside, inv p .marks)) (inv p .none)))
+      (by-line (inits-go _ _ _ _ _ _ _ _ _ (line (t r) .some) cell value its o (omega (arith, inside, inv p .size)) (omega (arith, inside, inv p .marks)) (inv p .none)))
 
   -- none beyond it has a line
   none-after : (i : ℕ) → i ≡ cell → p .before .loop .low ≤ cell → (j : ℕ) → cell + 1 ≤ j → marked (set (has p) i true) j ≡ false
@@ -151,23 +154,23 @@ returns : tie.Need-returns Inv-loop μ-loop
 returns c =
     let o = c .before .before .before .before in
     let z = last (text o) (at o) (inv o .within) (sym (o .next-line .ensures) ∙ c .before .before .enum-told .given .1) in
-    rest o z (inits-last _ _ _ _ _ _ _) (c .survey-events .ensures)
+    rest o z (inits-last _ _ _ _ _ _ _ _) (c .survey-events .ensures)
 
 returns-2 : tie.Need-returns-2 Inv-loop μ-loop
 returns-2 c =
     let q = c .before .before .before .before in
-    rest (l (t q)) (line (t q) .parts) (inits-refused _ _ _ _ _ _ _ _ (line (t q) .some) (is q (c .before .before .enum-told2 .given .1))) (c .survey-events2 .ensures)
+    rest (l (t q)) (line (t q) .parts) (inits-refused _ _ _ _ _ _ _ _ _ (line (t q) .some) (is q (c .before .before .enum-told2 .given .1))) (c .survey-events2 .ensures)
 
 returns-3 : tie.Need-returns-3 Inv-loop μ-loop
 returns-3 c =
     let q = c .before .before .before .before in
-    rest (l (t q)) (line (t q) .parts) (inits-event _ _ _ _ _ _ _ _ (line (t q) .some) _ (is q (c .before .before .enum-told3 .given .1))) (c .survey-events3 .ensures)
+    rest (l (t q)) (line (t q) .parts) (inits-event _ _ _ _ _ _ _ _ _ (line (t q) .some) _ (is q (c .before .before .enum-told3 .given .1))) (c .survey-events3 .ensures)
 
 returns-4 : tie.Need-returns-4 Inv-loop μ-loop
 returns-4 c =
     let q = c .before .before .before .before in
     c .refusal .ensures
-    ∙ (ap refused (c .before .new .ensures) ∙ sym (by-line q (inits-low _ _ _ _ _ _ _ _ (line (t (r q)) .some) _ _ (its q) (c .before .before .if1 .taken))))
+    ∙ (ap refused (c .before .new .ensures) ∙ sym (by-line q (inits-low _ _ _ _ _ _ _ _ _ (line (t (r q)) .some) _ _ (its q) (c .before .before .if1 .taken))))
 
 -- what is known of a turn's numbers
 module _ (c : tie.After-index-of Inv-loop μ-loop) where

@@ -1,7 +1,7 @@
 -- The answer over all events is the answer over those from here on, which are lawful; the array says how the events so far used each
 -- location. Assumes nothing.
 use Prim.Native.Nat.{ℕ, _+_, _-_, _≤_, _<_}
-use mathlib.Core.Bool.{Bool, true, false, not}
+use mathlib.Core.Bool.{Bool, true, false, cond, not, _||_}
 use mathlib.Core.List.{List, [], _∷_}
 use mathlib.Core.Path.{_≡_, refl, sym, _∙_, ap}
 use native.Mathlib.Omega.{arith}
@@ -11,37 +11,37 @@ use lib.Dec.{eqb}
 use lib.ListN.{length, length-set}
 use Rattle.event.specs.Answer.{done, first}
 use Rattle.event.specs.Kind.{lawful}
-use Rattle.event.specs.Memory.{stepped}
+use Rattle.event.specs.Listed.{isRegister, usesAtomically, steppedIn}
 use Rattle.event.specs.Room.{onward}
 use Rattle.event.specs.declared.Answer.{Answer}
 use Rattle.event.specs.declared.Event.{Event}
 use Rattle.event.specs.declared.memory.Memory.{Memory}
 use Rattle.event.specs.declared.memory.Stepped.{Stepped}
 use Rattle.event.proofs.Lawful.{place-below}
-use Rattle.trace.specs.Fault.{clashes, faultAt, eventFault}
+use Rattle.trace.specs.Fault.{clashesIn, faultAt, eventFaultIn}
 use Rattle.trace.specs.Writing.{layoutFault}
 use Rattle.trace.proofs.Judged.{event-next, onward-end, onward-all, bad-none, fault-next, fault-end, fault-free}
-use Rattle.trace.proofs.Ways.{Marks, marks-start, marks-told, clash, marks-next}
+use Rattle.trace.proofs.Ways.{or-right, Marks, marks-start, marks-told, clash, marks-next}
 use Rattle.trace.proofs.writing.event_fault.Statement.{statement}
 use Rattle.trace.proofs.writing.event_fault.Tie as tie
 
-record Inv (room : List ℕ) (n : ℕ) (start m : Memory) (ways : List ℕ) (i : ℕ) : Type 0 where
+record Inv (regs : List Bool) (room : List ℕ) (n : ℕ) (start m : Memory) (ways : List ℕ) (i : ℕ) : Type 0 where
   within : i ≤ n
   size : length ways ≡ 256
   sound : layoutFault (i + 1) (onward room i (n - i)) .number ≡ 0
   before : List Event
   marks : Marks ways before
-  same : eventFault 0 1 start [] (onward room 0 n) ≡ eventFault 0 (i + 1) m before (onward room i (n - i))
+  same : eventFaultIn regs 0 1 start [] (onward room 0 n) ≡ eventFaultIn regs 0 (i + 1) m before (onward room i (n - i))
 
 abbrev Inv-loop : tie.InvT-loop
-Inv-loop room n last₀ ways₀ none₀ i₀ last ways i = Inv room n (last₀ .memory) (last .memory) ways i
+Inv-loop regs room n last₀ ways₀ none₀ i₀ last ways i = Inv regs room n (last₀ .memory) (last .memory) ways i
 
 abbrev μ-loop : tie.MeasureT-loop
-μ-loop room n last₀ ways₀ none₀ i₀ last ways i = n - i
+μ-loop regs room n last₀ ways₀ none₀ i₀ last ways i = n - i
 
 -- what was found, by what the calls tell
-found-told : (k : ℕ) {r none : Answer} {clash clash′ : Bool} {s s′ : Stepped} → none ≡ done → clash ≡ clash′ → s ≡ s′
-    → r ≡ first none (faultAt 0 k clash (s .right)) → r ≡ faultAt 0 k clash′ (s′ .right)
+found-told : (k : ℕ) {r none : Answer} {clash clash′ right right′ : Bool} → none ≡ done → clash ≡ clash′ → right ≡ right′
+    → r ≡ first none (faultAt 0 k clash right) → r ≡ faultAt 0 k clash′ right′
 found-told k o p q h = h ∙ rw (o, p, q)
 
 refuses : (b : Answer) {a r : Answer} → r ≡ a → eqb (r .number) 0 ≡ false → first a b ≡ r
@@ -54,6 +54,9 @@ module _ (c : tie.After-get Inv-loop μ-loop) where
 
   abbrev args : tie.Start Inv-loop μ-loop
   args = l .before .before .before
+
+  abbrev regs : List Bool
+  regs = args .args .listed .now
 
   abbrev room : List ℕ
   room = args .args .room .now
@@ -70,7 +73,7 @@ module _ (c : tie.After-get Inv-loop μ-loop) where
   abbrev others : List Event
   others = onward room (i + 1) (n - (i + 1))
 
-  inv : Inv room n (args .args .start) (l .loop .last .memory) (l .loop .ways) i
+  inv : Inv regs room n (args .args .start) (l .loop .last .memory) (l .loop .ways) i
   inv = l .loop .inv
 
   parts : onward room i (n - i) ≡ e ∷ others
@@ -86,32 +89,40 @@ module _ (c : tie.After-get Inv-loop μ-loop) where
 
 -- judged
 module _ (c : tie.After-fault-at Inv-loop μ-loop) where
-  abbrev u : tie.After-use-place Inv-loop μ-loop
-  u = c .before .before
+  abbrev judged : tie.After-is-right Inv-loop μ-loop
+  judged = c .before
+
+  abbrev u : tie.After-use-listed Inv-loop μ-loop
+  u = judged .before .before
 
   abbrev g : tie.After-get Inv-loop μ-loop
   g = u .before .before
 
   abbrev clash-now : Bool
-  clash-now = clashes (inv g .before) (e g)
+  clash-now = clashesIn (regs g) (inv g .before) (e g)
 
   abbrev right-now : Bool
-  right-now = stepped (l g .loop .last .memory) (e g) .right
+  right-now = steppedIn (regs g) (l g .loop .last .memory) (e g) .right
 
   abbrev its : Answer
   its = faultAt 0 (i g + 1) clash-now right-now
 
-  clash-is : u .use-place .result ≡ clash-now
-  clash-is = u .use-place .ensures .0 ∙ sym (clash (l g .loop .ways) (inv g .before) (e g) (inside g) (inv g .marks))
+  clash-is : u .use-listed .result ≡ clash-now
+  clash-is =
+      u .use-listed .ensures .0
+      ∙ ap (λ (b : Bool). usesAtomically (regs g) (e g) || b) (sym (clash (l g .loop .ways) (inv g .before) (e g) (inside g) (inv g .marks)))
+
+  right-is : judged .is-right .result ≡ right-now
+  right-is = judged .is-right .ensures ∙ ap (λ (s : Stepped). cond (isRegister (regs g) (e g)) (lawful (e g)) (s .right)) (judged .before .step .ensures)
 
   found-is : c .fault-at .result ≡ its
-  found-is = found-told (i g + 1) (l g .before .new .ensures) clash-is (c .before .step .ensures) (c .fault-at .ensures)
+  found-is = found-told (i g + 1) (l g .before .new .ensures) clash-is right-is (c .fault-at .ensures)
 
-  whole : eventFault 0 1 (args g .args .start) [] (onward (room g) 0 (n g))
-      ≡ first its (eventFault 0 (i g + 1 + 1) (c .before .step .result .memory) (e g ∷ inv g .before) (others g))
+  whole : eventFaultIn (regs g) 0 1 (args g .args .start) [] (onward (room g) 0 (n g))
+      ≡ first its (eventFaultIn (regs g) 0 (i g + 1 + 1) (judged .before .step .result .memory) (e g ∷ inv g .before) (others g))
   whole =
-      inv g .same ∙ rw (parts g) (fault-next 0 (i g + 1) (l g .loop .last .memory) (inv g .before) (e g) (others g))
-      ∙ ap (λ (s : Stepped). first its (eventFault 0 (i g + 1 + 1) (s .memory) (e g ∷ inv g .before) (others g))) (sym (c .before .step .ensures))
+      inv g .same ∙ rw (parts g) (fault-next (regs g) 0 (i g + 1) (l g .loop .last .memory) (inv g .before) (e g) (others g))
+      ∙ ap (λ (s : Stepped). first its (eventFaultIn (regs g) 0 (i g + 1 + 1) (s .memory) (e g ∷ inv g .before) (others g))) (sym (judged .before .step .ensures))
 
 loop-holds : tie.Need-loop-holds Inv-loop μ-loop
 loop-holds c =
@@ -129,14 +140,15 @@ loop-again : tie.Need-loop-again Inv-loop μ-loop
 loop-again c =
     let f = c .before .before in
     let z = ap (λ (a : Answer). a .number) (sym (found-is f)) ∙ c .if1 .left in
-    let free = sym (u f .use-place .ensures .0) ∙ (clash-is f ∙ fault-free 0 (i (g f) + 1) (clash-now f) (right-now f) z .0) in
+    let none = clash-is f ∙ fault-free 0 (i (g f) + 1) (clash-now f) (right-now f) z .0 in
+    let free = or-right (usesAtomically (regs (g f)) (e (g f))) _ (sym (u f .use-listed .ensures .0) ∙ none) in
     record {
       within = omega arith;
-      size = ap length (u f .use-place .ensures .1) ∙ simp length-set (inv (g f) .size);
+      size = ap length (u f .use-listed .ensures .1) ∙ simp length-set (inv (g f) .size);
       sound = sound (g f) .1;
       before = e (g f) ∷ inv (g f) .before;
       marks =
-          marks-told (e (g f) ∷ inv (g f) .before) (u f .use-place .ensures .1)
+          marks-told (e (g f) ∷ inv (g f) .before) (u f .use-listed .ensures .1)
           (marks-next (l (g f) .loop .ways) (inv (g f) .before) (e (g f)) (inside (g f)) (inv (g f) .marks) (inv (g f) .size) free);
       same = whole f ∙ rw z;
     }
@@ -145,7 +157,7 @@ returns-2 : tie.Need-returns-2 Inv-loop μ-loop
 returns-2 c =
     let k = c .before in
     let a = k .before .before .before .args in
-    k .before .new .ensures ∙ sym (k .loop .inv .same ∙ rw (onward-end (a .room .now) (k .loop .i) (a .n) (omega arith)) (fault-end _ _ _ _))
+    k .before .new .ensures ∙ sym (k .loop .inv .same ∙ rw (onward-end (a .room .now) (k .loop .i) (a .n) (omega arith)) (fault-end _ _ _ _ _))
 
 pub event-fault-spec : {M : Type 1} → statement M
 event-fault-spec =
@@ -158,8 +170,9 @@ event-fault-spec =
     (search needs)
     (λ c κs. inside (c .before))
     (search needs)
+    (λ c κs. sound (c .before .before .before) .0)
     (λ c. omega arith)
-    (λ c κs z. l (c .before .before .before) .before .new .ensures)
+    (λ c κs z. l (c .before .before .before .before) .before .new .ensures)
     returns
     (λ c. omega arith)
     (λ c. omega arith)

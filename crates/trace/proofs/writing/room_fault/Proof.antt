@@ -24,13 +24,13 @@ new-requires c κs = tt
 returns : tie.Need-returns
 returns c =
     let k = c .before .before in
-    c .new .ensures ∙ sym (room-full (k .before .before .args .memory) (k .before .before .args .room .now) (k .count-of .ensures) (c .before .if1 .taken))
+    c .new .ensures ∙ sym (room-full (k .before .before .args .listed .now) (k .before .before .args .memory) (k .before .before .args .room .now) (k .count-of .ensures) (c .before .if1 .taken))
 
 returns-2 : tie.Need-returns-2
 returns-2 c =
     let l = c .before .before in
     l .layout-fault .ensures
-    ∙ sym (room-layout (begin l .args .memory) (begin l .args .room .now) (l .before .before .count-of .ensures) (omega arith)
+    ∙ sym (room-layout (begin l .args .listed .now) (begin l .args .memory) (begin l .args .room .now) (l .before .before .count-of .ensures) (omega arith)
     (λ z. c .if2 .taken (ap (λ (a : Answer). a .number) (l .layout-fault .ensures) ∙ z)))
 
 event-fault-requires : tie.Need-event-fault-requires
@@ -40,7 +40,7 @@ returns-3 : tie.Need-returns-3
 returns-3 c =
     let l = c .before .before .before in
     c .event-fault .ensures
-    ∙ sym (room-events (begin l .args .memory) (begin l .args .room .now) (l .before .before .count-of .ensures) (omega arith) (sound l (c .before .if2 .left)))
+    ∙ sym (room-events (begin l .args .listed .now) (begin l .args .memory) (begin l .args .room .now) (l .before .before .count-of .ensures) (omega arith) (sound l (c .before .if2 .left)))
 
 pub room-fault-spec : {M : Type 1} → statement M
 room-fault-spec =
