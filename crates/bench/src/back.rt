@@ -5,9 +5,9 @@ use super::vector::between;
 use event::Word;
 use text::word::same_bytes;
 use trace::form::form_of;
-use trace::moving::move_to;
 use trace::read;
-use trace::write;
+use writer::moving::move_to;
+use writer::write;
 
 // Whether there is a text to come back, and whether it comes back as it was.
 pub(crate) struct Back {

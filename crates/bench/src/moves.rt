@@ -12,7 +12,7 @@ use super::written::MARK;
 use super::written::form_in;
 use super::written::ran_with;
 use event::Answer;
-use trace::moving::move_to;
+use writer::moving::move_to;
 
 // The text moved to the form that the header says, into as many bytes.
 fn move_in(header: &[u8], text: &[u8], out: &mut [u8]) -> Answer {

@@ -19,7 +19,7 @@ use event::Answer;
 use event::Word;
 use event::memory::Memory;
 use trace::read;
-use trace::write;
+use writer::write;
 
 // The word changed that the header says, if the room has it.
 fn change(room: &mut [Word], header: &[u8]) {

@@ -29,7 +29,7 @@ use event::memory::Memory;
 use event::number_index;
 use record::form::Form;
 use trace::form::form_of;
-use trace::moving::move_to;
+use writer::moving::move_to;
 
 // The form that a number names.
 fn form_numbered(n: Number) -> Form
@@ -107,7 +107,7 @@ pub extern "C" fn laprunto_write_trace(
     ensures { λ _. ⌜ now (out .exit) ≡ outAfter (formNumbered form) (starting (now (memory .entry))) (now (room .entry)) (now (out .entry)) ⌝ }
 {
     let cells = *memory;
-    let written = trace::write(form_numbered(form), Memory { cells }, room, out);
+    let written = writer::write(form_numbered(form), Memory { cells }, room, out);
     *result = [
         number_index(written.number),
         number_index(written.side),

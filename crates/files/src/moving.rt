@@ -4,7 +4,7 @@ use crate::read::read_file;
 use crate::read::text_buffer;
 use crate::write::write_file;
 use record::form::Form;
-use trace::moving::move_to;
+use writer::moving::move_to;
 
 // The bytes at the front, of as many as there are.
 fn front(bytes: &[u8], count: usize) -> &[u8] {

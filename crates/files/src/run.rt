@@ -18,7 +18,7 @@ use steps::next;
 use steps::start;
 use steps::swap_place;
 use trace::reading::EVENT_LIMIT;
-use trace::writing::write_event;
+use writer::put::write_event;
 
 // The most bytes of a step's line.
 pub const LINE: usize = 64;

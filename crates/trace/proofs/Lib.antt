@@ -15,8 +15,5 @@ pub mod Cycle
 pub mod Moved
 pub mod Answers
 pub mod Unique
-pub mod Puts
 pub mod Judged
-pub mod Texts
-pub mod Cells
 pub mod Written

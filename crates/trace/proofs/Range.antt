@@ -21,7 +21,6 @@ use Rattle.record.specs.declared.form.Form.{Form}
 use Rattle.record.specs.declared.form.Form.the-variants.{One, Two}
 use Rattle.trace.specs.Cover.{Start, starts}
 use Rattle.trace.specs.Reading.{eventLimit}
-use Rattle.trace.specs.Put.{Small}
 use Rattle.trace.specs.Writing.{layoutFault, lost, textOf, hasLine, startLine, textBy}
 use Rattle.trace.specs.Text.{places, Valued, Fits, longestText}
 use Rattle.trace.proofs.Covered.{Heard, each-heard}
@@ -70,11 +69,6 @@ text-length f has m es i =
 pub longest-short : (f : Form) → longestText f < limitOf f
 longest-short One = omega arith
 longest-short Two = omega arith
-
--- so its bytes are few enough to be counted
-pub small-text : (f : Form) (t : List ℕ) → length t ≤ longestText f → Small 0 t
-small-text One t h = omega arith
-small-text Two t h = omega arith
 
 -- the events of a room
 pub onward-length : (room : List ℕ) (i n : ℕ) → length (onward room i n) ≡ n

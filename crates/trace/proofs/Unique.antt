@@ -2,30 +2,21 @@
 use mathlib.Core.Path.{sym, _∙_}
 use Rattle.laws.specs.Unique.{OneAnswer, OneOf}
 use Rattle.trace.proofs.read.Reads as read
-use Rattle.trace.proofs.write.Reads as write
 use Rattle.trace.proofs.read_in.Reads as read-in
 use Rattle.trace.proofs.read_listed.Reads as read-listed
-use Rattle.trace.proofs.write_in.Reads as write-in
-use Rattle.trace.proofs.write_listed.Reads as write-listed
-use Rattle.trace.proofs.moving.move_in.Reads as move-in
-use Rattle.trace.proofs.moving.move_listed.Reads as move-listed
 use Rattle.trace.proofs.reading.survey_in.Reads as survey-in
 use Rattle.trace.proofs.reading.store.Reads as store
 use Rattle.trace.proofs.form.form_of.Reads as form-of
-use Rattle.trace.proofs.moving.move_to.Reads as move-to
-use Rattle.trace.proofs.writing.write_event.Reads as write-event
+use Rattle.trace.proofs.room.count_of.Reads as count-of
+use Rattle.trace.proofs.room.write_fault.Reads as write-fault
+use Rattle.trace.proofs.moving.survey_to.Reads as survey-to
+use Rattle.trace.proofs.cover.touch.Reads as touch
 
 read-one : OneAnswer read.Post
 read-one κ a x y s t h k = h .0 ∙ sym (k .0)
 
 read-room : OneOf read.Post (λ κ r s. s .1 .0 .now)
 read-room κ a x y s t h k = h .1 ∙ sym (k .1)
-
-write-one : OneAnswer write.Post
-write-one κ a x y s t h k = h .0 ∙ sym (k .0)
-
-write-room : OneOf write.Post (λ κ r s. s .1 .1 .1 .0 .now)
-write-room κ a x y s t h k = h .1 ∙ sym (k .1)
 
 survey-in-one : OneAnswer survey-in.Post
 survey-in-one κ a x y s t h k = h ∙ sym k
@@ -35,18 +26,6 @@ store-room κ a x y s t h k = h ∙ sym k
 
 form-of-one : OneAnswer form-of.Post
 form-of-one κ a x y s t h k = h ∙ sym k
-
-move-to-one : OneAnswer move-to.Post
-move-to-one κ a x y s t h k = h .0 ∙ sym (k .0)
-
-move-to-room : OneOf move-to.Post (λ κ r s. s .1 .1 .0 .now)
-move-to-room κ a x y s t h k = h .1 ∙ sym (k .1)
-
-write-event-one : OneAnswer write-event.Post
-write-event-one κ a x y s t h k = h .counted ∙ sym (k .counted)
-
-write-event-bytes : OneOf write-event.Post (λ κ r s. s .1 .1 .0 .now)
-write-event-bytes κ a x y s t h k = h .stored ∙ sym (k .stored)
 
 read-in-one : OneAnswer read-in.Post
 read-in-one κ a x y s t h k = h .0 ∙ sym (k .0)
@@ -60,26 +39,14 @@ read-listed-one κ a x y s t h k = h .0 ∙ sym (k .0)
 read-listed-room : OneOf read-listed.Post (λ κ r s. s .1 .1 .0 .now)
 read-listed-room κ a x y s t h k = h .1 ∙ sym (k .1)
 
-write-in-one : OneAnswer write-in.Post
-write-in-one κ a x y s t h k = h .0 ∙ sym (k .0)
+count-of-one : OneAnswer count-of.Post
+count-of-one κ a x y s t h k = h ∙ sym k
 
-write-in-room : OneOf write-in.Post (λ κ r s. s .1 .1 .1 .1 .0 .now)
-write-in-room κ a x y s t h k = h .1 ∙ sym (k .1)
+write-fault-one : OneAnswer write-fault.Post
+write-fault-one κ a x y s t h k = h ∙ sym k
 
-write-listed-one : OneAnswer write-listed.Post
-write-listed-one κ a x y s t h k = h .0 ∙ sym (k .0)
+survey-to-one : OneAnswer survey-to.Post
+survey-to-one κ a x y s t h k = h ∙ sym k
 
-write-listed-room : OneOf write-listed.Post (λ κ r s. s .1 .1 .1 .1 .0 .now)
-write-listed-room κ a x y s t h k = h .1 ∙ sym (k .1)
-
-move-in-one : OneAnswer move-in.Post
-move-in-one κ a x y s t h k = h .0 ∙ sym (k .0)
-
-move-in-room : OneOf move-in.Post (λ κ r s. s .1 .1 .1 .0 .now)
-move-in-room κ a x y s t h k = h .1 ∙ sym (k .1)
-
-move-listed-one : OneAnswer move-listed.Post
-move-listed-one κ a x y s t h k = h .0 ∙ sym (k .0)
-
-move-listed-room : OneOf move-listed.Post (λ κ r s. s .1 .1 .1 .0 .now)
-move-listed-room κ a x y s t h k = h .1 ∙ sym (k .1)
+touch-ways : OneOf touch.Post (λ κ r s. s .0 .now)
+touch-ways κ a x y s t h k = h ∙ sym k

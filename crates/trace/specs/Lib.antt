@@ -7,7 +7,6 @@ pub mod Writing
 pub mod Moving
 pub mod Listed
 pub mod Text
--- Inner: how a location is used, as a number; the steps of a reading; bytes that are put. Assumes nothing.
+-- Inner: how a location is used, as a number; the steps of a reading. Assumes nothing.
 pub mod Way
 pub mod Survey
-pub mod Put

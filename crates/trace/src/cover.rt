@@ -1,15 +1,13 @@
 // Answers 20 and 21: a location that an event touches has its line, and a line of 0 is for such a location. The ways in which locations are used say
 // which are touched.
-ghost use mathlib.Core.Bool.{_&&_, not};
+ghost use mathlib.Core.Bool.{_&&_};
 ghost use lib.Dec.{eqb};
 ghost use mathlib.Core.Path.{_≡_};
 ghost use Prim.Native.Nat.{_<_};
-ghost use Rattle.event.specs.Room.{onward};
 ghost use Rattle.trace.specs.Cover.{lacksLine, isIdle};
 ghost use Rattle.trace.specs.Fault.{firstBad};
 ghost use Rattle.trace.specs.Survey.{marked, soFar};
-ghost use Rattle.trace.specs.Way.{isUsed, waysWith, waysOf};
-ghost use Rattle.trace.specs.Writing.{hasLine};
+ghost use Rattle.trace.specs.Way.{isUsed, waysWith};
 use crate::fault::UNTOUCHED;
 use crate::fault::Way;
 use crate::fault::use_place;
@@ -20,7 +18,6 @@ use event::Number;
 use event::Word;
 use event::index_of;
 use event::memory::Memory;
-use event::room::get;
 use record::form::Form;
 use record::form::is_silent;
 
@@ -75,35 +72,11 @@ pub(crate) fn idle_fault(
     Answer::new(0, 0, 0)
 }
 
-// Whether a starting value has a line, by how its location is used.
-pub(crate) fn has_line(form: Form, way: Way, value: Word) -> bool
-    ensures { λ r. ⌜ r ≡ hasLine form (λ _. not (eqb way 0)) 0 value ⌝ }
-{
-    if value != 0 {
-        return true;
-    }
-    if is_silent(form, value) {
-        return false;
-    }
-    way != UNTOUCHED
-}
-
 // The ways after one event more; one that is at no location of the ways is passed over.
-pub(crate) fn touch(ways: &mut [Way; 256], e: Event)
+pub fn touch(ways: &mut [Way; 256], e: Event)
     ensures { λ _. ⌜ now (ways .exit) ≡ waysWith (now (ways .entry)) e ⌝ }
 {
     if e.place < 256 {
         use_place(ways, e);
-    }
-}
-
-// The ways after the first n events of a room.
-pub(crate) fn touch_all(ways: &mut [Way; 256], room: &[Word], n: usize)
-    ensures { λ _. ⌜ now (ways .exit) ≡ waysOf (now (ways .entry)) (onward (now (room .entry)) 0 n) ⌝ }
-{
-    let mut i: usize = 0;
-    while i < n {
-        touch(ways, get(room, i));
-        i += 1;
     }
 }
