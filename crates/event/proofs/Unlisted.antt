@@ -1,6 +1,7 @@
--- A call without a list: no location is listed, no access is a register's, and an event is right as ever. Assumes nothing.
+-- A call without a list: no location is listed, no access is a register's, and an event is right as ever. Under a list, an event of the layout is right if
+-- it is a register's or has the latest value. Assumes nothing.
 use Prim.Native.Nat.{ℕ, zero, suc}
-use mathlib.Core.Bool.{Bool, false, cond, _&&_, and-false}
+use mathlib.Core.Bool.{Bool, true, false, cond, _&&_, _||_, and-false}
 use mathlib.Core.List.{List}
 use mathlib.Core.Path.{_≡_, refl, _∙_, ap}
 use lib.Dec.{leb}
@@ -10,7 +11,6 @@ use Rattle.event.specs.Memory.{stepped}
 use Rattle.event.specs.Listed.{listed, noneListed, isRegister, steppedIn}
 use Rattle.event.specs.declared.Event.{Event}
 use Rattle.event.specs.declared.memory.Memory.{Memory}
-use Rattle.event.specs.declared.memory.Stepped.{Stepped}
 
 no-mark : (n l : ℕ) → getD (replicate n false) l false ≡ false
 no-mark zero l = refl
@@ -27,6 +27,14 @@ no-register e = ap (λ (c : Bool). plain e && c) (none-listed (e .place)) ∙ an
 pub step-plain : (regs : List Bool) (m : Memory) (e : Event) → isRegister regs e ≡ false → steppedIn regs m e ≡ stepped m e
 step-plain regs m e h =
     ap (λ (c : Bool). record { memory = stepped m e .memory; right = cond c (lawful e) (stepped m e .right) }) h
+
+pub right-or-register : (regs : List Bool) (m : Memory) (e : Event) → lawful e ≡ true
+    → steppedIn regs m e .right ≡ (isRegister regs e || stepped m e .right)
+right-or-register regs m e h = go (isRegister regs e)
+  where
+    go : (c : Bool) → cond c (lawful e) (stepped m e .right) ≡ (c || stepped m e .right)
+    go true = h
+    go false = refl
 
 pub step-none : (m : Memory) (e : Event) → steppedIn noneListed m e ≡ stepped m e
 step-none m e = step-plain noneListed m e (no-register e)

@@ -253,7 +253,8 @@ fn source_pass(
     requires { ⌜ Placed (now source) ⌝ }
     requires { ⌜ length (now entries) ≡ capacity (now source) ⌝ }
     requires { ⌜ Flagged (now listed) (now flags) (now source) (now entries) ⌝ }
-    ensures { λ r. ⌜ r ≡ sourceAnswer (viewIn (now (listed .entry))) (wholeEvents (now (target .entry))) 1 [] (wholeEvents (now (source .entry))) (now (entries .entry)) ⌝ }
+    ensures { λ r. ⌜ r ≡ sourceAnswer (viewIn (now (listed .entry)))
+        (wholeEvents (now (target .entry))) 1 [] (wholeEvents (now (source .entry))) (now (entries .entry)) ⌝ }
 {
     let mut fresh: [bool; 256] = [true; 256];
     let mut present: [bool; 256] = [false; 256];
@@ -299,7 +300,8 @@ pub fn source_answer(listed: &Listed, source: &[Word], target: &[Word], entries:
     requires { ⌜ capacity (now source) ≤ 800 ⌝ }
     requires { ⌜ Placed (now source) ⌝ }
     requires { ⌜ length (now entries) ≡ capacity (now source) ⌝ }
-    ensures { λ r. ⌜ r ≡ sourceAnswer (viewIn (now (listed .entry))) (wholeEvents (now (target .entry))) 1 [] (wholeEvents (now (source .entry))) (now (entries .entry)) ⌝ }
+    ensures { λ r. ⌜ r ≡ sourceAnswer (viewIn (now (listed .entry)))
+        (wholeEvents (now (target .entry))) 1 [] (wholeEvents (now (source .entry))) (now (entries .entry)) ⌝ }
 {
     let flags = closing_flags(listed, source, entries);
     source_pass(listed, source, target, entries, &flags)

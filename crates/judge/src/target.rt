@@ -48,7 +48,8 @@ fn target_fault(kind: Word, unsupported: bool) -> Number
 pub(crate) fn target_answer(listed: &Listed, target: &[Word], marks: &[u64; 13]) -> Answer
     requires { ⌜ capacity (now target) ≤ 800 ⌝ }
     requires { ⌜ Placed (now target) ⌝ }
-    ensures { λ r. ⌜ ((ns : List ℕ) → Marked (now (marks .entry)) ns → r ≡ targetAnswer (viewIn (now (listed .entry))) ns 1 [] (wholeEvents (now (target .entry)))) ⌝ }
+    ensures { λ r. ⌜ ((ns : List ℕ) → Marked (now (marks .entry)) ns
+        → r ≡ targetAnswer (viewIn (now (listed .entry))) ns 1 [] (wholeEvents (now (target .entry)))) ⌝ }
 {
     let mut fresh: [bool; 256] = [true; 256];
     let mut k: usize = 0;

@@ -16,7 +16,7 @@ use Rattle.event.specs.Kind.{lawful, places}
 use Rattle.event.specs.declared.Event.{Event}
 use Rattle.event.specs.declared.memory.Memory.{Memory}
 use Rattle.event.specs.declared.memory.Stepped.{Stepped}
-use Rattle.rules.specs.View.{view, viewIn, View, load, store, valueOf, wall}
+use Rattle.rules.specs.View.{viewIn, View, load, store, valueOf, wall}
 use Rattle.rules.specs.Moves.{Rules, Run, group, near, Removable, Insertable, Move, Moves, By, remove, insert, swap, next, done, step, Holds, Phase}
 use Rattle.rules.specs.Moves.{extend}
 use Rattle.rules.specs.Run.{Traced, traced, old, new, eventOf, Inserted, changes, viewed}
@@ -38,7 +38,8 @@ pub record Keeping (regs : List Bool) (may : Rules Traced) (m : Memory) : Type 1
   pub onward : (x : Traced) (b : List Traced) (n : Memory) → Knows b n → T (steppedIn regs n (eventOf x) .right) → Knows (x ∷ b) (stepped n (eventOf x) .memory)
   pub removing : (x : Traced) (b a : List Traced) (n : Memory) → may .Removes b x a → Knows b n → T (rightIn regs n (eventOf x ∷ map eventOf a))
       → Keeps regs n (eventOf x ∷ map eventOf a) (map eventOf a)
-  pub inserting : (x : Traced) (b : List Traced) (s : List Event) (n : Memory) → may .Inserts b x → Knows b n → T (rightIn regs n s) → Keeps regs n s (eventOf x ∷ s)
+  pub inserting : (x : Traced) (b : List Traced) (s : List Event) (n : Memory) → may .Inserts b x → Knows b n → T (rightIn regs n s)
+      → Keeps regs n s (eventOf x ∷ s)
   pub swapping : (x y : Traced) (s : List Event) (n : Memory) → may .Swaps x y → T (rightIn regs n (eventOf x ∷ eventOf y ∷ s))
       → Keeps regs n (eventOf x ∷ eventOf y ∷ s) (eventOf y ∷ eventOf x ∷ s)
 

@@ -1,6 +1,6 @@
 -- Which answers the verdict gives: each test its own numbers, with its side, at a place that counts from 1 or is a location. Assumes nothing.
 use Prim.Native.Nat.{ℕ, suc, _+_, _≤_}
-use mathlib.Core.Bool.{Bool, true, not, cond, _&&_, _||_}
+use mathlib.Core.Bool.{Bool, true, not, _&&_, _||_}
 use mathlib.Core.List.{List, [], _∷_}
 use mathlib.Core.Logic.{_⊎_, inl, inr}
 use mathlib.Core.Path.{_≡_, refl}
@@ -16,7 +16,7 @@ use Rattle.event.proofs.Answers.{Among, Given, none, one, among-cond, given-con
 use Rattle.laws.proofs.Cases.{by-cond}
 use Rattle.rules.specs.View.{View, viewIn}
 use Rattle.rules.specs.Fault.{Item, item, fate, fateOf, isGone, unlike, wallGone, crossed, loadGone, storeGone, unsupported}
-use Rattle.rules.specs.Verdict.{startAnswerIn, countAnswer, entryAnswer, keepFault, removalFault, sourceFault, targetFault, items, targetItem}
+use Rattle.rules.specs.Verdict.{startAnswerIn, countAnswer, entryAnswer, keepFault, sourceFault, targetFault, items, targetItem}
 use Rattle.rules.specs.Verdict.{inOrder, sourceAnswer, targetAnswer, verdict, verdictIn}
 
 -- the numbers of the tests over source events and target events

@@ -87,7 +87,10 @@ pub record Truthful (regs : List Bool) (look : Event → View) : Type 0 where
 
 -- what is plain under the list is no register, and acts as ever
 pub truthful : (regs : List Bool) → Truthful regs (viewIn regs)
-truthful regs = record { acts = λ m e l. plainly m e l (isRegister regs e); bounds = λ e l. by-cond Bound (isRegister regs e) tt (bounds-of e (kinds e) l) }
+truthful regs = record {
+  acts = λ m e l. plainly m e l (isRegister regs e);
+  bounds = λ e l. by-cond Bound (isRegister regs e) tt (bounds-of e (kinds e) l);
+}
   where
     plainly : (m : Memory) (e : Event) → T (lawful e) → (c : Bool) → Plain (cond c wall (view e))
         → _≡_ {A = Stepped} (record { memory = stepped m e .memory; right = cond c (lawful e) (stepped m e .right) }) (act (cond c wall (view e)) m)

@@ -1,5 +1,5 @@
--- In a trace whose values are the latest every load agrees with the near access before it: that access left its value in the cell, and nothing
--- but a plain access or a synchronising event, which ends nearness, could change it. Assumes nothing.
+-- In a trace whose values are the latest, but for registers, which are walls, every load agrees with the near access before it: that access left its
+-- value in the cell, and nothing but a plain access or a synchronising event, which ends nearness, could change it. Assumes nothing.
 use mathlib.Core.Path.{_≡_, refl, sym, _∙_, ap}
 use mathlib.Core.Bool.{Bool, true, false, cond}
 use mathlib.Core.Option.{Option, none, some}
@@ -68,9 +68,9 @@ cell-put m p v l h = go (eqb l p) refl
 
 effect-of : (m : Memory) (r : Stepped) (v : View) → (Plain v → r ≡ act v m) → Bound v → length (m .cells) ≡ places → T (r .right)
     → Effect (cell m) v (cell (r .memory))
-effect-of m e wall a b c h = tt
-effect-of m e (load p v u) a b c h = (sym (eqb→eq v (cell m p) (rw (a tt) at h)), λ l. rw (a tt))
-effect-of m e (store p v) a b c h = λ l. rw (a tt) (cell-put m p v l (omega arith))
+effect-of m r wall a b c h = tt
+effect-of m r (load p v u) a b c h = (sym (eqb→eq v (cell m p) (rw (a tt) at h)), λ l. rw (a tt))
+effect-of m r (store p v) a b c h = λ l. rw (a tt) (cell-put m p v l (omega arith))
 
 pub effect : {regs : List Bool} {look : Event → View} → Truthful regs look → (m : Memory) (e : Event) → length (m .cells) ≡ places
     → T (steppedIn regs m e .right) → Effect (cell m) (look e) (cell (stepped m e .memory))
@@ -96,7 +96,8 @@ module _ (regs : List Bool) (look : Event → View) (truthful : Truthful regs lo
   over-targets ns k [] = over-nil
   over-targets ns k (e ∷ t) = over-cons refl (over-targets ns (suc k) t)
 
-  pub agrees-source : (m : Memory) (s : List Event) (ns : List ℕ) → length (m .cells) ≡ places → length ns ≡ length s → T (rightIn regs m s) → Agrees (items look s ns)
+  pub agrees-source : (m : Memory) (s : List Event) (ns : List ℕ) → length (m .cells) ≡ places → length ns ≡ length s → T (rightIn regs m s)
+      → Agrees (items look s ns)
   agrees-source m s ns c h r l = agree l m none (over-items s ns h) c r tt
 
   pub agrees-target : (m : Memory) (ns : List ℕ) (t : List Event) → length (m .cells) ≡ places → T (rightIn regs m t) → Agrees (targetItems look ns 1 t)

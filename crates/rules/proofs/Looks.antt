@@ -4,14 +4,13 @@ use mathlib.Core.Path.{_≡_, refl, ap}
 use mathlib.Core.List.{List, [], _∷_}
 use Prim.Native.Nat.{ℕ}
 use native.Mathlib.Omega.{arith}
-use lib.ListN.{replicate, length-replicate}
 use Rattle.event.specs.Answer.{answer, done}
 use Rattle.event.specs.Kind.{row, takes, lawful}
 use Rattle.event.specs.Memory.{empty, after, latest, stepped}
 use Rattle.event.specs.declared.Answer.{Answer}
 use Rattle.rules.specs.View.{view}
-use Rattle.rules.specs.Moves.{Phase, one, two, Move, Moves, Run, remove, next, done as ended, step}
-use Rattle.rules.specs.Run.{Traced, traced, old, number, changes, Realises}
+use Rattle.rules.specs.Moves.{remove, next, done as ended, step}
+use Rattle.rules.specs.Run.{traced, old, Realises}
 use Rattle.rules.specs.Verdict.{startAnswerIn, countAnswer, entryAnswer, sourceAnswer, targetAnswer, verdict}
 use Rattle.rules.specs.Demand.{Passed}
 use Rattle.rules.specs.Looks.{RealisedByLooks, aLoad, twoLoads, oneLoad}

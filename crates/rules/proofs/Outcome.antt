@@ -133,4 +133,5 @@ pub same-memory : (m n : Memory) (s t : List Event) (ns : List ℕ) → Passed m
 same-memory m n s t ns p h =
     let o = outcome-in noneListed m n s t ns p (verdict-none (m .cells) (n .cells) s t ns ∙ h) in
     ap (λ (l : List ℕ). record { cells = l })
-    (ext-getD 0 (final n t .cells) (final m s .cells) (final-length n t ∙ p .target-cells ∙ sym (final-length m s ∙ p .source-cells)) (λ l _. o l (none-listed l)))
+    (ext-getD 0 (final n t .cells) (final m s .cells) (final-length n t ∙ p .target-cells ∙ sym (final-length m s ∙ p .source-cells))
+    (λ l _. o l (none-listed l)))

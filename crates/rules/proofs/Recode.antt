@@ -1,17 +1,14 @@
 -- Code lines never affect a verdict: neither what the rules see of an event nor whether two events are the same asks them. Assumes nothing.
-use mathlib.Core.Path.{_≡_, refl, sym, _∙_, ap}
-use mathlib.Core.Bool.{Bool, not, cond}
+use mathlib.Core.Path.{_≡_, refl, ap}
+use mathlib.Core.Bool.{Bool, not}
 use mathlib.Core.List.{List, [], _∷_, map}
 use Prim.Native.Nat.{ℕ, zero, suc}
-use lib.Dec.{eqb}
 use lib.ListN.{length, getD}
 use Rattle.event.specs.Room.{noEvent}
-use Rattle.event.specs.Answer.{answer, first}
-use Rattle.event.specs.declared.Answer.{Answer}
 use Rattle.event.specs.declared.Event.{Event}
 use Rattle.rules.specs.View.{viewIn, same}
-use Rattle.rules.specs.Fault.{Fate, Item, item, fate, fateOf, gone, stays, nth, unlike}
-use Rattle.rules.specs.Verdict.{items, countAnswer, sourceFault, targetFault, targetItem, sourceAnswer, targetAnswer, verdictIn}
+use Rattle.rules.specs.Fault.{Fate, Item, item, fate, fateOf, gone, stays, unlike}
+use Rattle.rules.specs.Verdict.{items, countAnswer, targetItem, sourceAnswer, targetAnswer, verdictIn}
 use Rattle.rules.specs.Recode.{recode, Recoded}
 
 module _ (regs : List Bool) (c d : Event → ℕ) where

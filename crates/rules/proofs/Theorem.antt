@@ -1,6 +1,7 @@
--- Demand 3. For a source and a target whose events are lawful and have the latest values, from equal starting memories, and for entries that are as
--- many as the source events and that each name a target event of its own: the checker accepts exactly when a run of removals and swaps, then of
--- insertions and swaps, leads from the source to the target, marks apart, every kept event ending at its number and every gone one removed.
+-- Demand 3, under a list of registers. For a source and a target whose events are lawful and, but for registers, have the latest values, from starting
+-- memories that are equal at the locations that are not listed, and for entries that are as many as the source events and that each name a target event
+-- of its own: the checker accepts exactly when a run of removals and swaps, then of insertions and swaps, leads from the source to the target, marks
+-- apart, every kept event ending at its number and every gone one removed.
 -- Accepting says that no event shows a fault, and without faults the run in the fixed order is such a run; a run, read backwards, shows no
 -- fault, 10 included. Assumes nothing.
 use mathlib.Core.Path.{_≡_, sym, _∙_, subst}
@@ -64,16 +65,16 @@ demand-3-in regs m n s t ns p = (
   λ r. verdict-clean regs m n s t ns p (faultfree (viewIn regs) (alike-in regs) s t ns (ready regs m n s t ns p) r),
 )
 
--- without a list
+-- ---- without a list
+
 module _ (m n : Memory) (s t : List Event) (ns : List ℕ) (p : Passed m n s t ns) where
-  abbrev same-verdict : verdictIn noneListed (m .cells) (n .cells) s t ns ≡ verdict view (m .cells) (n .cells) s t ns
-  same-verdict = verdict-none (m .cells) (n .cells) s t ns
+  abbrev unlisted : verdictIn noneListed (m .cells) (n .cells) s t ns ≡ verdict view (m .cells) (n .cells) s t ns
+  unlisted = verdict-none (m .cells) (n .cells) s t ns
 
   pub in-fixed-order : verdict view (m .cells) (n .cells) s t ns ≡ done → FixedOrder view s t ns
-  in-fixed-order h =
-      subst (λ (look : Event → View). FixedOrder look s t ns) view-none (in-fixed-order-in noneListed m n s t ns p (same-verdict ∙ h))
+  in-fixed-order h = subst (λ (look : Event → View). FixedOrder look s t ns) view-none (in-fixed-order-in noneListed m n s t ns p (unlisted ∙ h))
 
 pub demand-3 : Demand3
 demand-3 m n s t ns p =
     subst (λ (look : Event → View). (verdict view (m .cells) (n .cells) s t ns ≡ done) ↔ Realises look s t ns) view-none
-    (subst (λ (a : Answer). (a ≡ done) ↔ Realises (viewIn noneListed) s t ns) (same-verdict m n s t ns p) (demand-3-in noneListed m n s t ns p))
+    (subst (λ (a : Answer). (a ≡ done) ↔ Realises (viewIn noneListed) s t ns) (unlisted m n s t ns p) (demand-3-in noneListed m n s t ns p))

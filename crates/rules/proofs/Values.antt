@@ -87,7 +87,8 @@ module _ {regs : List Bool} (look : Event → View) (truthful : Truthful regs lo
 
   -- ---- swaps
 
-  pub swapped : (m : Memory) (e f : Event) (s : List Event) → T (apart (look e) (look f)) → T (rightIn regs m (e ∷ f ∷ s)) → Keeps regs m (e ∷ f ∷ s) (f ∷ e ∷ s)
+  pub swapped : (m : Memory) (e f : Event) (s : List Event) → T (apart (look e) (look f)) → T (rightIn regs m (e ∷ f ∷ s))
+      → Keeps regs m (e ∷ f ∷ s) (f ∷ e ∷ s)
   swapped m e f s d h =
       let v = look e in
       let w = look f in

@@ -42,7 +42,15 @@ unfolding judgedOf
 returns c =
     let j = c .before .before in
     let a = j .before .before .before .before .before .before .before .before .before .before .args in
-    rw (c .before .hold .ensures, c .hold2 .ensures, j .judge .ensures, verdict-none, whole (a .source .events * eventWords), whole (a .target .events * eventWords), whole (a .entries))
+    rw (
+      c .before .hold .ensures,
+      c .hold2 .ensures,
+      j .judge .ensures,
+      verdict-none,
+      whole (a .source .events * eventWords),
+      whole (a .target .events * eventWords),
+      whole (a .entries),
+    )
 
 pub judged-spec : {M : Type 1} → statement M
 judged-spec =

@@ -115,8 +115,8 @@ loop-again-2 c =
     let a = w .before in
     let t = turn a .loop in
     passed a _ (simp length-set (t .inv .closing-size))
-    (closed-plain (plain (sees-in (regs a) (event a)) (wall-is w (c .before .before .before .if1 .left))) (entry a) (behind a) (t .closing) (a .index-of .ensures)
-    (in-room a) (t .inv .closing-size) (t .inv .closed) (c .before .before .is-load-in .ensures) (c .closing-after .ensures))
+    (closed-plain (plain (sees-in (regs a) (event a)) (wall-is w (c .before .before .before .if1 .left))) (entry a) (behind a) (t .closing)
+    (a .index-of .ensures) (in-room a) (t .inv .closing-size) (t .inv .closed) (c .before .before .is-load-in .ensures) (c .closing-after .ensures))
 
 pub closing-flags-spec : {M : Type 1} → statement M
 closing-flags-spec =

@@ -53,7 +53,8 @@ store-told : (c : tie.Else2) {a b : Bool} → cell (c .before) .closing ≡ a �
     → cond (a && not b) 14 0 ≡ goneFault (seen (c .before)) (cell (c .before)) (witness (c .before))
 store-told c h e =
     sym
-    (gone-store _ _ (sees-in (regs (c .before)) (event (c .before))) (wall-is (c .before .before .before) (c .before .before .if1 .left)) (load-is (c .before) (c .if2 .left))
+    (gone-store _ _ (sees-in (regs (c .before)) (event (c .before))) (wall-is (c .before .before .before) (c .before .before .if1 .left))
+    (load-is (c .before) (c .if2 .left))
     ∙ closing-told h e)
 
 returns : tie.Need-returns

@@ -39,7 +39,8 @@ record Passed (regs : List Bool) (source target entries : List ℕ) (fresh prese
   bound : i ≤ length entries
   behind : List Item
   tallied : Tallied fresh present value here all walls behind
-  answers : whole regs source target entries ≡ sourceAnswer (viewIn regs) (events target) (i + 1) behind (onward source i (capacity source - i)) (drop i entries)
+  answers : whole regs source target entries
+      ≡ sourceAnswer (viewIn regs) (events target) (i + 1) behind (onward source i (capacity source - i)) (drop i entries)
 
 abbrev Inv-loop : tie.InvT-loop
 Inv-loop listed source target entries flags fresh₀ present₀ value₀ here₀ all₀ walls₀ i₀ fresh present value here all walls i =
@@ -53,7 +54,8 @@ flag-told : (regs : List Bool) (l ns : List ℕ) (j : ℕ) (e : Event) {p : ℕ}
     → w ≡ closing (group p (itemsFrom regs l ns (j + 1)))
 flag-told regs l ns j e g q h = g ∙ rw (h, q)
 
-none-left : (look : Event → View) (t : List Event) (k : ℕ) (b : List Item) (l : List ℕ) (i n : ℕ) (ns : List ℕ) → n ≡ 0 → sourceAnswer look t k b (onward l i n) ns ≡ done
+none-left : (look : Event → View) (t : List Event) (k : ℕ) (b : List Item) (l : List ℕ) (i n : ℕ) (ns : List ℕ) → n ≡ 0
+    → sourceAnswer look t k b (onward l i n) ns ≡ done
 unfolding onward sourceAnswer
 none-left look t k b l i n ns e = rw e
 
@@ -144,7 +146,9 @@ module _ (c : tie.After-event-fault Inv-loop μ-loop) where
     bound = omega arith;
     behind = here (at c) ∷ behind (at c);
     tallied = t;
-    answers = from-here (at c) ∙ (source-goes (viewIn (regs (at c))) (events (target (at c))) _ (behind (at c)) (event (at c)) (rest (at c)) (entry (at c)) _ (told ∙ z)
+    answers =
+        from-here (at c)
+        ∙ (source-goes (viewIn (regs (at c))) (events (target (at c))) _ (behind (at c)) (event (at c)) (rest (at c)) (entry (at c)) _ (told ∙ z)
         ∙ rw (← add-one (index (at c) + 1)));
   }
 
@@ -208,5 +212,5 @@ source-pass-spec =
     (λ c. omega (arith, in-room (at (c .before .before .before .before .before .before .before))))
     (λ c. in-room (at (c .before .before .before .before .before .before .before))) (λ c κs. tt)
     (λ c. omega (arith, in-room (at (c .before .before .before .before .before .before .before .before))))
-    (λ c. in-room (at (c .before .before .before .before .before .before .before .before))) (λ c. shrinks (at (c .before .before .before .before .before .before .before .before))) loop-again-2 (λ c κs. tt)
-    returns-2)
+    (λ c. in-room (at (c .before .before .before .before .before .before .before .before)))
+    (λ c. shrinks (at (c .before .before .before .before .before .before .before .before))) loop-again-2 (λ c κs. tt) returns-2)

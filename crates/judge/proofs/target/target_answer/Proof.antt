@@ -53,8 +53,9 @@ unsupported-at b false k a-wall = refl
 unsupported-at b false k a-load = refl
 unsupported-at b false k a-store = refl
 
-fault-told : (regs : List Bool) (b : List Item) (ns : List ℕ) (k : ℕ) (e : Event) {i r : ℕ} {u s l f : Bool} → s ≡ has k ns → l ≡ isLoad (viewIn regs e) → i ≡ e .place
-    → f ≡ isNone (near i b) → u ≡ unsupportedBy s l f → r ≡ targetFaultBy (e .kind) u → targetFault (e .kind) b (targetItem (viewIn regs) ns k e) ≡ r
+fault-told : (regs : List Bool) (b : List Item) (ns : List ℕ) (k : ℕ) (e : Event) {i r : ℕ} {u s l f : Bool} → s ≡ has k ns
+    → l ≡ isLoad (viewIn regs e) → i ≡ e .place → f ≡ isNone (near i b) → u ≡ unsupportedBy s l f → r ≡ targetFaultBy (e .kind) u
+    → targetFault (e .kind) b (targetItem (viewIn regs) ns k e) ≡ r
 fault-told regs b ns k e p q i g u r =
     ap (targetFaultBy (e .kind)) (unsupported-at b (has k ns) k (sees-in regs e) ∙ sym (u ∙ rw (p, q, g, i))) ∙ sym r
 
@@ -101,7 +102,8 @@ module _ (c : tie.After-target-fault Inv-loop μ-loop) (ns : List ℕ) (m : Mark
 
   told : targetFault (event (at c) .kind) (before .behind) here ≡ c .target-fault .result
   told =
-      fault-told (regs (at c)) (before .behind) ns (index (at c) + 1) (event (at c)) (c .before .before .before .is-marked .ensures ∙ m (index (at c) + 1) (omega arith) (omega arith))
+      fault-told (regs (at c)) (before .behind) ns (index (at c) + 1) (event (at c))
+      (c .before .before .before .is-marked .ensures ∙ m (index (at c) + 1) (omega arith) (omega arith))
       (c .before .before .is-load-in .ensures) (at c .index-of .ensures) (before .fresh-is (at c .index-of .result) (in-room (at c)))
       (c .before .is-unsupported .ensures) (c .target-fault .ensures)
 
@@ -110,7 +112,8 @@ module _ (c : tie.After-target-fault Inv-loop μ-loop) (ns : List ℕ) (m : Mark
       before .answers
       ∙ rw (onward-next (room (at c)) (capacity (room (at c))) (index (at c)) (event (at c)) (omega arith) (at c .before .get .ensures))
 
-  goes-on : c .target-fault .result ≡ 0 → {fresh : List Bool} → Fresh fresh (here ∷ before .behind) → Passed (regs (at c)) ns (room (at c)) fresh (index (at c) + 1)
+  goes-on : c .target-fault .result ≡ 0 → {fresh : List Bool} → Fresh fresh (here ∷ before .behind)
+      → Passed (regs (at c)) ns (room (at c)) fresh (index (at c) + 1)
   goes-on z f = record {
     behind = here ∷ before .behind;
     fresh-is = f;
@@ -153,8 +156,8 @@ loop-again-2 c =
       bound = omega arith;
       size = simp length-set (t .inv .size);
       passed = λ ns m. goes-on f ns m (c .before .before .if1 .left)
-          (fresh-plain (plain (sees-in (regs (at f)) (event (at f))) (wall-is (c .before) (c .if2 .left))) _ (before f ns m .behind) (t .fresh) (at f .index-of .ensures)
-          (in-room (at f)) (t .inv .size) (before f ns m .fresh-is));
+          (fresh-plain (plain (sees-in (regs (at f)) (event (at f))) (wall-is (c .before) (c .if2 .left))) _ (before f ns m .behind) (t .fresh)
+          (at f .index-of .ensures) (in-room (at f)) (t .inv .size) (before f ns m .fresh-is));
     }
 
 returns-2 : tie.Need-returns-2 Inv-loop μ-loop
