@@ -1,4 +1,5 @@
--- P1 to P12 of document 01, and the cases of C-13 and C-15: the check's own definition computes on their texts, and its answers are the tables'. Assumes nothing.
+-- P1 to P12 of document 01, and the cases of C-13, C-15 and C-16: the check's own definition computes on their texts, and its answers are the tables'.
+-- Assumes nothing.
 use mathlib.Core.Path.{_≡_, refl}
 use mathlib.Core.Bool.{true}
 use Rattle.event.specs.Answer.{answer}
@@ -10,23 +11,25 @@ use Rattle.text.specs.Word.{bytes, sameBytes}
 use Rattle.record.specs.Layout.{numberIn}
 use Rattle.record.specs.Record.{numberIf, orderIf, eventRest, initRest, unlessSilent, recordOf}
 use Rattle.trace.specs.Cover.{lined, coverFault}
-use Rattle.trace.specs.Fault.{uses, firstBad, eventFault}
-use Rattle.trace.specs.Reading.{formOf, startIn, faultOf, surveyOf, eventsOf, initsOf, readOf}
+use Rattle.trace.specs.Fault.{uses, firstBad, eventFaultIn}
+use Rattle.trace.specs.Reading.{formOf, startIn, faultIn, surveyIn, eventsOf, initsOf, readIn}
 use Rattle.matching.specs.Entry.{keepRest, goneRest, entryOf}
 use Rattle.frame.specs.Reading.{headFault, linesFault, textFault}
 use Rattle.matching.specs.Reading.{entriesOf, surveyOf as matchingSurvey, readOf as matchingRead}
 use Rattle.text.specs.Line.{saidIn}
-use Rattle.rules.specs.Verdict.{startAnswerIn, countAnswer, entryAnswer, sourceAnswer, targetAnswer, verdict}
-use Rattle.checker.specs.Check.{readingAnswer, verdictOf, checkOf}
+use Rattle.rules.specs.Verdict.{startAnswerIn, countAnswer, entryAnswer, sourceAnswer, targetAnswer, verdictIn}
+use Rattle.registers.specs.Reg.{regRest, regOf}
+use Rattle.registers.specs.Reading.{regsOf, marked, listOf}
+use Rattle.checker.specs.Check.{Lent, readingAnswerIn, verdictFor, checkIn, checkOf, checkListed}
 use Rattle.checker.specs.Line.{counted, nthLine, lineOf, faultSide, offending, offendingLine, standing}
-use Rattle.checker.specs.Cases.{table, counters, zeros, all-hold}
+use Rattle.checker.specs.Cases.{table, counters, zeros, registers, all-hold, all-listed}
 
-cases : (all-hold table ≡ true) × ((all-hold counters ≡ true) × (all-hold zeros ≡ true))
-unfolding checkOf readingAnswer verdictOf verdict startAnswerIn countAnswer entryAnswer sourceAnswer targetAnswer readOf surveyOf
-    formOf faultOf textFault headFault linesFault saidIn startIn eventsOf initsOf coverFault lined firstBad eventFault uses recordOf eventRest initRest unlessSilent
-    numberIf orderIf numberIn matchingRead matchingSurvey entriesOf
-    entryOf keepRest goneRest numberOf digitsOn valueOn allDigits cut sameBytes stepped after latest lawful takes row
-cases = (refl, (refl, refl))
+cases : (all-hold table ≡ true) × ((all-hold counters ≡ true) × ((all-hold zeros ≡ true) × (all-listed registers ≡ true)))
+unfolding checkListed listOf regsOf regOf regRest marked checkIn readingAnswerIn verdictFor verdictIn startAnswerIn countAnswer entryAnswer
+    sourceAnswer targetAnswer readIn surveyIn formOf faultIn textFault headFault linesFault saidIn startIn eventsOf initsOf coverFault lined firstBad
+    eventFaultIn uses recordOf eventRest initRest unlessSilent numberIf orderIf numberIn matchingRead matchingSurvey entriesOf entryOf keepRest
+    goneRest numberOf digitsOn valueOn allDigits cut sameBytes stepped after latest lawful takes row
+cases = (refl, (refl, (refl, refl)))
 
 pub P1-to-P12 : all-hold table ≡ true
 P1-to-P12 = cases .0
@@ -35,7 +38,15 @@ pub counters-hold : all-hold counters ≡ true
 counters-hold = cases .1 .0
 
 pub zeros-hold : all-hold zeros ≡ true
-zeros-hold = cases .1 .1
+zeros-hold = cases .1 .1 .0
+
+pub registers-hold : all-listed registers ≡ true
+registers-hold = cases .1 .1 .1
+
+-- "A call without a list lists none", as a list of none does.
+pub lists-none : (l : Lent) → checkListed (bytes "regs\t1\n") l ≡ checkOf l
+unfolding checkListed listOf regsOf regOf regRest marked textFault headFault linesFault saidIn cut sameBytes
+lists-none l = refl
 
 -- The lines that the program prints for P10: of form 1, and of form 2 with its code line, against a target of form 1.
 pub P10-lines :

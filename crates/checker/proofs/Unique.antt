@@ -2,6 +2,8 @@
 use mathlib.Core.Path.{sym, _∙_}
 use Rattle.laws.specs.Unique.{OneAnswer, OneOf}
 use Rattle.checker.proofs.check.Reads as check
+use Rattle.checker.proofs.check_in.Reads as check-in
+use Rattle.checker.proofs.check_listed.Reads as check-listed
 use Rattle.checker.proofs.line.offending_span.Reads as offending-span
 use Rattle.checker.proofs.line.offending_line.Reads as offending-line
 
@@ -16,6 +18,30 @@ check-target κ a x y s t h k = h .target ∙ sym (k .target)
 
 check-entries : OneOf check.Post (λ κ r s. s .1 .1 .1 .1 .1 .0 .now)
 check-entries κ a x y s t h k = h .entries ∙ sym (k .entries)
+
+check-in-one : OneAnswer check-in.Post
+check-in-one κ a x y s t h k = h .result ∙ sym (k .result)
+
+check-in-source : OneOf check-in.Post (λ κ r s. s .1 .1 .1 .1 .0 .now)
+check-in-source κ a x y s t h k = h .source ∙ sym (k .source)
+
+check-in-target : OneOf check-in.Post (λ κ r s. s .1 .1 .1 .1 .1 .0 .now)
+check-in-target κ a x y s t h k = h .target ∙ sym (k .target)
+
+check-in-entries : OneOf check-in.Post (λ κ r s. s .1 .1 .1 .1 .1 .1 .0 .now)
+check-in-entries κ a x y s t h k = h .entries ∙ sym (k .entries)
+
+check-listed-one : OneAnswer check-listed.Post
+check-listed-one κ a x y s t h k = h .result ∙ sym (k .result)
+
+check-listed-source : OneOf check-listed.Post (λ κ r s. s .1 .1 .1 .1 .0 .now)
+check-listed-source κ a x y s t h k = h .source ∙ sym (k .source)
+
+check-listed-target : OneOf check-listed.Post (λ κ r s. s .1 .1 .1 .1 .1 .0 .now)
+check-listed-target κ a x y s t h k = h .target ∙ sym (k .target)
+
+check-listed-entries : OneOf check-listed.Post (λ κ r s. s .1 .1 .1 .1 .1 .1 .0 .now)
+check-listed-entries κ a x y s t h k = h .entries ∙ sym (k .entries)
 
 offending-span-one : OneAnswer offending-span.Post
 offending-span-one κ a x y s t h k = h .1 ∙ sym (k .1)

@@ -1,11 +1,11 @@
-// The check of a matching between two trace texts, and the line at fault.
+// The check of a matching between two trace texts, with a list of registers too (`check_listed`), and the line at fault.
 pub mod line;
 
 ghost use mathlib.Core.Path.{_≡_};
 ghost use Prim.Native.Nat.{_*_, _≤_};
 ghost use lib.ListN.{length, take};
 ghost use Rattle.event.specs.Room.{Placed, eventWords};
-ghost use Rattle.checker.specs.Check.{Checks, heldOf, judgedOf, lent, refused};
+ghost use Rattle.checker.specs.Check.{Checks, ChecksIn, ChecksListed, heldOf, judgedIn, lent, refused};
 use event::Answer;
 use event::Entry;
 use event::WORDS;
@@ -45,8 +45,9 @@ fn refusal(answer: Answer) -> Checked
     }
 }
 
-// The events and entries at the front of the rooms, judged.
+// The events and entries at the front of the rooms, judged under a list of registers.
 fn judged(
+    listed: &Listed,
     source: TraceRead,
     target: TraceRead,
     entries: usize,
@@ -60,16 +61,15 @@ fn judged(
     requires { ⌜ (source .events ≤ 800) × (target .events ≤ 800) ⌝ }
     requires { ⌜ Placed (take (source .events * eventWords) (now «source_room»)) ⌝ }
     requires { ⌜ Placed (take (target .events * eventWords) (now «target_room»)) ⌝ }
-    ensures { λ r. ⌜ r ≡ judgedOf source target entries
+    ensures { λ r. ⌜ r ≡ judgedIn (now (listed .entry)) source target entries
         (take (source .events * eventWords) (now («source_room» .entry)))
         (take (target .events * eventWords) (now («target_room» .entry)))
         (take entries (now («entry_room» .entry))) ⌝ }
 {
     let source_words = source.events * WORDS;
     let target_words = target.events * WORDS;
-    let listed: Listed = [false; 256];
     let answer = judge(
-        &listed,
+        listed,
         source.memory,
         target.memory,
         &source_room[0..source_words],
@@ -95,7 +95,51 @@ fn hold(read: TraceRead) -> Held
     Held { events, memory }
 }
 
-// A check: the three texts are read and judged; a reading's refusal stores nothing in any room.
+// A check under a list of registers: the three texts are read and judged; a reading's refusal stores nothing in any room.
+pub fn check_in(
+    listed: &Listed,
+    source: &[u8],
+    target: &[u8],
+    matching: &[u8],
+    source_room: &mut [Word],
+    target_room: &mut [Word],
+    entry_room: &mut [Entry],
+) -> Checked
+    ensures { λ r. ⌜ ChecksIn (now (listed .entry))
+        (lent (now (source .entry)) (now (target .entry)) (now (matching .entry))
+        (now («source_room» .entry)) (now («target_room» .entry)) (now («entry_room» .entry)))
+        r (now («source_room» .exit)) (now («target_room» .exit)) (now («entry_room» .exit)) ⌝ }
+{
+    let s = survey_in(listed, source, 1, source_room.len());
+    let source_answer = s.answer;
+    if source_answer.number != 0 {
+        return refusal(source_answer);
+    }
+    let t = survey_in(listed, target, 2, target_room.len());
+    let target_answer = t.answer;
+    if target_answer.number != 0 {
+        return refusal(target_answer);
+    }
+    let m = matching::survey_in(matching, entry_room.len());
+    let matching_answer = m.answer;
+    if matching_answer.number != 0 {
+        return refusal(matching_answer);
+    }
+    store(source, source_room);
+    store(target, target_room);
+    matching::store(matching, entry_room);
+    judged(
+        listed,
+        s,
+        t,
+        m.entries,
+        source_room,
+        target_room,
+        entry_room,
+    )
+}
+
+// The same without a list: none is listed.
 pub fn check(
     source: &[u8],
     target: &[u8],
@@ -109,23 +153,46 @@ pub fn check(
         (now («source_room» .entry)) (now («target_room» .entry)) (now («entry_room» .entry)))
         r (now («source_room» .exit)) (now («target_room» .exit)) (now («entry_room» .exit)) ⌝ }
 {
-    let s = survey_in(source, 1, source_room.len());
-    let source_answer = s.answer;
-    if source_answer.number != 0 {
-        return refusal(source_answer);
+    let listed: Listed = [false; 256];
+    check_in(
+        &listed,
+        source,
+        target,
+        matching,
+        source_room,
+        target_room,
+        entry_room,
+    )
+}
+
+// With the text of a list, whose answer comes first.
+pub fn check_listed(
+    list: &[u8],
+    source: &[u8],
+    target: &[u8],
+    matching: &[u8],
+    source_room: &mut [Word],
+    target_room: &mut [Word],
+    entry_room: &mut [Entry],
+) -> Checked
+    ensures { λ r. ⌜ ChecksListed (now (list .entry))
+        (lent (now (source .entry)) (now (target .entry)) (now (matching .entry))
+        (now («source_room» .entry)) (now («target_room» .entry)) (now («entry_room» .entry)))
+        r (now («source_room» .exit)) (now («target_room» .exit)) (now («entry_room» .exit)) ⌝ }
+{
+    let read = registers::read(list);
+    let found = read.answer;
+    if found.number != 0 {
+        return refusal(found);
     }
-    let t = survey_in(target, 2, target_room.len());
-    let target_answer = t.answer;
-    if target_answer.number != 0 {
-        return refusal(target_answer);
-    }
-    let m = matching::survey_in(matching, entry_room.len());
-    let matching_answer = m.answer;
-    if matching_answer.number != 0 {
-        return refusal(matching_answer);
-    }
-    store(source, source_room);
-    store(target, target_room);
-    matching::store(matching, entry_room);
-    judged(s, t, m.entries, source_room, target_room, entry_room)
+    let listed = read.listed;
+    check_in(
+        &listed,
+        source,
+        target,
+        matching,
+        source_room,
+        target_room,
+        entry_room,
+    )
 }

@@ -6,8 +6,7 @@ use native.Mathlib.Omega.{arith}
 use lib.ListN.{length, take}
 use lib.Seq.{length-take-le}
 use Rattle.event.specs.Room.{capacity, eventWords}
-use Rattle.rules.proofs.Unlisted.{verdict-none}
-use Rattle.checker.specs.Check.{judgedOf}
+use Rattle.checker.specs.Check.{judgedIn}
 use borrow.Author.Needs.{needs}
 use Rattle.checker.proofs.judged.Statement.{statement}
 use Rattle.checker.proofs.judged.Tie as tie
@@ -21,7 +20,7 @@ few n room h k = omega (arith, length-take-le (n * eventWords) room h)
 
 judge-requires : tie.Need-judge-requires
 judge-requires c κs =
-    let b = c .before .before .before .before .before .before .before .before .before in
+    let b = c .before .before .before .before .before .before .before .before in
     let a = b .args in
     let s = a .source .events * eventWords in
     let t = a .target .events * eventWords in
@@ -38,15 +37,14 @@ judge-requires c κs =
     )
 
 returns : tie.Need-returns
-unfolding judgedOf
+unfolding judgedIn
 returns c =
     let j = c .before .before in
-    let a = j .before .before .before .before .before .before .before .before .before .before .args in
+    let a = j .before .before .before .before .before .before .before .before .before .args in
     rw (
       c .before .hold .ensures,
       c .hold2 .ensures,
       j .judge .ensures,
-      verdict-none,
       whole (a .source .events * eventWords),
       whole (a .target .events * eventWords),
       whole (a .entries),
