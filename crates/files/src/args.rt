@@ -1,17 +1,41 @@
 // The words of a call: the program's name, the names of files, then options. A word that is none of them is a slip of the hand: the program then says how it
 // is used and prints nothing else, so that nothing is read as a verdict.
 use libc::STDERR_FILENO;
+use text::word::same_bytes;
 
-// What the options say. No option is known yet, so that every word after the names is one too many.
+// What the options say.
 pub struct Options {
     // Whether each word is an option that is known, stands once and has its value.
     pub right: bool,
+    // The place of the word that names the list's file; 0 where no list is named.
+    pub list: usize,
 }
 
-// The options: the words from a place on, where the program's name has place 0.
+// Whether the word at a place is this one.
+fn is_word(place: usize, word: &[u8]) -> bool {
+    let mut given = io::buffer();
+    let bytes = os::arg(place, &mut given);
+    same_bytes(&given[..bytes], word)
+}
+
+// The options: the words from a place on, where the program's name has place 0. The one that is known, `--list` with the name of a file, may stand once.
 pub fn options_from(at: usize) -> Options {
+    let words = os::arg_count();
+    if words <= at {
+        return Options {
+            right: true,
+            list: 0,
+        };
+    }
+    if words - at != 2 {
+        return Options {
+            right: false,
+            list: 0,
+        };
+    }
     Options {
-        right: os::arg_count() <= at,
+        right: is_word(at, b"--list"),
+        list: at + 1,
     }
 }
 

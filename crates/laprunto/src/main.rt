@@ -1,10 +1,10 @@
-// The program: three file names, source, target and matching. It prints the answer and, if there is one, the offending line.
+// The program: three file names, source, target and matching, and the option `--list` with a fourth. It prints the answer and, if there is one, the offending line.
 use files::args::options_from;
 use files::args::print_usage;
 use files::check::check_files;
 
 fn print_own_usage() {
-    print_usage(b"usage: laprunto SOURCE TARGET MATCHING\n");
+    print_usage(b"usage: laprunto SOURCE TARGET MATCHING [--list FILE]\n");
 }
 
 // A name that is missing is a file that can't be opened; a word too many is no check.
@@ -24,6 +24,7 @@ fn main() {
     let target_bytes = os::arg(2, &mut target);
     let matching_bytes = os::arg(3, &mut matching);
     check_files(
+        options.list,
         &source[..source_bytes],
         &target[..target_bytes],
         &matching[..matching_bytes],

@@ -1,4 +1,4 @@
-// The program: a form, 1 or 2, the name of a trace and the name of a file to write. It moves the trace to the form and prints the answer.
+// The program: a form, 1 or 2, the name of a trace and the name of a file to write, and the option `--list` with the name of a list. It moves the trace to the form and prints the answer.
 use files::args::options_from;
 use files::args::print_usage;
 use files::moving::move_file;
@@ -22,7 +22,7 @@ fn form_named(word: &[u8]) -> Named {
 }
 
 fn print_own_usage() {
-    print_usage(b"usage: laprunto_move FORM TRACE OUT (FORM is 1 or 2)\n");
+    print_usage(b"usage: laprunto_move FORM TRACE OUT [--list FILE] (FORM is 1 or 2)\n");
 }
 
 // A word too few or too many, or another form, is no move.
@@ -46,5 +46,10 @@ fn main() {
         print_own_usage();
         return;
     };
-    move_file(to, &name[..name_bytes], &out_name[..out_bytes]);
+    move_file(
+        options.list,
+        to,
+        &name[..name_bytes],
+        &out_name[..out_bytes],
+    );
 }

@@ -8,10 +8,14 @@ fn print_own_usage() {
     print_usage(b"usage: laprunto_run SOURCE TARGET MATCHING\n");
 }
 
-// A name that is missing is a file that can't be opened; a word too many is no run.
+// A name that is missing is a file that can't be opened; a word too many is no run, and neither is an option.
 fn main() {
     let options = options_from(4);
     if !options.right {
+        print_own_usage();
+        return;
+    }
+    if options.list != 0 {
         print_own_usage();
         return;
     }
