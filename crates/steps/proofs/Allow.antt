@@ -11,7 +11,7 @@ use Rattle.laws.proofs.Lists.{Each}
 use Rattle.event.specs.Kind.{lawful}
 use Rattle.event.specs.Room.{noEvent}
 use Rattle.event.specs.declared.Event.{Event}
-use Rattle.rules.specs.View.{View, view as seen}
+use Rattle.rules.specs.View.{View}
 use Rattle.trace.specs.Reading.{eventLimit}
 use Rattle.rules.specs.Moves.{Phase, one, two, Move, Moves, Run, remove, insert, swap, next, done, step}
 use Rattle.rules.specs.Run.{old, new, Traced, traced, tagOf, Inserted, viewed, changes}
@@ -154,10 +154,10 @@ module _ (view : Event → View) where
 
 -- there is one replay
 pub one-replay : OneReplay
-one-replay ns t k k′ u w w′ (ended e) (ended e′) = (refl, refl)
-one-replay ns t k k′ u w w′ (ended e) (stepped {v = v} h r) = absurd (Option·none-ne-some v (subst (λ st. applied seen t st u ≡ some v) e h))
-one-replay ns t k k′ u w w′ (stepped {v = v} h r) (ended e) = absurd (Option·none-ne-some v (subst (λ st. applied seen t st u ≡ some v) e h))
-one-replay ns t k k′ u w w′ (stepped {k = i} {v = v} h r) (stepped {k = j} {v = v′} h′ r′) =
+one-replay look ns t k k′ u w w′ (ended e) (ended e′) = (refl, refl)
+one-replay look ns t k k′ u w w′ (ended e) (stepped {v = v} h r) = absurd (Option·none-ne-some v (subst (λ st. applied look t st u ≡ some v) e h))
+one-replay look ns t k k′ u w w′ (stepped {v = v} h r) (ended e) = absurd (Option·none-ne-some v (subst (λ st. applied look t st u ≡ some v) e h))
+one-replay look ns t k k′ u w w′ (stepped {k = i} {v = v} h r) (stepped {k = j} {v = v′} h′ r′) =
     let q : v′ ≡ v = Option·some-injective v′ v (sym h′ ∙ h) in
-    let n = one-replay ns t i j v w w′ r (subst (λ z. Replays seen ns t j z w′) q r′) in
+    let n = one-replay look ns t i j v w w′ r (subst (λ z. Replays look ns t j z w′) q r′) in
     (ap suc (n .0), n .1)

@@ -1,57 +1,57 @@
 -- A check that accepts has read few events and few entries, which stand in the rooms: so a run begins, and its steps are counted. Assumes nothing.
 use mathlib.Core.Path.{_≡_, refl, sym, _∙_, ap}
-use mathlib.Core.Bool.{true, false}
+use mathlib.Core.Bool.{Bool, true, false}
 use mathlib.Core.List.{List}
 use Prim.Native.Nat.{ℕ, _-_, _≤_}
 use native.Mathlib.Omega.{arith}
 use lib.ListN.{length, take}
 use borrow.Author.Tests.{eq-eqb, ne-eqb}
 use Rattle.event.specs.Kind.{has}
-use Rattle.trace.specs.Reading.{eventLimit, eventsOf, readOf, surveyOf}
+use Rattle.trace.specs.Reading.{eventLimit, eventsOf, readIn, surveyIn}
 use Rattle.trace.proofs.OneText.{text-whole}
 use Rattle.trace.proofs.Readings.{counts, read-passed}
 use Rattle.rules.proofs.Entries.{entries}
-use Rattle.checker.specs.Check.{Checks, Lent, checkOf, entriesRead, entryRoomAfter}
-use Rattle.checker.specs.Demand.{Admitted, entriesFor, premise, sourceOf, targetOf}
+use Rattle.checker.specs.Check.{ChecksIn, Lent, checkIn, entriesRead, entryRoomIn}
+use Rattle.checker.specs.Demand.{AdmittedIn, entriesFor, premise, sourceOf, targetOf}
 use Rattle.checker.specs.declared.Checked.{Checked}
-use Rattle.checker.proofs.Admitted.{admitted-exactly}
+use Rattle.checker.proofs.Admitted.{admitted-exactly-in}
 use Rattle.checker.proofs.Demand3.{read-all}
 use Rattle.checker.proofs.Filled.{Entered, entered}
 use Rattle.steps.specs.Cost.{cost}
-use Rattle.steps.specs.Play.{Starts, front}
+use Rattle.steps.specs.Play.{StartsIn, front}
 use Rattle.steps.specs.Tags.{counted}
 
 -- ---- what was read
 
-module _ (side : ℕ) (t room : List ℕ) (z : readOf side t room .answer .number ≡ 0) where
-  survey : surveyOf side t .answer .number ≡ 0
-  survey = rw (read-passed side t room z) at z
+module _ (regs : List Bool) (side : ℕ) (t room : List ℕ) (z : readIn regs side t room .answer .number ≡ 0) where
+  survey : surveyIn regs side t .answer .number ≡ 0
+  survey = rw (read-passed regs side t room z) at z
 
   few-events : length (eventsOf t) ≤ eventLimit
-  few-events = text-whole side t survey .fits .few
+  few-events = text-whole regs side t survey .fits .few
 
-  events-many : readOf side t room .events ≡ length (eventsOf t)
-  events-many = rw (read-passed side t room z) (counts side t survey)
+  events-many : readIn regs side t room .events ≡ length (eventsOf t)
+  events-many = rw (read-passed regs side t room z) (counts regs side t survey)
 
 -- ---- an accepted matching
 
-module _ (l : Lent) (z : checkOf l .answer .number ≡ 0) where
-  pub admitted : Admitted l
-  admitted = admitted-exactly l .1 (ap (λ n. has n premise) z)
+module _ (regs : List Bool) (l : Lent) (z : checkIn regs l .answer .number ≡ 0) where
+  pub admitted : AdmittedIn regs l
+  admitted = admitted-exactly-in regs l .1 (ap (λ n. has n premise) z)
 
   pub source-few : length (sourceOf l) ≤ eventLimit
-  source-few = few-events 1 (l .source) (l .sourceRoom) (read-all l (admitted .reading) .0)
+  source-few = few-events regs 1 (l .source) (l .sourceRoom) (read-all regs l (admitted .reading) .0)
 
   pub target-few : length (targetOf l) ≤ eventLimit
-  target-few = few-events 2 (l .target) (l .targetRoom) (read-all l (admitted .reading) .1)
+  target-few = few-events regs 2 (l .target) (l .targetRoom) (read-all regs l (admitted .reading) .1)
 
-  pub standing : checkOf l .source .events ≡ length (sourceOf l)
-  unfolding checkOf
-  standing = rw (admitted .reading) (events-many 1 (l .source) (l .sourceRoom) (read-all l (admitted .reading) .0))
+  pub standing : checkIn regs l .source .events ≡ length (sourceOf l)
+  unfolding checkIn
+  standing = rw (admitted .reading) (events-many regs 1 (l .source) (l .sourceRoom) (read-all regs l (admitted .reading) .0))
 
-  pub aimed : checkOf l .target .events ≡ length (targetOf l)
-  unfolding checkOf
-  aimed = rw (admitted .reading) (events-many 2 (l .target) (l .targetRoom) (read-all l (admitted .reading) .1))
+  pub aimed : checkIn regs l .target .events ≡ length (targetOf l)
+  unfolding checkIn
+  aimed = rw (admitted .reading) (events-many regs 2 (l .target) (l .targetRoom) (read-all regs l (admitted .reading) .1))
 
   pub entries-few : length (entriesFor l) ≤ eventLimit
   entries-few =
@@ -59,18 +59,18 @@ module _ (l : Lent) (z : checkOf l .answer .number ≡ 0) where
       let f = source-few in
       omega arith
 
-  held : Entered (l .matching) (entriesRead l) (entryRoomAfter l)
-  unfolding entryRoomAfter
-  held = entered (l .matching) (l .entryRoom) (read-all l (admitted .reading) .2) (entriesRead l) refl _ (rw (admitted .reading))
+  held : Entered (l .matching) (entriesRead l) (entryRoomIn regs l)
+  unfolding entryRoomIn
+  held = entered (l .matching) (l .entryRoom) (read-all regs l (admitted .reading) .2) (entriesRead l) refl _ (rw (admitted .reading))
 
-  entries-counted : checkOf l .entries ≡ entriesRead l .entries
-  unfolding checkOf
+  entries-counted : checkIn regs l .entries ≡ entriesRead l .entries
+  unfolding checkIn
   entries-counted = rw (admitted .reading)
 
-  pub entries-inside : checkOf l .entries ≤ length (entryRoomAfter l)
+  pub entries-inside : checkIn regs l .entries ≤ length (entryRoomIn regs l)
   entries-inside = rw entries-counted (held .inside)
 
-  pub entries-there : take (checkOf l .entries) (entryRoomAfter l) ≡ entriesFor l
+  pub entries-there : take (checkIn regs l .entries) (entryRoomIn regs l) ≡ entriesFor l
   entries-there = rw entries-counted (held .front)
 
 -- ---- what a check handed back and left
@@ -79,32 +79,32 @@ module _ (l : Lent) (z : checkOf l .answer .number ≡ 0) where
 abbrev pub entriesIn : Checked → List ℕ → List ℕ
 entriesIn c er = take (c .entries - 0) er
 
-module _ (l : Lent) (c : Checked) {sr tr er : List ℕ} (h : Checks l c sr tr er) (z : c .answer .number ≡ 0) where
-  answered : checkOf l .answer .number ≡ 0
+module _ (regs : List Bool) (l : Lent) (c : Checked) {sr tr er : List ℕ} (h : ChecksIn regs l c sr tr er) (z : c .answer .number ≡ 0) where
+  answered : checkIn regs l .answer .number ≡ 0
   answered = ap (λ (x : Checked). x .answer .number) (sym (h .result)) ∙ z
 
   pub source-fits : c .source .events ≤ eventLimit
-  source-fits = rw (h .result, standing l answered) (source-few l answered)
+  source-fits = rw (h .result, standing regs l answered) (source-few regs l answered)
 
   pub target-fits : c .target .events ≤ eventLimit
-  target-fits = rw (h .result, aimed l answered) (target-few l answered)
+  target-fits = rw (h .result, aimed regs l answered) (target-few regs l answered)
 
   pub entries-fit : c .entries ≤ length er
-  entries-fit = rw (h .result, h .entries) (entries-inside l answered)
+  entries-fit = rw (h .result, h .entries) (entries-inside regs l answered)
 
   entries-are : entriesIn c er ≡ entriesFor l
   entries-are =
       let e : c .entries - 0 ≡ c .entries = omega arith in
-      ap (λ n. take n er) e ∙ rw (h .result, h .entries) (entries-there l answered)
+      ap (λ n. take n er) e ∙ rw (h .result, h .entries) (entries-there regs l answered)
 
   pub entries-fewer : length (entriesIn c er) ≤ eventLimit
-  entries-fewer = rw entries-are (entries-few l answered)
+  entries-fewer = rw entries-are (entries-few regs l answered)
 
   pub accepts : (tags : List ℕ) {after : List ℕ} (n : ℕ) → after ≡ front (counted 0 (c .source .events)) tags → n ≡ cost (c .target .events) (entriesIn c er)
-      → Starts l tags (record { checked = c; run = record { begun = true; standing = c .source .events }; cost = n }) sr tr er after
+      → StartsIn regs l tags (record { checked = c; run = record { begun = true; standing = c .source .events }; cost = n }) sr tr er after
   accepts tags n f q =
-      let e = eq-eqb (checkOf l .answer .number) 0 answered in
-      let aim : c .target .events ≡ length (targetOf l) = ap (λ (x : Checked). x .target .events) (h .result) ∙ aimed l answered in
+      let e = eq-eqb (checkIn regs l .answer .number) 0 answered in
+      let aim : c .target .events ≡ length (targetOf l) = ap (λ (x : Checked). x .target .events) (h .result) ∙ aimed regs l answered in
       let k : n ≡ cost (length (targetOf l)) (entriesFor l) = q ∙ (ap (cost (c .target .events)) entries-are ∙ ap (λ j. cost j (entriesFor l)) aim) in
       record {
         result = rw (e, ← h .result, k);
@@ -114,8 +114,8 @@ module _ (l : Lent) (c : Checked) {sr tr er : List ℕ} (h : Checks l c sr tr er
         left = f ∙ rw (e, ← h .result);
       }
 
-pub refuses : (l : Lent) (c : Checked) (tags : List ℕ) {sr tr er : List ℕ} → Checks l c sr tr er → (c .answer .number ≡ 0 → ⊥)
-    → Starts l tags (record { checked = c; run = record { begun = false; standing = 0 }; cost = 0 }) sr tr er tags
-refuses l c tags h z =
-    let e = ne-eqb (checkOf l .answer .number) 0 (λ q. z (ap (λ (x : Checked). x .answer .number) (h .result) ∙ q)) in
+pub refuses : (regs : List Bool) (l : Lent) (c : Checked) (tags : List ℕ) {sr tr er : List ℕ} → ChecksIn regs l c sr tr er → (c .answer .number ≡ 0 → ⊥)
+    → StartsIn regs l tags (record { checked = c; run = record { begun = false; standing = 0 }; cost = 0 }) sr tr er tags
+refuses regs l c tags h z =
+    let e = ne-eqb (checkIn regs l .answer .number) 0 (λ q. z (ap (λ (x : Checked). x .answer .number) (h .result) ∙ q)) in
     record { result = rw (e, ← h .result); source = h .source; target = h .target; entries = h .entries; left = rw e }

@@ -12,11 +12,11 @@ use borrow.Author.Tests.{leb-true}
 use Rattle.laws.proofs.Bools.{and-right}
 use Rattle.event.specs.declared.Event.{Event}
 use Rattle.trace.specs.Reading.{eventLimit}
-use Rattle.rules.specs.View.{view}
+use Rattle.rules.specs.View.{View}
 use Rattle.rules.specs.Run.{Traced}
 use Rattle.steps.specs.Inner.{exchanged, withNew, without}
 use Rattle.steps.specs.Step.{applied}
-use Rattle.steps.specs.Play.{Applies, appliedOf, front, isOpen, leaving, outcome, stands}
+use Rattle.steps.specs.Play.{Applies, appliedOf, front, isOpen, leaving, outcomeBy, stands}
 use Rattle.steps.specs.Tags.{trace}
 use Rattle.steps.specs.declared.Applied.{Applied}
 use Rattle.steps.specs.declared.Run.{Run}
@@ -58,9 +58,11 @@ module _ (s t : List Event) (r : Run) (A : List ℕ) where
   pub fits : isOpen r ≡ true → r .standing ≤ eventLimit
   fits h = leb-true (r .standing) eventLimit (and-right (r .begun) (leb (r .standing) eventLimit) h)
 
-  pub when-open : (st st′ : Step) {result : Applied} {after : List ℕ} → isOpen r ≡ true → st ≡ st′
-      → Applies r A (applied view t st′ (stands s t r A)) result after → Applies r A (outcome s t r A st) result after
-  when-open st st′ h e p = rw (h, e) p
+  module _ (look : Event → View) where
+    pub when-open : (st st′ : Step) {result : Applied} {after : List ℕ} → isOpen r ≡ true → st ≡ st′
+        → Applies r A (applied look t st′ (stands s t r A)) result after → Applies r A (outcomeBy look s t r A st) result after
+    when-open st st′ h e p = rw (h, e) p
 
-  pub when-closed : (st : Step) {result : Applied} → isOpen r ≡ false → result ≡ appliedOf r none → Applies r A (outcome s t r A st) result A
-  when-closed st h q = rw h (record { answer = q; left = refl })
+    pub when-closed : (st : Step) {result : Applied} → isOpen r ≡ false → result ≡ appliedOf r none
+        → Applies r A (outcomeBy look s t r A st) result A
+    when-closed st h q = rw h (record { answer = q; left = refl })

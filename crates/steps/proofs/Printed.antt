@@ -2,6 +2,7 @@
 -- apart. Every removal takes a gone event away, every swap a pair against the order, and every insertion adds an event: so there are as many steps as
 -- the matching costs, and no run that realises it has fewer. Assumes nothing.
 use mathlib.Core.Path.{_≡_, refl, subst}
+use mathlib.Core.Bool.{Bool}
 use mathlib.Core.List.{List}
 use Prim.Native.Nat.{ℕ, _+_, _≤_}
 use native.Mathlib.Omega.{arith}
@@ -9,14 +10,14 @@ use lib.ListN.{length}
 use Rattle.event.specs.declared.Event.{Event}
 use Rattle.event.specs.declared.memory.Memory.{Memory}
 use Rattle.trace.specs.Reading.{eventLimit}
-use Rattle.rules.specs.View.{View, view}
+use Rattle.rules.specs.View.{View, viewIn}
 use Rattle.rules.specs.Run.{number, changes}
-use Rattle.rules.specs.Demand.{Passed}
+use Rattle.rules.specs.Demand.{PassedIn}
 use Rattle.rules.proofs.Entries.{Entries, entries}
 use Rattle.rules.proofs.FixedRun.{orderly-lasts}
 use Rattle.rules.proofs.Realise.{FixedOrder}
 use Rattle.rules.proofs.Traced.{Leaves, Overtakes}
-use Rattle.rules.proofs.Theorem.{in-fixed-order}
+use Rattle.rules.proofs.Theorem.{in-fixed-order-in}
 use Rattle.steps.specs.Step.{Replays}
 use Rattle.steps.specs.Cost.{cost}
 use Rattle.steps.specs.Promise.{Printed, AsMany, NoFewer, Allowed, ReplaysRun, pairs}
@@ -54,27 +55,27 @@ replayed view s t ns q o l =
     let z : k .0 ≡ cost (length t) ns = omega arith in
     subst (λ n. Replays view ns t n (number 1 s) (o .last)) z (k .1)
 
-module _ (m n : Memory) (s t : List Event) (ns : List ℕ) (p : Passed m n s t ns) where
+module _ (regs : List Bool) (m n : Memory) (s t : List Event) (ns : List ℕ) (p : PassedIn regs m n s t ns) where
   entered : Entries (length t) s ns
   entered = entries (length t) s ns (p .count) (p .entries)
 
 pub as-many : AsMany
-as-many m n s t ns p l h =
-    let o = in-fixed-order m n s t ns p h in
-    (o .last, replayed view s t ns (entered m n s t ns p .many) o l, o .ends-there)
+as-many regs m n s t ns p l h =
+    let o = in-fixed-order-in regs m n s t ns p h in
+    (o .last, replayed (viewIn regs) s t ns (entered regs m n s t ns p .many) o l, o .ends-there)
 
 pub no-fewer : NoFewer
-no-fewer m n s t ns p u r e = least ns view s t (entered m n s t ns p) u r e
+no-fewer regs m n s t ns p u r e = least ns (viewIn regs) s t (entered regs m n s t ns p) u r e
 
 pub printed : Printed
-printed m n s t ns p l h =
-    let r = as-many m n s t ns p l h in
-    let q = entered m n s t ns p .many in
+printed regs m n s t ns p l h =
+    let r = as-many regs m n s t ns p l h in
+    let q = entered regs m n s t ns p .many in
     let few = few-steps (length t) ns in
     (cost (length t) ns, r .0, r .1, r .2, subst (λ k. cost (length t) ns ≤ k + pairs k + length t) q few)
 
 pub allowed : Allowed
-allowed t l st u v h = is-move view t l st u v h
+allowed look t l st u v h = is-move look t l st u v h
 
 pub replays-run : ReplaysRun
-replays-run ns t l k u w r = is-run view ns t l r
+replays-run look ns t l k u w r = is-run look ns t l r

@@ -9,10 +9,10 @@ use native.Mathlib.Omega.{arith}
 use lib.Dec.{eqb, ltb}
 use lib.ListN.{length, drop}
 use Rattle.event.specs.declared.Event.{Event}
-use Rattle.rules.specs.View.{view}
+use Rattle.rules.specs.View.{View}
 use Rattle.rules.specs.Moves.{two}
 use Rattle.rules.specs.Run.{Traced, tagOf}
-use Rattle.steps.specs.Play.{nextFrom, swapPlace}
+use Rattle.steps.specs.Play.{nextFromBy, swapPlace}
 use Rattle.steps.specs.Step.{against, anyGone, applied, at, hereOrLater, missing, nextStep, overtakes, removal, removeStep, shifted, swapStep}
 use Rattle.steps.specs.Step.{swapped, targetNumber, under}
 use Rattle.steps.specs.declared.Step.{Step}
@@ -36,16 +36,16 @@ under-is : (x : Traced) (o : Option (List Traced)) (v : List Traced) → under x
 under-is x none v h = absurd (Option·none-ne-some v h)
 under-is x (some w) v h = (w, refl, sym (Option·some-injective (x ∷ w) v h))
 
-module _ (ns : List ℕ) where
-  kept-order : (i : ℕ) (b u v : List Traced) → against ns u ≡ some i → at i (swapped view) b u ≡ some v
+module _ (look : Event → View) (ns : List ℕ) where
+  kept-order : (i : ℕ) (b u v : List Traced) → against ns u ≡ some i → at i (swapped look) b u ≡ some v
       → against ns v ≡ shifted (i - 1) (against ns (drop (i - 1) v))
   kept-order zero b u v h k = sym (unshifted (against ns v))
   kept-order (suc zero) b u v h k = sym (unshifted (against ns v))
   kept-order (suc (suc i)) b [] v h k = absurd (Option·none-ne-some v k)
   kept-order (suc (suc i)) b (x ∷ []) v h k = absurd (Option·none-ne-some v k)
   kept-order (suc (suc i)) b (x ∷ y ∷ u) v h k =
-      let p = under-is x (under y (at i (swapped view) (y ∷ x ∷ b) u)) v k in
-      let q = under-is y (at i (swapped view) (y ∷ x ∷ b) u) (p .0) (p .1) in
+      let p = under-is x (under y (at i (swapped look) (y ∷ x ∷ b) u)) v k in
+      let q = under-is y (at i (swapped look) (y ∷ x ∷ b) u) (p .0) (p .1) in
       let f = found-later (overtakes ns (tagOf x) (tagOf y)) (against ns (y ∷ u)) (suc i) h in
       let e : v ≡ x ∷ y ∷ q .0 = p .2 ∙ ap (λ w. x ∷ w) (q .2) in
       let r = kept-order (suc i) (x ∷ b) (y ∷ u) (y ∷ q .0) (f .1) (ap (under y) (q .1)) in
@@ -68,8 +68,8 @@ module _ (ns : List ℕ) where
       go false h ih = let z : _≡_ {A = ℕ} 0 1 = cc in omega arith
 
   -- the next step is a swap
-  a-swap : (n : ℕ) (u : List Traced) (i : ℕ) → nextStep view ns n u ≡ Swap (suc i) → (anyGone ns u ≡ false) × (against ns u ≡ some i)
-  a-swap n u i h = go (anyGone ns u) (removal view ns [] u) (against ns u) h
+  a-swap : (n : ℕ) (u : List Traced) (i : ℕ) → nextStep look ns n u ≡ Swap (suc i) → (anyGone ns u ≡ false) × (against ns u ≡ some i)
+  a-swap n u i h = go (anyGone ns u) (removal look ns [] u) (against ns u) h
     where
       go : (c : Bool) (r o : Option ℕ) → cond c (removeStep u r) (swapStep o (missing ns n 1 u)) ≡ Swap (suc i) → (c ≡ false) × (o ≡ some i)
       go true none o h = let z : _≡_ {A = ℕ} 0 1 = cc in absurd (omega arith)
@@ -77,17 +77,17 @@ module _ (ns : List ℕ) where
       go false r none h = absurd (no-swap n 1 (suc i) u h)
       go false r (some j) h = let q : suc j ≡ suc i = cc in (refl, ap some (omega arith))
 
-module _ (s t : List Event) (ns : List ℕ) where
+module _ (look : Event → View) (s t : List Event) (ns : List ℕ) where
   -- after the step that was next, the same is found from its place on
-  pub resumed : (st : Step) (u v : List Traced) → nextStep view ns (length t) u ≡ st → applied view t st u ≡ some v
-      → nextFrom s t ns (swapPlace st) v ≡ nextFrom s t ns 0 v
+  pub resumed : (st : Step) (u v : List Traced) → nextStep look ns (length t) u ≡ st → applied look t st u ≡ some v
+      → nextFromBy look s t ns (swapPlace st) v ≡ nextFromBy look s t ns 0 v
   resumed (Remove i k) u v h a = refl
   resumed (Swap zero) u v h a = refl
   resumed (Swap (suc i)) u v h a =
-      let q = a-swap ns (length t) u i h in
-      let m = at-move view two (swapped view) (swapped-move view two) i [] u v a in
-      let g = still-none view ns m (q .0) in
-      let k = kept-order ns i [] u v (q .1) a in
+      let q = a-swap look ns (length t) u i h in
+      let m = at-move look two (swapped look) (swapped-move look two) i [] u v a in
+      let g = still-none look ns m (q .0) in
+      let k = kept-order look ns i [] u v (q .1) a in
       rw g (ap (λ o. swapStep o (missing ns (length t) 1 v)) (sym k))
   resumed (Insert i) u v h a = refl
   resumed Done u v h a = refl

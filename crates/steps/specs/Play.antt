@@ -9,9 +9,10 @@ use lib.Dec.{eqb, leb}
 use lib.ListN.{length, take, drop}
 use Rattle.event.specs.declared.Event.{Event}
 use Rattle.trace.specs.Reading.{eventLimit}
-use Rattle.rules.specs.View.{view}
+use Rattle.event.specs.Listed.{noneListed}
+use Rattle.rules.specs.View.{View, view}
 use Rattle.rules.specs.Run.{Traced}
-use Rattle.checker.specs.Check.{Lent, checkOf, entryRoomAfter, sourceRoomAfter, targetRoomAfter}
+use Rattle.checker.specs.Check.{Lent, checkIn, entryRoomIn, sourceRoomIn, targetRoomIn}
 use Rattle.checker.specs.Demand.{entriesFor, targetOf}
 use Rattle.checker.specs.declared.Checked.{Checked}
 use Rattle.steps.specs.Cost.{cost}
@@ -40,27 +41,33 @@ beginning c = record { begun = eqb (c .answer .number) 0; standing = cond (eqb (
 abbrev pub tagsBegun : Checked → List ℕ → List ℕ
 tagsBegun c tags = cond (eqb (c .answer .number) 0) (front (counted 0 (c .source .events)) tags) tags
 
--- How many steps it will have: what the matching costs (request C-18), and none if it is not accepted.
-abbrev pub costOf : Lent → ℕ
-costOf l = cond (eqb (checkOf l .answer .number) 0) (cost (length (targetOf l)) (entriesFor l)) 0
+-- How many steps it will have under a list of registers: what the matching costs (request C-18), and none if it is not accepted.
+abbrev pub costIn : List Bool → Lent → ℕ
+costIn regs l = cond (eqb (checkIn regs l .answer .number) 0) (cost (length (targetOf l)) (entriesFor l)) 0
 
 -- What a beginning hands back, and what it leaves in the rooms and in the array.
-pub record Starts (l : Lent) (tags : List ℕ) (r : Started) (sourceRoom targetRoom entryRoom after : List ℕ) : Type 0 where
-  pub result : r ≡ record { checked = checkOf l; run = beginning (checkOf l); cost = costOf l }
-  pub source : sourceRoom ≡ sourceRoomAfter l
-  pub target : targetRoom ≡ targetRoomAfter l
-  pub entries : entryRoom ≡ entryRoomAfter l
-  pub left : after ≡ tagsBegun (checkOf l) tags
+pub record StartsIn (regs : List Bool) (l : Lent) (tags : List ℕ) (r : Started) (sourceRoom targetRoom entryRoom after : List ℕ) : Type 0 where
+  pub result : r ≡ record { checked = checkIn regs l; run = beginning (checkIn regs l); cost = costIn regs l }
+  pub source : sourceRoom ≡ sourceRoomIn regs l
+  pub target : targetRoom ≡ targetRoomIn regs l
+  pub entries : entryRoom ≡ entryRoomIn regs l
+  pub left : after ≡ tagsBegun (checkIn regs l) tags
 
-module _ (s t : List Event) where
-  -- The trace as it stands.
-  abbrev pub stands : Run → List ℕ → List Traced
-  stands r tags = trace s t (take (r .standing) tags)
+-- The same without a list.
+abbrev pub costOf : Lent → ℕ
+costOf = costIn noneListed
 
-  -- ---- a step applied, by the rules alone
+abbrev pub Starts : Lent → List ℕ → Started → List ℕ → List ℕ → List ℕ → List ℕ → Type 0
+Starts = StartsIn noneListed
 
-  abbrev pub outcome : Run → List ℕ → Step → Option (List Traced)
-  outcome r tags st = cond (isOpen r) (applied view t st (stands r tags)) none
+-- The trace as it stands.
+abbrev pub stands : List Event → List Event → Run → List ℕ → List Traced
+stands s t r tags = trace s t (take (r .standing) tags)
+
+-- ---- a step applied, by the rules alone, which see an event by its look
+
+abbrev pub outcomeBy : (Event → View) → List Event → List Event → Run → List ℕ → Step → Option (List Traced)
+outcomeBy look s t r tags st = cond (isOpen r) (applied look t st (stands s t r tags)) none
 
 abbrev pub leaving : ℕ → Applied
 leaving n = record { run = record { begun = true; standing = n }; allowed = true }
@@ -113,21 +120,34 @@ pub record Applies (r : Run) (tags : List ℕ) (o : Option (List Traced)) (resul
 
 -- ---- the next step, of a matching ns
 
-module _ (s t : List Event) (ns : List ℕ) where
+module _ (look : Event → View) (s t : List Event) (ns : List ℕ) where
   -- If the step before was the swap at a place, nothing is gone, and before that place nothing stands against the order: so it is looked for from
   -- there on. 0 says that it was no swap.
-  abbrev pub nextFrom : ℕ → List Traced → Step
-  nextFrom zero u = nextStep view ns (length t) u
-  nextFrom (suc place) u = orderStep ns (length t) (place - 1) u
+  abbrev pub nextFromBy : ℕ → List Traced → Step
+  nextFromBy zero u = nextStep look ns (length t) u
+  nextFromBy (suc place) u = orderStep ns (length t) (place - 1) u
 
-  abbrev pub nextOf : ℕ → Run → List ℕ → Step
-  nextOf swapped r tags = cond (isOpen r) (nextFrom swapped (stands s t r tags)) Done
+  abbrev pub nextBy : ℕ → Run → List ℕ → Step
+  nextBy swapped r tags = cond (isOpen r) (nextFromBy swapped (stands s t r tags)) Done
 
   -- ---- a replay: the next step is asked for and applied, until there is none, or it is refused, or the budget is spent
 
-  abbrev pub play : ℕ → Run → List ℕ → Played
-  play zero r tags = stopped r tags (nextOf 0 r tags)
-  play (suc b) r tags = onward r tags (nextOf 0 r tags) (outcome s t r tags (nextOf 0 r tags)) (play b)
+  abbrev pub playBy : ℕ → Run → List ℕ → Played
+  playBy zero r tags = stopped r tags (nextBy 0 r tags)
+  playBy (suc b) r tags = onward r tags (nextBy 0 r tags) (outcomeBy look s t r tags (nextBy 0 r tags)) (playBy b)
+
+-- The same without a list.
+abbrev pub outcome : List Event → List Event → Run → List ℕ → Step → Option (List Traced)
+outcome = outcomeBy view
+
+abbrev pub nextFrom : List Event → List Event → List ℕ → ℕ → List Traced → Step
+nextFrom = nextFromBy view
+
+abbrev pub nextOf : List Event → List Event → List ℕ → ℕ → Run → List ℕ → Step
+nextOf = nextBy view
+
+abbrev pub play : List Event → List Event → List ℕ → ℕ → Run → List ℕ → Played
+play = playBy view
 
 -- What a replay hands back and leaves.
 pub record Plays (p : Played) (result : Replayed) (after : List ℕ) : Type 0 where

@@ -1,7 +1,8 @@
--- Requests C-12 and C-18, what is promised of the steps: "that the replay is allowed at every step, never stalls and ends at the target, marks
--- apart", and "that C-12's run has that many steps and that no allowed run realising the same matching has fewer". Assumes nothing.
+-- Requests C-12, C-18 and C-16, what is promised of the steps, under a list of registers and without one: "that the replay is allowed at every step,
+-- never stalls and ends at the target, marks apart", and "that C-12's run has that many steps and that no allowed run realising the same matching has
+-- fewer". Assumes nothing.
 use mathlib.Core.Path.{_≡_}
-use mathlib.Core.Bool.{true}
+use mathlib.Core.Bool.{Bool, true}
 use mathlib.Core.Logic.{_↔_, _≢_}
 use mathlib.Core.Option.{none, some}
 use mathlib.Core.List.{List, []}
@@ -11,18 +12,19 @@ use lib.ListN.{length}
 use Rattle.laws.specs.Each.{Each}
 use Rattle.event.specs.Answer.{done}
 use Rattle.event.specs.Kind.{lawful}
+use Rattle.event.specs.Listed.{noneListed}
 use Rattle.event.specs.declared.Event.{Event}
 use Rattle.event.specs.declared.memory.Memory.{Memory}
 use Rattle.trace.specs.Reading.{eventLimit}
-use Rattle.rules.specs.View.{view}
+use Rattle.rules.specs.View.{View, view, viewIn}
 use Rattle.rules.specs.Moves.{Move, Run}
 use Rattle.rules.specs.Run.{Traced, number, changes, Ends}
-use Rattle.rules.specs.Verdict.{verdict}
-use Rattle.rules.specs.Demand.{Passed}
-use Rattle.checker.specs.Check.{Lent, checkOf}
+use Rattle.rules.specs.Verdict.{verdictIn}
+use Rattle.rules.specs.Demand.{PassedIn}
+use Rattle.checker.specs.Check.{Lent, checkIn}
 use Rattle.checker.specs.Demand.{entriesFor, sourceOf, targetOf}
 use Rattle.steps.specs.Cost.{cost, stepsOf}
-use Rattle.steps.specs.Play.{Played, beginning, costOf, nextFrom, nextOf, outcome, play, stands, swapPlace, tagsBegun}
+use Rattle.steps.specs.Play.{Played, beginning, costIn, nextBy, nextFromBy, outcomeBy, playBy, stands, swapPlace, tagsBegun}
 use Rattle.steps.specs.Step.{Replays, applied, nextStep, phase}
 use Rattle.steps.specs.declared.Step.{Step}
 use Rattle.steps.specs.declared.Step.the-variants.{Done}
@@ -40,84 +42,99 @@ bound s t = length s + pairs (length s) + length t
 -- the target, marks and code lines apart, every kept event at its number. The steps are within the bound.
 abbrev pub Printed : Type 0
 Printed =
-    (m n : Memory) (s t : List Event) (ns : List ℕ) → Passed m n s t ns → length t ≤ eventLimit
-    → verdict view (m .cells) (n .cells) s t ns ≡ done
-    → (k : ℕ) × (u : List Traced) × Replays view ns t k (number 1 s) u × Ends ns 1 u t × (k ≤ bound s t)
+    (regs : List Bool) (m n : Memory) (s t : List Event) (ns : List ℕ) → PassedIn regs m n s t ns → length t ≤ eventLimit
+    → verdictIn regs (m .cells) (n .cells) s t ns ≡ done
+    → (k : ℕ) × (u : List Traced) × Replays (viewIn regs) ns t k (number 1 s) u × Ends ns 1 u t × (k ≤ bound s t)
 
 -- It has as many steps as the matching costs.
 abbrev pub AsMany : Type 0
 AsMany =
-    (m n : Memory) (s t : List Event) (ns : List ℕ) → Passed m n s t ns → length t ≤ eventLimit
-    → verdict view (m .cells) (n .cells) s t ns ≡ done
-    → (u : List Traced) × Replays view ns t (cost (length t) ns) (number 1 s) u × Ends ns 1 u t
+    (regs : List Bool) (m n : Memory) (s t : List Event) (ns : List ℕ) → PassedIn regs m n s t ns → length t ≤ eventLimit
+    → verdictIn regs (m .cells) (n .cells) s t ns ≡ done
+    → (u : List Traced) × Replays (viewIn regs) ns t (cost (length t) ns) (number 1 s) u × Ends ns 1 u t
 
 -- No run that realises a matching has fewer, whatever the order of its steps.
 abbrev pub NoFewer : Type 0
 NoFewer =
-    (m n : Memory) (s t : List Event) (ns : List ℕ) → Passed m n s t ns
-    → (u : List Traced) (r : Run (changes view) (number 1 s) u) → Ends ns 1 u t → cost (length t) ns ≤ stepsOf r
+    (regs : List Bool) (m n : Memory) (s t : List Event) (ns : List ℕ) → PassedIn regs m n s t ns
+    → (u : List Traced) (r : Run (changes (viewIn regs)) (number 1 s) u) → Ends ns 1 u t → cost (length t) ns ≤ stepsOf r
 
--- A step that is applied is a move of its phase by the rules, whatever the matching says.
+-- A step that is applied is a move of its phase by the rules, whatever the matching says and whatever the rules see.
 abbrev pub Allowed : Type 0
 Allowed =
-    (t : List Event) → Each (λ e. T (lawful e)) t → (st : Step) (u v : List Traced)
-    → applied view t st u ≡ some v → Move (changes view) (phase st) [] u v
+    (look : Event → View) (t : List Event) → Each (λ e. T (lawful e)) t → (st : Step) (u v : List Traced)
+    → applied look t st u ≡ some v → Move (changes look) (phase st) [] u v
 
 -- A replay is a run: removals, then swaps and insertions.
 abbrev pub ReplaysRun : Type 0
 ReplaysRun =
-    (ns : List ℕ) (t : List Event) → Each (λ e. T (lawful e)) t → (k : ℕ) (u w : List Traced)
-    → Replays view ns t k u w → Run (changes view) u w
+    (look : Event → View) (ns : List ℕ) (t : List Event) → Each (λ e. T (lawful e)) t → (k : ℕ) (u w : List Traced)
+    → Replays look ns t k u w → Run (changes look) u w
 
 -- There is one replay.
 abbrev pub OneReplay : Type 0
 OneReplay =
-    (ns : List ℕ) (t : List Event) (k k′ : ℕ) (u w w′ : List Traced)
-    → Replays view ns t k u w → Replays view ns t k′ u w′ → (k ≡ k′) × (w ≡ w′)
+    (look : Event → View) (ns : List ℕ) (t : List Event) (k k′ : ℕ) (u w w′ : List Traced)
+    → Replays look ns t k u w → Replays look ns t k′ u w′ → (k ≡ k′) × (w ≡ w′)
 
 -- ---- on texts, and on the array that a caller lends
 
--- How the run of three texts goes, by next steps that are applied, with a budget.
-abbrev pub replayOf : Lent → List ℕ → ℕ → Played
-replayOf l tags budget = play (sourceOf l) (targetOf l) (entriesFor l) budget (beginning (checkOf l)) (tagsBegun (checkOf l) tags)
+module _ (regs : List Bool) (look : Event → View) where
+  -- How the run of three texts goes, by next steps that are applied, with a budget.
+  abbrev pub replayBy : Lent → List ℕ → ℕ → Played
+  replayBy l tags budget =
+      playBy look (sourceOf l) (targetOf l) (entriesFor l) budget (beginning (checkIn regs l)) (tagsBegun (checkIn regs l) tags)
 
--- The trace that it ends with.
-abbrev pub lastOf : Lent → Played → List Traced
-lastOf l p = stands (sourceOf l) (targetOf l) (p .run) (p .tags)
+  -- The trace that it ends with.
+  abbrev pub lastBy : Lent → List ℕ → ℕ → List Traced
+  lastBy l tags budget = let p = replayBy l tags budget in stands (sourceOf l) (targetOf l) (p .run) (p .tags)
 
--- An accepted matching is replayed to the end, with every budget from the bound on: no step is refused and none is missing, what was done is a run in
--- demand 3's sense, and the last trace is the target.
+  -- An accepted matching is replayed to the end, with every budget from the bound on: no step is refused and none is missing, what was done is a run in
+  -- demand 3's sense, and the last trace is the target.
+  abbrev pub PrintedBy : Type 0
+  PrintedBy =
+      (l : Lent) (tags : List ℕ) → checkIn regs l .answer ≡ done → (budget : ℕ) → bound (sourceOf l) (targetOf l) ≤ budget
+      → (replayBy l tags budget .ended ≡ true)
+      × (replayBy l tags budget .steps ≤ bound (sourceOf l) (targetOf l))
+      × Run (changes look) (number 1 (sourceOf l)) (lastBy l tags budget)
+      × Ends (entriesFor l) 1 (lastBy l tags budget) (targetOf l)
+
+  -- It ends exactly with the budgets that are no less than the count that the beginning hands back, and then it has so many steps.
+  abbrev pub AsManyBy : Type 0
+  AsManyBy =
+      (l : Lent) (tags : List ℕ) → checkIn regs l .answer ≡ done → (budget : ℕ)
+      → ((replayBy l tags budget .ended ≡ true) ↔ (costIn regs l ≤ budget))
+      × (costIn regs l ≤ budget → replayBy l tags budget .steps ≡ costIn regs l)
+
+  -- No run that realises the matching of three texts has fewer.
+  abbrev pub NoFewerBy : Type 0
+  NoFewerBy =
+      (l : Lent) → checkIn regs l .answer ≡ done → (u : List Traced) (r : Run (changes look) (number 1 (sourceOf l)) u)
+      → Ends (entriesFor l) 1 u (targetOf l) → costIn regs l ≤ stepsOf r
+
+  -- A matching that is not accepted has no step: none is next, none is applied, and the array stays as it is.
+  abbrev pub NoStepBy : Type 0
+  NoStepBy =
+      (l : Lent) (tags : List ℕ) → checkIn regs l .answer .number ≢ 0 → (s t : List Event) (ns : List ℕ) (swapped : ℕ) (st : Step)
+      → (nextBy look s t ns swapped (beginning (checkIn regs l)) tags ≡ Done)
+      × (outcomeBy look s t (beginning (checkIn regs l)) tags st ≡ none)
+      × (tagsBegun (checkIn regs l) tags ≡ tags)
+
+-- The same without a list.
 abbrev pub PrintedTexts : Type 0
-PrintedTexts =
-    (l : Lent) (tags : List ℕ) → checkOf l .answer ≡ done → (budget : ℕ) → bound (sourceOf l) (targetOf l) ≤ budget
-    → (replayOf l tags budget .ended ≡ true)
-    × (replayOf l tags budget .steps ≤ bound (sourceOf l) (targetOf l))
-    × Run (changes view) (number 1 (sourceOf l)) (lastOf l (replayOf l tags budget))
-    × Ends (entriesFor l) 1 (lastOf l (replayOf l tags budget)) (targetOf l)
+PrintedTexts = PrintedBy noneListed view
 
--- It ends exactly with the budgets that are no less than the count that the beginning hands back, and then it has so many steps.
 abbrev pub AsManyTexts : Type 0
-AsManyTexts =
-    (l : Lent) (tags : List ℕ) → checkOf l .answer ≡ done → (budget : ℕ)
-    → ((replayOf l tags budget .ended ≡ true) ↔ (costOf l ≤ budget))
-    × (costOf l ≤ budget → replayOf l tags budget .steps ≡ costOf l)
+AsManyTexts = AsManyBy noneListed view
 
--- No run that realises the matching of three texts has fewer.
 abbrev pub NoFewerTexts : Type 0
-NoFewerTexts =
-    (l : Lent) → checkOf l .answer ≡ done → (u : List Traced) (r : Run (changes view) (number 1 (sourceOf l)) u)
-    → Ends (entriesFor l) 1 u (targetOf l) → costOf l ≤ stepsOf r
+NoFewerTexts = NoFewerBy noneListed view
 
--- A matching that is not accepted has no step: none is next, none is applied, and the array stays as it is.
 abbrev pub NoStep : Type 0
-NoStep =
-    (l : Lent) (tags : List ℕ) → checkOf l .answer .number ≢ 0 → (s t : List Event) (ns : List ℕ) (swapped : ℕ) (st : Step)
-    → (nextOf s t ns swapped (beginning (checkOf l)) tags ≡ Done)
-    × (outcome s t (beginning (checkOf l)) tags st ≡ none)
-    × (tagsBegun (checkOf l) tags ≡ tags)
+NoStep = NoStepBy noneListed view
 
 -- Asked for from the place of the swap before it, the next step is the next step.
 abbrev pub Resumed : Type 0
 Resumed =
-    (s t : List Event) (ns : List ℕ) (u v : List Traced) → applied view t (nextStep view ns (length t) u) u ≡ some v
-    → nextFrom s t ns (swapPlace (nextStep view ns (length t) u)) v ≡ nextStep view ns (length t) v
+    (look : Event → View) (s t : List Event) (ns : List ℕ) (u v : List Traced) → applied look t (nextStep look ns (length t) u) u ≡ some v
+    → nextFromBy look s t ns (swapPlace (nextStep look ns (length t) u)) v ≡ nextStep look ns (length t) v

@@ -18,31 +18,31 @@ within m n h e = omega (arith, h, e)
 fill-requires : tie.Need-fill-requires
 fill-requires c κs =
     let k = checked (c .before .before) .check in
-    within _ _ (source-fits _ (k .result) (k .ensures) (c .before .if1 .taken)) (search needs)
+    within _ _ (source-fits _ _ (k .result) (k .ensures) (c .before .if1 .taken)) (search needs)
 
 part-cost-of-end : tie.Need-part-cost-of-end
 part-cost-of-end c =
     let d = c .before .before .before in
     let k = checked (d .before) .check in
-    entries-fit _ (k .result) (k .ensures) (d .if1 .taken)
+    entries-fit _ _ (k .result) (k .ensures) (d .if1 .taken)
 
 cost-of-requires : tie.Need-cost-of-requires
 cost-of-requires c κs =
     let d = c .before .before .before .before in
     let k = checked (d .before) .check in
-    (entries-fewer _ (k .result) (k .ensures) (d .if1 .taken), target-fits _ (k .result) (k .ensures) (d .if1 .taken))
+    (entries-fewer _ _ (k .result) (k .ensures) (d .if1 .taken), target-fits _ _ (k .result) (k .ensures) (d .if1 .taken))
 
 returns : tie.Need-returns
 returns c =
     let f = c .before .before .before in
     let d = f .before .before in
     let k = checked (d .before) .check in
-    accepts _ (k .result) (k .ensures) (d .if1 .taken) _ (c .cost-of .result) (f .fill .ensures) (c .cost-of .ensures)
+    accepts _ _ (k .result) (k .ensures) (d .if1 .taken) _ (c .cost-of .result) (f .fill .ensures) (c .cost-of .ensures)
 
 returns-2 : tie.Need-returns-2
 returns-2 c =
     let k = checked (c .before) .check in
-    refuses _ (k .result) _ (k .ensures) (c .if1 .left)
+    refuses _ _ (k .result) _ (k .ensures) (c .if1 .left)
 
 pub start-spec : {M : Type 1} → statement M
 start-spec =
