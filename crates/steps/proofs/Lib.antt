@@ -30,5 +30,6 @@ pub mod Plays
 pub mod Tally
 pub mod Begun
 pub mod Texts
+pub mod Unlisted
 pub mod Unique
 pub mod Near

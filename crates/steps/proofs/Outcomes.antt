@@ -12,7 +12,7 @@ use borrow.Author.Tests.{le-ltb, lt-ltb}
 use Rattle.event.specs.Room.{noEvent}
 use Rattle.event.specs.declared.Event.{Event}
 use Rattle.trace.specs.Reading.{eventLimit}
-use Rattle.rules.specs.View.{view, apart}
+use Rattle.rules.specs.View.{viewIn, apart}
 use Rattle.rules.specs.Run.{new, Traced, traced, tagOf, viewed}
 use Rattle.steps.specs.Allowed.{mayInsert, mayRemove}
 use Rattle.steps.specs.Inner.{exchanged, removableAt, withNew, without}
@@ -36,12 +36,12 @@ at-far f zero b u l = absurd (omega arith)
 at-far f (suc i) b [] l = refl
 at-far f (suc i) b (x ∷ u) l = ap (under x) (at-far f i (x ∷ b) u (omega arith))
 
-swap-out : (i : ℕ) (b u : List Traced) → length u ≤ suc i → at i (swapped view) b u ≡ none
-swap-out zero b [] l = refl
-swap-out zero b (x ∷ []) l = refl
-swap-out zero b (x ∷ y ∷ u) l = absurd (omega arith)
-swap-out (suc i) b [] l = refl
-swap-out (suc i) b (x ∷ u) l = ap (under x) (swap-out i (x ∷ b) u (omega arith))
+swap-out : (regs : List Bool) (i : ℕ) (b u : List Traced) → length u ≤ suc i → at i (swapped (viewIn regs)) b u ≡ none
+swap-out regs zero b [] l = refl
+swap-out regs zero b (x ∷ []) l = refl
+swap-out regs zero b (x ∷ y ∷ u) l = absurd (omega arith)
+swap-out regs (suc i) b [] l = refl
+swap-out regs (suc i) b (x ∷ u) l = ap (under x) (swap-out regs i (x ∷ b) u (omega arith))
 
 -- ---- the event that is inserted
 
@@ -51,7 +51,7 @@ new-one s t i =
     let e : eventLimit + i - eventLimit ≡ i = omega arith in
     rw (h, e)
 
-module _ (s t : List Event) (tags : List ℕ) (n : ℕ) (h : n ≤ length tags) where
+module _ (regs : List Bool) (s t : List Event) (tags : List ℕ) (n : ℕ) (h : n ≤ length tags) where
   -- what stands
   abbrev pub ks : List ℕ
   ks = take n tags
@@ -72,7 +72,7 @@ module _ (s t : List Event) (tags : List ℕ) (n : ℕ) (h : n ≤ length tags) 
 
   abbrev pub Removes : ℕ → ℕ → ℕ → Bool → Type 0
   Removes place i number r =
-      (applied view t (Remove place number) u ≡ cond r (some (trace s t (without i ks))) none) × (r ≡ true → (0 < place) × (place ≤ n))
+      (applied (viewIn regs) t (Remove place number) u ≡ cond r (some (trace s t (without i ks))) none) × (r ≡ true → (0 < place) × (place ≤ n))
 
   pub remove-zero : (place i number : ℕ) → place ≡ 0 → Removes place i number false
   remove-zero zero i number e = (refl, no)
@@ -80,17 +80,17 @@ module _ (s t : List Event) (tags : List ℕ) (n : ℕ) (h : n ≤ length tags) 
 
   pub remove-past : (place i number : ℕ) → n < place → Removes place i number false
   remove-past zero i number l = absurd (omega arith)
-  remove-past (suc p) i number l = (at-out (removed view number) (λ b. refl) p [] u (omega (arith, many)), no)
+  remove-past (suc p) i number l = (at-out (removed (viewIn regs) number) (λ b. refl) p [] u (omega (arith, many)), no)
 
   less : (i : ℕ) → take i u ++ drop (suc i) u ≡ trace s t (without i ks)
   less i = sym (trace-append s t (take i ks) (drop (suc i) ks) ∙ ap₂ _++_ (trace-take s t i ks) (trace-drop s t (suc i) ks))
 
   pub remove-at : (place i number : ℕ) → place ≡ suc i → suc i ≤ n → (b m : Bool) → isSource number (decoded (getD tags i 0)) ≡ b
-      → removableAt s t ks i ≡ m → Removes place i number (b && m)
+      → removableAt regs s t ks i ≡ m → Removes place i number (b && m)
   remove-at place i number q l b m e f =
       let source : isSource number (decoded (getD ks i 0)) ≡ b = ap (λ k. isSource number (decoded k)) (tag-at i l) ∙ e in
-      let seam = remove-seam view (tracedFor s t 0) number i u (omega (arith, many)) in
-      let tests = ap (λ x. cond (isSource number (tagOf x) && mayRemove (viewed view) (behind [] u i) (viewed view x) (drop (suc i) u))
+      let seam = remove-seam (viewIn regs) (tracedFor s t 0) number i u (omega (arith, many)) in
+      let tests = ap (λ x. cond (isSource number (tagOf x) && mayRemove (viewed (viewIn regs)) (behind [] u i) (viewed (viewIn regs) x) (drop (suc i) u))
       (some (take i u ++ drop (suc i) u)) none) (trace-at s t ks i) in
       rw q (
         seam ∙ (tests ∙ (ap₂ (λ x y. cond (x && y) (some (take i u ++ drop (suc i) u)) none) source f ∙ ap (λ v. cond (b && m) (some v) none) (less i))),
@@ -100,7 +100,7 @@ module _ (s t : List Event) (tags : List ℕ) (n : ℕ) (h : n ≤ length tags) 
   -- ---- swap
 
   abbrev pub Swaps : ℕ → ℕ → Bool → Type 0
-  Swaps place i r = (applied view t (Swap place) u ≡ cond r (some (trace s t (exchanged i ks))) none) × (r ≡ true → (0 < place) × (place < n))
+  Swaps place i r = (applied (viewIn regs) t (Swap place) u ≡ cond r (some (trace s t (exchanged i ks))) none) × (r ≡ true → (0 < place) × (place < n))
 
   pub swap-zero : (place i : ℕ) → place ≡ 0 → Swaps place i false
   swap-zero zero i e = (refl, no)
@@ -108,7 +108,7 @@ module _ (s t : List Event) (tags : List ℕ) (n : ℕ) (h : n ≤ length tags) 
 
   pub swap-past : (place i : ℕ) → place ≡ suc i → n ≤ place → Swaps place i false
   swap-past zero i q l = absurd (omega arith)
-  swap-past (suc p) i q l = (swap-out p [] u (omega (arith, many)), no)
+  swap-past (suc p) i q l = (swap-out regs p [] u (omega (arith, many)), no)
 
   turned : (i : ℕ) → take i u ++ getD u (suc i) (tracedFor s t 0) ∷ getD u i (tracedFor s t 0) ∷ drop (suc (suc i)) u ≡ trace s t (exchanged i ks)
   turned i =
@@ -116,21 +116,21 @@ module _ (s t : List Event) (tags : List ℕ) (n : ℕ) (h : n ≤ length tags) 
       ∙ rw (trace-take s t i ks, trace-drop s t (suc (suc i)) ks, trace-at s t ks i, trace-at s t ks (suc i)))
 
   pub swap-at : (place i : ℕ) → place ≡ suc i → place < n → (r : Bool)
-      → r ≡ apart (view (eventFor s t (getD tags i 0))) (view (eventFor s t (getD tags place 0))) → Swaps place i r
+      → r ≡ apart (viewIn regs (eventFor s t (getD tags i 0))) (viewIn regs (eventFor s t (getD tags place 0))) → Swaps place i r
   swap-at place i q l r e =
-      let seam = swap-seam view (tracedFor s t 0) i u (omega (arith, many, q)) in
+      let seam = swap-seam (viewIn regs) (tracedFor s t 0) i u (omega (arith, many, q)) in
       let x : getD u i (tracedFor s t 0) ≡ tracedFor s t (getD tags i 0) = trace-at s t ks i ∙ ap (tracedFor s t) (tag-at i (omega (arith, q))) in
       let y : getD u (suc i) (tracedFor s t 0) ≡ tracedFor s t (getD tags (suc i) 0) =
       trace-at s t ks (suc i) ∙ ap (tracedFor s t) (tag-at (suc i) (omega (arith, q))) in
-      let test : apart (viewed view (getD u i (tracedFor s t 0))) (viewed view (getD u (suc i) (tracedFor s t 0))) ≡ r =
-      rw (x, y) (sym (e ∙ ap (λ p. apart (view (eventFor s t (getD tags i 0))) (view (eventFor s t (getD tags p 0)))) q)) in
+      let test : apart (viewed (viewIn regs) (getD u i (tracedFor s t 0))) (viewed (viewIn regs) (getD u (suc i) (tracedFor s t 0))) ≡ r =
+      rw (x, y) (sym (e ∙ ap (λ p. apart (viewIn regs (eventFor s t (getD tags i 0))) (viewIn regs (eventFor s t (getD tags p 0)))) q)) in
       rw q (seam ∙ ap₂ (λ c v. cond c (some v) none) test (turned i), λ _. (omega arith, omega (arith, q)))
 
   -- ---- insertion
 
   abbrev pub Inserts : ℕ → ℕ → Bool → Type 0
   Inserts place i r =
-      (applied view t (Insert place) u ≡ cond r (some (trace s t (withNew i (eventLimit + i) ks))) none)
+      (applied (viewIn regs) t (Insert place) u ≡ cond r (some (trace s t (withNew i (eventLimit + i) ks))) none)
       × (r ≡ true → (0 < place) × (i ≤ n) × (n < eventLimit))
 
   pub insert-zero : (place i : ℕ) → place ≡ 0 → Inserts place i false
@@ -153,7 +153,7 @@ module _ (s t : List Event) (tags : List ℕ) (n : ℕ) (h : n ≤ length tags) 
 
   pub insert-past : (place i : ℕ) → place ≡ suc i → n < i → Inserts place i false
   insert-past place i q l =
-      let f = inserted view (traced (new (suc i)) (getD t i noEvent)) in
+      let f = inserted (viewIn regs) (traced (new (suc i)) (getD t i noEvent)) in
       rw (q, at-far f i [] u (omega (arith, many))) (either-way (ltb i (length t) && ltb (length u) eventLimit) none, no)
 
   grown : (i : ℕ) → take i u ++ traced (new (suc i)) (getD t i noEvent) ∷ drop i u ≡ trace s t (withNew i (eventLimit + i) ks)
@@ -162,12 +162,12 @@ module _ (s t : List Event) (tags : List ℕ) (n : ℕ) (h : n ≤ length tags) 
       ∙ rw (trace-take s t i ks, trace-drop s t i ks, new-one s t i))
 
   pub insert-at : (place i : ℕ) → place ≡ suc i → i < length t → n < eventLimit → i ≤ n → (e : Event) → e ≡ getD t i noEvent → (r : Bool)
-      → r ≡ mayInsert (viewed view) (behind [] u i) (view e) → Inserts place i r
+      → r ≡ mayInsert (viewed (viewIn regs)) (behind [] u i) (viewIn regs e) → Inserts place i r
   insert-at place i q l m k e p r f =
       let x = traced (new (suc i)) (getD t i noEvent) in
-      let seam = insert-seam view x i u (omega (arith, many)) in
-      let test : mayInsert (viewed view) (behind [] u i) (view (getD t i noEvent)) ≡ r = sym (f
-      ∙ ap (λ (a : Event). mayInsert (viewed view) (behind [] u i) (view a)) p) in
+      let seam = insert-seam (viewIn regs) x i u (omega (arith, many)) in
+      let test : mayInsert (viewed (viewIn regs)) (behind [] u i) (viewIn regs (getD t i noEvent)) ≡ r = sym (f
+      ∙ ap (λ (a : Event). mayInsert (viewed (viewIn regs)) (behind [] u i) (viewIn regs a)) p) in
       rw (q, lt-ltb i (length t) l, many, lt-ltb n eventLimit m) (
         seam ∙ ap₂ (λ c v. cond c (some v) none) test (grown i),
         λ _. (omega arith, k, m),

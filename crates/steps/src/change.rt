@@ -4,7 +4,7 @@ ghost use mathlib.Core.Option.{none};
 ghost use Prim.Native.Nat.{_≤_, _<_, suc};
 ghost use lib.ListN.{length, take};
 ghost use Rattle.event.specs.Room.{wholeEvents};
-ghost use Rattle.rules.specs.View.{view};
+ghost use Rattle.rules.specs.View.{viewIn};
 ghost use Rattle.steps.specs.Inner.{withNew, without};
 ghost use Rattle.steps.specs.Play.{Applies, appliedOf, front, leaving, stands};
 ghost use Rattle.steps.specs.Step.{applied};
@@ -16,6 +16,7 @@ use crate::allowed::can_insert;
 use crate::allowed::can_remove;
 use crate::allowed::can_swap;
 use event::Word;
+use event::listed::Listed;
 use trace::reading::EVENT_LIMIT;
 
 // The numbers of the source's events.
@@ -81,6 +82,7 @@ fn allow(standing: usize) -> Applied
 }
 
 pub(crate) fn remove(
+    listed: &Listed,
     run: Run,
     tags: &mut [usize],
     source: &[Word],
@@ -90,11 +92,11 @@ pub(crate) fn remove(
 ) -> Applied
     requires { ⌜ run .standing ≤ length (now tags) ⌝ }
     ensures { λ r. ⌜ Applies run (now (tags .entry))
-        (applied view (wholeEvents (now (target .entry))) (Remove place number)
+        (applied (viewIn (now (listed .entry))) (wholeEvents (now (target .entry))) (Remove place number)
         (stands (wholeEvents (now (source .entry))) (wholeEvents (now (target .entry))) run (now (tags .entry)))) r (now (tags .exit)) ⌝ }
 {
     let standing = run.standing;
-    if can_remove(tags, standing, source, target, place, number) {
+    if can_remove(listed, tags, standing, source, target, place, number) {
         shift_left(tags, place - 1, standing - 1);
         return allow(standing - 1);
     }
@@ -102,6 +104,7 @@ pub(crate) fn remove(
 }
 
 pub(crate) fn swap(
+    listed: &Listed,
     run: Run,
     tags: &mut [usize],
     source: &[Word],
@@ -110,11 +113,11 @@ pub(crate) fn swap(
 ) -> Applied
     requires { ⌜ run .standing ≤ length (now tags) ⌝ }
     ensures { λ r. ⌜ Applies run (now (tags .entry))
-        (applied view (wholeEvents (now (target .entry))) (Swap place)
+        (applied (viewIn (now (listed .entry))) (wholeEvents (now (target .entry))) (Swap place)
         (stands (wholeEvents (now (source .entry))) (wholeEvents (now (target .entry))) run (now (tags .entry)))) r (now (tags .exit)) ⌝ }
 {
     let standing = run.standing;
-    if can_swap(tags, standing, source, target, place) {
+    if can_swap(listed, tags, standing, source, target, place) {
         let i = place - 1;
         let tag = tags[i];
         tags[i] = tags[place];
@@ -125,6 +128,7 @@ pub(crate) fn swap(
 }
 
 pub(crate) fn insert(
+    listed: &Listed,
     run: Run,
     tags: &mut [usize],
     source: &[Word],
@@ -134,11 +138,11 @@ pub(crate) fn insert(
     requires { ⌜ run .standing ≤ length (now tags) ⌝ }
     requires { ⌜ 800 ≤ length (now tags) ⌝ }
     ensures { λ r. ⌜ Applies run (now (tags .entry))
-        (applied view (wholeEvents (now (target .entry))) (Insert place)
+        (applied (viewIn (now (listed .entry))) (wholeEvents (now (target .entry))) (Insert place)
         (stands (wholeEvents (now (source .entry))) (wholeEvents (now (target .entry))) run (now (tags .entry)))) r (now (tags .exit)) ⌝ }
 {
     let standing = run.standing;
-    if can_insert(tags, standing, source, target, place) {
+    if can_insert(listed, tags, standing, source, target, place) {
         let i = place - 1;
         shift_right(tags, i, standing, EVENT_LIMIT + i);
         return allow(standing + 1);

@@ -5,7 +5,7 @@ ghost use Prim.Native.Nat.{_<_};
 ghost use lib.ListN.{length};
 ghost use Rattle.event.specs.declared.Event.{Event};
 ghost use Rattle.event.specs.Room.{wholeEvents};
-ghost use Rattle.rules.specs.View.{view};
+ghost use Rattle.rules.specs.View.{viewIn};
 ghost use Rattle.steps.specs.Step.{anyGone, missing, orderStep, removal, removeStep};
 ghost use Rattle.steps.specs.Tags.{trace};
 use crate::Step;
@@ -15,6 +15,7 @@ use crate::tag::is_overtaking;
 use crate::tag::target_number;
 use event::Entry;
 use event::Word;
+use event::listed::Listed;
 
 // Whether a gone event remains.
 pub(crate) fn any_gone(tags: &[usize], entries: &[Entry]) -> bool
@@ -32,20 +33,21 @@ pub(crate) fn any_gone(tags: &[usize], entries: &[Entry]) -> bool
 
 // The removal of the last gone event that may be removed.
 pub(crate) fn removal_step(
+    listed: &Listed,
     tags: &[usize],
     source: &[Word],
     target: &[Word],
     entries: &[Entry],
 ) -> Step
     ensures { λ r. ⌜ r ≡ removeStep (trace (wholeEvents (now (source .entry))) (wholeEvents (now (target .entry))) (now (tags .entry)))
-        (removal view (now (entries .entry)) [] (trace (wholeEvents (now (source .entry))) (wholeEvents (now (target .entry))) (now (tags .entry)))) ⌝ }
+        (removal (viewIn (now (listed .entry))) (now (entries .entry)) [] (trace (wholeEvents (now (source .entry))) (wholeEvents (now (target .entry))) (now (tags .entry)))) ⌝ }
 {
     let mut i = tags.len();
     while 0 < i {
         i -= 1;
         let tag = tags[i];
         if is_leaving(entries, tag) {
-            if may_remove(tags, source, target, i) {
+            if may_remove(listed, tags, source, target, i) {
                 return Step::Remove {
                     place: i + 1,
                     number: tag + 1,

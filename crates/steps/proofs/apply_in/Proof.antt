@@ -6,7 +6,7 @@ use native.Mathlib.Omega.{arith}
 use lib.ListN.{length}
 use borrow.Author.Needs.{needs}
 use Rattle.event.specs.Room.{wholeEvents}
-use Rattle.rules.specs.View.{view}
+use Rattle.rules.specs.View.{viewIn}
 use Rattle.steps.specs.Play.{isOpen}
 use Rattle.steps.proofs.Changes.{fits, when-closed, when-open}
 use Rattle.steps.proofs.apply_in.Statement.{statement}
@@ -23,7 +23,7 @@ returns c =
     let k = c .before .before .before .before .before in
     let o = k .before .before in
     let a = begin o .args in
-    when-open (wholeEvents (a .source .now)) (wholeEvents (a .target .now)) (a .run) (a .tags .now) view (a .step) _ (open-is o) (k .step .given .1)
+    when-open (wholeEvents (a .source .now)) (wholeEvents (a .target .now)) (a .run) (a .tags .now) (viewIn (a .listed .now)) (a .step) _ (open-is o) (k .step .given .1)
     (c .before .before .remove .ensures)
 
 returns-2 : tie.Need-returns-2
@@ -31,7 +31,7 @@ returns-2 c =
     let k = c .before .before .before .before .before in
     let o = k .before .before in
     let a = begin o .args in
-    when-open (wholeEvents (a .source .now)) (wholeEvents (a .target .now)) (a .run) (a .tags .now) view (a .step) _ (open-is o) (k .step2 .given .1)
+    when-open (wholeEvents (a .source .now)) (wholeEvents (a .target .now)) (a .run) (a .tags .now) (viewIn (a .listed .now)) (a .step) _ (open-is o) (k .step2 .given .1)
     (c .before .before .swap .ensures)
 
 returns-3 : tie.Need-returns-3
@@ -39,14 +39,14 @@ returns-3 c =
     let k = c .before .before .before .before .before in
     let o = k .before .before in
     let a = begin o .args in
-    when-open (wholeEvents (a .source .now)) (wholeEvents (a .target .now)) (a .run) (a .tags .now) view (a .step) _ (open-is o) (k .step3 .given .1)
+    when-open (wholeEvents (a .source .now)) (wholeEvents (a .target .now)) (a .run) (a .tags .now) (viewIn (a .listed .now)) (a .step) _ (open-is o) (k .step3 .given .1)
     (c .before .before .insert .ensures)
 
 returns-4 : tie.Need-returns-4
 returns-4 c =
     let o = c .before .before .before in
     let a = begin o .args in
-    when-open (wholeEvents (a .source .now)) (wholeEvents (a .target .now)) (a .run) (a .tags .now) view (a .step) _ (open-is o)
+    when-open (wholeEvents (a .source .now)) (wholeEvents (a .target .now)) (a .run) (a .tags .now) (viewIn (a .listed .now)) (a .step) _ (open-is o)
     (c .before .enum-told .given .1)
     (record { answer = c .refuse .ensures; left = refl })
 
@@ -54,7 +54,7 @@ returns-5 : tie.Need-returns-5
 returns-5 c =
     let o = c .before .before .before in
     let a = begin o .args in
-    when-open (wholeEvents (a .source .now)) (wholeEvents (a .target .now)) (a .run) (a .tags .now) view (a .step) _ (open-is o)
+    when-open (wholeEvents (a .source .now)) (wholeEvents (a .target .now)) (a .run) (a .tags .now) (viewIn (a .listed .now)) (a .step) _ (open-is o)
     (c .before .enum-told2 .given .1)
     (record { answer = c .refuse2 .ensures; left = refl })
 
@@ -62,7 +62,7 @@ returns-6 : tie.Need-returns-6
 returns-6 c =
     let o = c .before in
     let a = o .before .before .before .before .before .args in
-    when-closed (wholeEvents (a .source .now)) (wholeEvents (a .target .now)) (a .run) (a .tags .now) view (a .step) (sym (o .before .is-open .ensures)
+    when-closed (wholeEvents (a .source .now)) (wholeEvents (a .target .now)) (a .run) (a .tags .now) (viewIn (a .listed .now)) (a .step) (sym (o .before .is-open .ensures)
     ∙ o .if1 .left)
     (c .refuse3 .ensures)
 

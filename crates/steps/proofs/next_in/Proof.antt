@@ -10,8 +10,8 @@ use borrow.Author.Needs.{needs}
 use Rattle.event.specs.Room.{wholeEvents}
 use Rattle.event.specs.declared.Event.{Event}
 use Rattle.fates.proofs.Events.{onward-length}
-use Rattle.rules.specs.View.{view}
-use Rattle.steps.specs.Play.{isOpen, nextOf, stands}
+use Rattle.rules.specs.View.{View, viewIn}
+use Rattle.steps.specs.Play.{isOpen, nextBy, stands}
 use Rattle.steps.specs.Step.{against, anyGone, missing, orderStep, removal, removeStep, shifted, swapStep}
 use Rattle.steps.specs.Tags.{trace}
 use Rattle.steps.specs.declared.Run.{Run}
@@ -21,20 +21,20 @@ use Rattle.steps.proofs.next_in.Tie as tie
 
 -- ---- the searches, one after the other
 
-module _ (s t : List Event) (ns : List ℕ) (r : Run) (A : List ℕ) (o : isOpen r ≡ true) where
+module _ (look : Event → View) (s t : List Event) (ns : List ℕ) (r : Run) (A : List ℕ) (o : isOpen r ≡ true) where
   unshifted : (p : Option ℕ) → shifted 0 p ≡ p
   unshifted none = refl
   unshifted (some i) = ap some (omega arith)
 
   to-remove : anyGone ns (stands s t r A) ≡ true → (swapped : ℕ) → swapped ≡ 0
-      → removeStep (stands s t r A) (removal view ns [] (stands s t r A)) ≡ nextOf s t ns swapped r A
+      → removeStep (stands s t r A) (removal look ns [] (stands s t r A)) ≡ nextBy look s t ns swapped r A
   to-remove g swapped e = rw (o, e, g)
 
-  to-order : anyGone ns (stands s t r A) ≡ false → (swapped : ℕ) → swapped ≡ 0 → orderStep ns (length t) 0 (stands s t r A) ≡ nextOf s t ns swapped r A
+  to-order : anyGone ns (stands s t r A) ≡ false → (swapped : ℕ) → swapped ≡ 0 → orderStep ns (length t) 0 (stands s t r A) ≡ nextBy look s t ns swapped r A
   to-order g swapped e =
       rw (o, e, g) (ap (λ p. swapStep p (missing ns (length t) 1 (stands s t r A))) (unshifted (against ns (stands s t r A))))
 
-  after-swap : (swapped : ℕ) → (swapped ≡ 0 → ⊥) → orderStep ns (length t) (swapped - 2) (stands s t r A) ≡ nextOf s t ns swapped r A
+  after-swap : (swapped : ℕ) → (swapped ≡ 0 → ⊥) → orderStep ns (length t) (swapped - 2) (stands s t r A) ≡ nextBy look s t ns swapped r A
   after-swap zero e = absurd (e refl)
   after-swap (suc p) e = let q : suc p - 2 ≡ p - 1 = omega arith in rw (o, q)
 
@@ -82,8 +82,8 @@ returns c =
     let p = d .before .before .before in
     let w = whole (run p .standing) in
     c .removal-step .ensures
-    ∙ (ap (λ n. removeStep (trace (source p) (target p) (take n (tags p))) (removal view (entries p) [] (trace (source p) (target p) (take n (tags p))))) w
-    ∙ to-remove (source p) (target p) (entries p) (run p) (tags p) (open-is p) (gone-is (d .before) (d .if3 .taken)) (begin p .args .swapped)
+    ∙ (ap (λ n. removeStep (trace (source p) (target p) (take n (tags p))) (removal (viewIn (begin p .args .listed .now)) (entries p) [] (trace (source p) (target p) (take n (tags p))))) w
+    ∙ to-remove (viewIn (begin p .args .listed .now)) (source p) (target p) (entries p) (run p) (tags p) (open-is p) (gone-is (d .before) (d .if3 .taken)) (begin p .args .swapped)
     (d .before .before .if2 .taken))
 
 returns-2 : tie.Need-returns-2
@@ -94,7 +94,7 @@ returns-2 c =
     c .order-step .ensures (source p) (target p)
     ∙ (ap (λ n. orderStep (entries p) (length (begin p .args .target .now) / 6) 0 (trace (source p) (target p) (take n (tags p)))) w
     ∙ (ap (λ n. orderStep (entries p) n 0 (stands (source p) (target p) (run p) (tags p))) (targets p)
-    ∙ to-order (source p) (target p) (entries p) (run p) (tags p) (open-is p) (gone-is (d .before) (d .if3 .left)) (begin p .args .swapped)
+    ∙ to-order (viewIn (begin p .args .listed .now)) (source p) (target p) (entries p) (run p) (tags p) (open-is p) (gone-is (d .before) (d .if3 .left)) (begin p .args .swapped)
     (d .before .before .if2 .taken)))
 
 returns-3 : tie.Need-returns-3
@@ -107,7 +107,7 @@ returns-3 c =
     (b .before-swap .ensures)
     ∙ (ap (λ n. orderStep (entries p) (length (begin p .args .target .now) / 6) (begin p .args .swapped - 2) (trace (source p) (target p) (take n (tags p)))) w
     ∙ (ap (λ n. orderStep (entries p) n (begin p .args .swapped - 2) (stands (source p) (target p) (run p) (tags p))) (targets p)
-    ∙ after-swap (source p) (target p) (entries p) (run p) (tags p) (open-is p) (begin p .args .swapped) (b .before .if2 .left))))
+    ∙ after-swap (viewIn (begin p .args .listed .now)) (source p) (target p) (entries p) (run p) (tags p) (open-is p) (begin p .args .swapped) (b .before .if2 .left))))
 
 returns-4 : tie.Need-returns-4
 returns-4 c = rw (sym (c .before .is-open .ensures) ∙ c .if1 .left)

@@ -4,19 +4,19 @@ use native.Mathlib.Numerals.{add-one}
 use native.Mathlib.Omega.{arith}
 use borrow.Author.Needs.{needs}
 use Rattle.event.specs.Room.{wholeEvents}
-use Rattle.rules.specs.View.{view}
-use Rattle.steps.specs.Play.{play}
+use Rattle.rules.specs.View.{viewIn}
+use Rattle.steps.specs.Play.{playBy}
 use Rattle.steps.proofs.Plays.{Going, going, goes-off, goes-on, spent}
 use Rattle.steps.proofs.replay_in.Statement.{statement}
 use Rattle.steps.proofs.replay_in.Tie as tie
 
 abbrev Inv-loop : tie.InvT-loop
-Inv-loop tags₀ source target entries budget state₀ swapped₀ steps₀ tags state swapped steps =
-    Going view (wholeEvents source) (wholeEvents target) entries budget (play (wholeEvents source) (wholeEvents target) entries budget state₀ tags₀) tags state
+Inv-loop listed tags₀ source target entries budget state₀ swapped₀ steps₀ tags state swapped steps =
+    Going (viewIn listed) (wholeEvents source) (wholeEvents target) entries budget (playBy (viewIn listed) (wholeEvents source) (wholeEvents target) entries budget state₀ tags₀) tags state
     swapped steps
 
 abbrev μ-loop : tie.MeasureT-loop
-μ-loop tags₀ source target entries budget state₀ swapped₀ steps₀ tags state swapped steps = budget - steps
+μ-loop listed tags₀ source target entries budget state₀ swapped₀ steps₀ tags state swapped steps = budget - steps
 
 loop-again : tie.Need-loop-again Inv-loop μ-loop
 loop-again c =
@@ -24,7 +24,7 @@ loop-again c =
     let n = k .before .before in
     let t = n .before .before in
     let l = t .before .loop in
-    goes-on view _ _ _ _ _ _ _ _ _ (l .inv) (n .next-in .result) (n .next-in .ensures) (k .apply-in .result) _ (k .apply-in .ensures) (t .loop-test .taken)
+    goes-on _ _ _ _ _ _ _ _ _ _ (l .inv) (n .next-in .result) (n .next-in .ensures) (k .apply-in .result) _ (k .apply-in .ensures) (t .loop-test .taken)
     (c .before .before .if1 .taken) _ _ (c .swap-place .ensures) (add-one (l .steps))
 
 returns : tie.Need-returns Inv-loop μ-loop
@@ -33,7 +33,7 @@ returns c =
     let n = k .before .before in
     let t = n .before .before in
     let l = t .before .loop in
-    goes-off view _ _ _ _ _ _ _ _ _ (l .inv) (n .next-in .result) (n .next-in .ensures) (k .apply-in .result) _ (k .apply-in .ensures) _ (c .before .if1 .left)
+    goes-off _ _ _ _ _ _ _ _ _ _ (l .inv) (n .next-in .result) (n .next-in .ensures) (k .apply-in .result) _ (k .apply-in .ensures) _ (c .before .if1 .left)
     (rw (c .is-done .ensures))
 
 returns-2 : tie.Need-returns-2 Inv-loop μ-loop
@@ -41,13 +41,13 @@ returns-2 c =
     let n = c .before in
     let t = n .before .before in
     let l = t .before .loop in
-    spent view _ _ _ _ _ _ _ _ _ (l .inv) (n .next-in2 .result) (n .next-in2 .ensures) (t .loop-test .left) _ (rw (c .is-done2 .ensures))
+    spent _ _ _ _ _ _ _ _ _ _ (l .inv) (n .next-in2 .result) (n .next-in2 .ensures) (t .loop-test .left) _ (rw (c .is-done2 .ensures))
 
 pub replay-in-spec : {M : Type 1} → statement M
 replay-in-spec =
     tie.close
     (tie.spec Inv-loop μ-loop
-    (λ c. let s = c .before .before .before .before in going view (wholeEvents (s .args .source .now)) (wholeEvents (s .args .target .now))
+    (λ c. let s = c .before .before .before .before in going (viewIn (s .args .listed .now)) (wholeEvents (s .args .source .now)) (wholeEvents (s .args .target .now))
     (s .args .entries .now) (s .args .budget) (s .args .tags .now) (s .args .run) (s .pre))
     (λ c κs. c .before .before .loop .inv .size) (λ c κs. c .before .before .before .before .loop .inv .size) (search needs) (λ c. omega arith)
     (λ c. omega arith) loop-again (search needs) (search needs) returns (λ c κs. c .before .before .loop .inv .size) (search needs) (search needs) returns-2)

@@ -8,7 +8,7 @@ use native.Mathlib.Omega.{arith}
 use lib.ListN.{getD}
 use Rattle.event.specs.Room.{wholeEvents}
 use Rattle.event.specs.declared.Event.{Event}
-use Rattle.rules.specs.View.{View, view, isWall}
+use Rattle.rules.specs.View.{View, viewIn, isWall}
 use Rattle.rules.specs.Moves.{near}
 use Rattle.rules.specs.Run.{Traced, viewed}
 use Rattle.steps.specs.Tags.{behind, trace, tracedFor}
@@ -18,23 +18,26 @@ use Rattle.steps.proofs.allowed.holds_before.Statement.{statement}
 use Rattle.steps.proofs.allowed.holds_before.Tie as tie
 
 -- the index j is reached from i
-record Back (u : List Traced) (i place j : ℕ) : Type 0 where
+record Back (regs : List Bool) (u : List Traced) (i place j : ℕ) : Type 0 where
   bound : j ≤ i
-  same : near (viewed view) place (behind [] u i) ≡ near (viewed view) place (behind [] u j)
+  same : near (viewed (viewIn regs)) place (behind [] u i) ≡ near (viewed (viewIn regs)) place (behind [] u j)
 
 abbrev Inv-loop : tie.InvT-loop
-Inv-loop tags source target i place value j₀ j = Back (trace (wholeEvents source) (wholeEvents target) tags) i place j
+Inv-loop listed tags source target i place value j₀ j = Back listed (trace (wholeEvents source) (wholeEvents target) tags) i place j
 
 abbrev μ-loop : tie.MeasureT-loop
-μ-loop tags source target i place value j₀ j = j
+μ-loop listed tags source target i place value j₀ j = j
 
 -- an event looked at
-module _ (c : tie.After-is-wall Inv-loop μ-loop) where
+module _ (c : tie.After-is-wall-in Inv-loop μ-loop) where
   abbrev turn : tie.At-loop Inv-loop μ-loop
   turn = c .before .before .before .before
 
   abbrev start : tie.Start Inv-loop μ-loop
   start = turn .before .before .before .before
+
+  abbrev marks : List Bool
+  marks = start .args .listed .now
 
   abbrev tags : List ℕ
   tags = start .args .tags .now
@@ -54,8 +57,8 @@ module _ (c : tie.After-is-wall Inv-loop μ-loop) where
   abbrev event : Event
   event = c .before .event-of .result
 
-  wall-is : {b : Bool} → c .is-wall .result ≡ b → isWall (view event) ≡ b
-  wall-is h = sym (c .is-wall .ensures) ∙ h
+  wall-is : {b : Bool} → c .is-wall-in .result ≡ b → isWall (viewIn marks event) ≡ b
+  wall-is h = sym (c .is-wall-in .ensures) ∙ h
 
   parts : behind [] (trace source target tags) (turn .loop .j) ≡ tracedFor source target tag ∷ behind [] (trace source target tags) index
   parts =
@@ -64,13 +67,13 @@ module _ (c : tie.After-is-wall Inv-loop μ-loop) where
 
   -- the near access before the index
   abbrev nearest : Option View
-  nearest = near (viewed view) (start .args .place) (behind [] (trace source target tags) (start .args .i))
+  nearest = near (viewed (viewIn marks)) (start .args .place) (behind [] (trace source target tags) (start .args .i))
 
-  ends : isWall (view event) ≡ true → nearest ≡ none
-  ends h = turn .loop .inv .same ∙ stops source target tag _ _ _ parts event (c .before .event-of .ensures) h
+  ends : isWall (viewIn marks event) ≡ true → nearest ≡ none
+  ends h = turn .loop .inv .same ∙ stops marks source target tag _ _ _ parts event (c .before .event-of .ensures) h
 
-  found : isWall (view event) ≡ false → event .place ≡ start .args .place → nearest ≡ some (view event)
-  found h q = turn .loop .inv .same ∙ finds source target tag _ _ _ parts event (c .before .event-of .ensures) h q
+  found : isWall (viewIn marks event) ≡ false → event .place ≡ start .args .place → nearest ≡ some (viewIn marks event)
+  found h q = turn .loop .inv .same ∙ finds marks source target tag _ _ _ parts event (c .before .event-of .ensures) h q
 
 returns : tie.Need-returns Inv-loop μ-loop
 returns c = rw (ends (c .before) (wall-is (c .before) (c .if1 .taken)))
@@ -79,14 +82,14 @@ returns-2 : tie.Need-returns-2 Inv-loop μ-loop
 returns-2 c =
     let d = c .before .before .before in
     let w = wall-is (d .before) (d .if1 .left) in
-    rw (found (d .before) w (c .before .if2 .taken), value-of (event (d .before)) w)
+    rw (found (d .before) w (c .before .if2 .taken), value-of (marks (d .before)) (event (d .before)) w)
 
 loop-again : tie.Need-loop-again Inv-loop μ-loop
 loop-again c =
     let d = c .before .before in
     let a = d .before in
     let b = turn a .loop .inv .bound in
-    let p = passes (source a) (target a) (tag a) _ _ _ (parts a) (event a) (a .before .event-of .ensures) (wall-is a (d .if1 .left)) (c .if2 .left) in
+    let p = passes (marks a) (source a) (target a) (tag a) _ _ _ (parts a) (event a) (a .before .event-of .ensures) (wall-is a (d .if1 .left)) (c .if2 .left) in
     record { bound = omega arith; same = turn a .loop .inv .same ∙ p }
 
 returns-3 : tie.Need-returns-3 Inv-loop μ-loop

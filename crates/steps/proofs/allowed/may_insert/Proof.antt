@@ -3,7 +3,7 @@ use mathlib.Core.Path.{sym, _∙_}
 use mathlib.Core.List.{List, []}
 use borrow.Author.Needs.{needs}
 use Rattle.event.specs.Room.{wholeEvents}
-use Rattle.rules.specs.View.{view}
+use Rattle.rules.specs.View.{viewIn}
 use Rattle.rules.specs.Run.{Traced}
 use Rattle.steps.specs.Tags.{behind, trace}
 use Rattle.steps.proofs.Near.{insert-load, insert-other}
@@ -17,13 +17,13 @@ returns : tie.Need-returns
 returns c =
     let l = c .before .before in
     let s = l .before .before .before .before in
-    c .holds-before .ensures ∙ sym (insert-load (before s) (s .args .e) (sym (l .is-load .ensures) ∙ c .before .if1 .taken))
+    c .holds-before .ensures ∙ sym (insert-load (s .args .listed .now) (before s) (s .args .e) (sym (l .is-load-in .ensures) ∙ c .before .if1 .taken))
 
 returns-2 : tie.Need-returns-2
 returns-2 c =
     let l = c .before in
     let s = l .before .before .before .before in
-    sym (insert-other (before s) (view (s .args .e)) (sym (l .is-load .ensures) ∙ c .if1 .left))
+    sym (insert-other (s .args .listed .now) (before s) (viewIn (s .args .listed .now) (s .args .e)) (sym (l .is-load-in .ensures) ∙ c .if1 .left))
 
 pub may-insert-spec : {M : Type 1} → statement M
 may-insert-spec = tie.close (tie.spec (search needs) (search needs) returns returns-2)

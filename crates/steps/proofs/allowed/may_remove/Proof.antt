@@ -8,7 +8,7 @@ use lib.ListN.{drop}
 use borrow.Author.Needs.{needs}
 use Rattle.event.specs.Room.{wholeEvents}
 use Rattle.event.specs.declared.Event.{Event}
-use Rattle.rules.specs.View.{view, isLoad, isWall}
+use Rattle.rules.specs.View.{viewIn, isLoad, isWall}
 use Rattle.rules.specs.Moves.{near}
 use Rattle.rules.specs.Run.{Traced, viewed}
 use Rattle.steps.specs.Allowed.{mayRemove, stores}
@@ -18,9 +18,12 @@ use Rattle.steps.proofs.Near.{remove-store, remove-unused, remove-used,
 use Rattle.steps.proofs.allowed.may_remove.Statement.{statement}
 use Rattle.steps.proofs.allowed.may_remove.Tie as tie
 
-module _ (c : tie.After-is-wall) where
+module _ (c : tie.After-is-wall-in) where
   abbrev start : tie.Start
   start = c .before .before .before .before .before .before
+
+  abbrev marks : List Bool
+  marks = start .args .listed .now
 
   abbrev source : List Event
   source = wholeEvents (start .args .source .now)
@@ -43,40 +46,40 @@ module _ (c : tie.After-is-wall) where
   abbrev a : List Traced
   a = drop (suc index) standing
 
-  by : {r : Bool} → r ≡ mayRemove (viewed view) b (view event) a → r ≡ removableAt source target (start .args .tags .now) index
-  by h = h ∙ ap (λ (e : Event). mayRemove (viewed view) b (view e) a) (c .before .event-of .ensures)
+  by : {r : Bool} → r ≡ mayRemove (viewed (viewIn marks)) b (viewIn marks event) a → r ≡ removableAt marks source target (start .args .tags .now) index
+  by h = h ∙ ap (λ (e : Event). mayRemove (viewed (viewIn marks)) b (viewIn marks e) a) (c .before .event-of .ensures)
 
-  wall-is : {r : Bool} → c .is-wall .result ≡ r → isWall (view event) ≡ r
-  wall-is h = sym (c .is-wall .ensures) ∙ h
+  wall-is : {r : Bool} → c .is-wall-in .result ≡ r → isWall (viewIn marks event) ≡ r
+  wall-is h = sym (c .is-wall-in .ensures) ∙ h
 
 returns : tie.Need-returns
-returns c = let w = c .before in by w (sym (remove-wall (b w) (a w) (view (event w)) (wall-is w (c .if1 .taken))))
+returns c = let w = c .before in by w (sym (remove-wall (marks w) (b w) (a w) (viewIn (marks w) (event w)) (wall-is w (c .if1 .taken))))
 
-load-is : (c : tie.After-is-load) {r : Bool} → c .is-load .result ≡ r → isLoad (view (event (c .before .before))) ≡ r
-load-is c h = sym (c .is-load .ensures) ∙ h
+load-is : (c : tie.After-is-load-in) {r : Bool} → c .is-load-in .result ≡ r → isLoad (viewIn (marks (c .before .before)) (event (c .before .before))) ≡ r
+load-is c h = sym (c .is-load-in .ensures) ∙ h
 
 returns-2 : tie.Need-returns-2
 returns-2 c =
     let d = c .before .before .before in
     let w = d .before .before .before in
-    by w (c .holds-before .ensures ∙ sym (remove-used (b w) (a w) (event w) (load-is (d .before) (d .if2 .taken)) (c .before .if3 .taken)))
+    by w (c .holds-before .ensures ∙ sym (remove-used (marks w) (b w) (a w) (event w) (load-is (d .before) (d .if2 .taken)) (c .before .if3 .taken)))
 
 returns-3 : tie.Need-returns-3
 returns-3 c =
     let d = c .before .before in
     let w = d .before .before .before in
-    by w (sym (remove-unused (b w) (a w) (event w) (load-is (d .before) (d .if2 .taken)) (c .if3 .left)))
+    by w (sym (remove-unused (marks w) (b w) (a w) (event w) (load-is (d .before) (d .if2 .taken)) (c .if3 .left)))
 
 -- a store
 module _ (c : tie.After-holds-before2) where
-  abbrev at-wall : tie.After-is-wall
+  abbrev at-wall : tie.After-is-wall-in
   at-wall = c .before .before .before .before
 
-  by-store : {r h : Bool} → c .holds-before2 .result ≡ h → r ≡ (h || stores (near (viewed view) (event at-wall .place) (a at-wall)))
-      → r ≡ removableAt (source at-wall) (target at-wall) (start at-wall .args .tags .now) (index at-wall)
+  by-store : {r h : Bool} → c .holds-before2 .result ≡ h → r ≡ (h || stores (near (viewed (viewIn (marks at-wall))) (event at-wall .place) (a at-wall)))
+      → r ≡ removableAt (marks at-wall) (source at-wall) (target at-wall) (start at-wall .args .tags .now) (index at-wall)
   by-store q k =
-      by at-wall (k ∙ (ap (λ z. z || stores (near (viewed view) (event at-wall .place) (a at-wall))) (sym q ∙ c .holds-before2 .ensures)
-      ∙ sym (remove-store (b at-wall) (a at-wall) (event at-wall) (wall-is at-wall (c .before .before .before .if1 .left))
+      by at-wall (k ∙ (ap (λ z. z || stores (near (viewed (viewIn (marks at-wall))) (event at-wall .place) (a at-wall))) (sym q ∙ c .holds-before2 .ensures)
+      ∙ sym (remove-store (marks at-wall) (b at-wall) (a at-wall) (event at-wall) (wall-is at-wall (c .before .before .before .if1 .left))
       (load-is (c .before .before) (c .before .if2 .left)))))
 
 returns-4 : tie.Need-returns-4
@@ -87,7 +90,7 @@ returns-5 c =
     let d = c .before in
     let w = at-wall (d .before) in
     by-store (d .before) (d .if4 .left)
-    (c .stores-after .ensures ∙ ap (λ n. stores (near (viewed view) (event w .place) (drop n (standing w)))) (add-one (index w)))
+    (c .stores-after .ensures ∙ ap (λ n. stores (near (viewed (viewIn (marks w))) (event w .place) (drop n (standing w)))) (add-one (index w)))
 
 pub may-remove-spec : {M : Type 1} → statement M
 may-remove-spec =

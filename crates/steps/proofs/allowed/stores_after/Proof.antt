@@ -8,7 +8,7 @@ use native.Mathlib.Omega.{arith}
 use lib.ListN.{length, getD, drop}
 use Rattle.event.specs.Room.{wholeEvents}
 use Rattle.event.specs.declared.Event.{Event}
-use Rattle.rules.specs.View.{View, view, isWall}
+use Rattle.rules.specs.View.{View, viewIn, isWall}
 use Rattle.rules.specs.Moves.{near}
 use Rattle.rules.specs.Run.{viewed}
 use Rattle.steps.specs.Tags.{trace, tracedFor}
@@ -19,20 +19,23 @@ use Rattle.steps.proofs.allowed.stores_after.Tie as tie
 
 -- the index j is reached from i
 abbrev Inv-loop : tie.InvT-loop
-Inv-loop tags source target i place j₀ j =
-    near (viewed view) place (drop i (trace (wholeEvents source) (wholeEvents target) tags))
-    ≡ near (viewed view) place (drop j (trace (wholeEvents source) (wholeEvents target) tags))
+Inv-loop listed tags source target i place j₀ j =
+    near (viewed (viewIn listed)) place (drop i (trace (wholeEvents source) (wholeEvents target) tags))
+    ≡ near (viewed (viewIn listed)) place (drop j (trace (wholeEvents source) (wholeEvents target) tags))
 
 abbrev μ-loop : tie.MeasureT-loop
-μ-loop tags source target i place j₀ j = length tags - j
+μ-loop listed tags source target i place j₀ j = length tags - j
 
 -- an event looked at
-module _ (c : tie.After-is-wall Inv-loop μ-loop) where
+module _ (c : tie.After-is-wall-in Inv-loop μ-loop) where
   abbrev turn : tie.At-loop Inv-loop μ-loop
   turn = c .before .before .before .before
 
   abbrev start : tie.Start Inv-loop μ-loop
   start = turn .before .before .before .before
+
+  abbrev marks : List Bool
+  marks = start .args .listed .now
 
   abbrev tags : List ℕ
   tags = start .args .tags .now
@@ -52,21 +55,21 @@ module _ (c : tie.After-is-wall Inv-loop μ-loop) where
   abbrev event : Event
   event = c .before .event-of .result
 
-  wall-is : {b : Bool} → c .is-wall .result ≡ b → isWall (view event) ≡ b
-  wall-is h = sym (c .is-wall .ensures) ∙ h
+  wall-is : {b : Bool} → c .is-wall-in .result ≡ b → isWall (viewIn marks event) ≡ b
+  wall-is h = sym (c .is-wall-in .ensures) ∙ h
 
   parts : drop index (trace source target tags) ≡ tracedFor source target tag ∷ drop (index + 1) (trace source target tags)
   parts = drop-at source target tags index (c .before .before .before .loop-test .taken)
 
   -- the near access from the index on
   abbrev nearest : Option View
-  nearest = near (viewed view) (start .args .place) (drop (start .args .i) (trace source target tags))
+  nearest = near (viewed (viewIn marks)) (start .args .place) (drop (start .args .i) (trace source target tags))
 
-  ends : isWall (view event) ≡ true → nearest ≡ none
-  ends h = turn .loop .inv ∙ stops source target tag _ _ _ parts event (c .before .event-of .ensures) h
+  ends : isWall (viewIn marks event) ≡ true → nearest ≡ none
+  ends h = turn .loop .inv ∙ stops marks source target tag _ _ _ parts event (c .before .event-of .ensures) h
 
-  found : isWall (view event) ≡ false → event .place ≡ start .args .place → nearest ≡ some (view event)
-  found h q = turn .loop .inv ∙ finds source target tag _ _ _ parts event (c .before .event-of .ensures) h q
+  found : isWall (viewIn marks event) ≡ false → event .place ≡ start .args .place → nearest ≡ some (viewIn marks event)
+  found h q = turn .loop .inv ∙ finds marks source target tag _ _ _ parts event (c .before .event-of .ensures) h q
 
 returns : tie.Need-returns Inv-loop μ-loop
 returns c = rw (ends (c .before) (wall-is (c .before) (c .if1 .taken)))
@@ -75,14 +78,14 @@ returns-2 : tie.Need-returns-2 Inv-loop μ-loop
 returns-2 c =
     let d = c .before .before .before in
     let w = wall-is (d .before) (d .if1 .left) in
-    rw (found (d .before) w (c .before .if2 .taken), c .is-load .ensures) (sym (stores-of (event (d .before)) w))
+    rw (found (d .before) w (c .before .if2 .taken), c .is-load-in .ensures) (sym (stores-of (marks (d .before)) (event (d .before)) w))
 
 loop-again : tie.Need-loop-again Inv-loop μ-loop
 loop-again c =
     let d = c .before .before in
     let a = d .before in
     turn a .loop .inv
-    ∙ passes (source a) (target a) (tag a) _ _ _ (parts a) (event a) (a .before .event-of .ensures) (wall-is a (d .if1 .left)) (c .if2 .left)
+    ∙ passes (marks a) (source a) (target a) (tag a) _ _ _ (parts a) (event a) (a .before .event-of .ensures) (wall-is a (d .if1 .left)) (c .if2 .left)
 
 returns-3 : tie.Need-returns-3 Inv-loop μ-loop
 returns-3 c =

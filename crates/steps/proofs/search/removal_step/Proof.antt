@@ -10,7 +10,7 @@ use lib.ListN.{length, drop, getD}
 use Rattle.event.specs.Room.{wholeEvents}
 use Rattle.event.specs.declared.Event.{Event}
 use Rattle.trace.specs.Reading.{eventLimit}
-use Rattle.rules.specs.View.{view}
+use Rattle.rules.specs.View.{viewIn}
 use Rattle.steps.specs.Inner.{removableAt}
 use Rattle.steps.specs.Step.{leaves, numberAt, removal, removeStep}
 use Rattle.steps.specs.Tags.{behind, decoded, trace, tracedFor}
@@ -22,34 +22,34 @@ use Rattle.steps.proofs.search.removal_step.Statement.{statement}
 use Rattle.steps.proofs.search.removal_step.Tie as tie
 
 -- from the index on none is found
-record Past (ns : List ℕ) (s t : List Event) (tags : List ℕ) (i : ℕ) : Type 0 where
+record Past (regs : List Bool) (ns : List ℕ) (s t : List Event) (tags : List ℕ) (i : ℕ) : Type 0 where
   bound : i ≤ length tags
-  none-yet : removal view ns (behind [] (trace s t tags) i) (drop i (trace s t tags)) ≡ none
+  none-yet : removal (viewIn regs) ns (behind [] (trace s t tags) i) (drop i (trace s t tags)) ≡ none
 
 abbrev Inv-loop : tie.InvT-loop
-Inv-loop tags source target entries i₀ i = Past entries (wholeEvents source) (wholeEvents target) tags i
+Inv-loop listed tags source target entries i₀ i = Past listed entries (wholeEvents source) (wholeEvents target) tags i
 
 abbrev μ-loop : tie.MeasureT-loop
-μ-loop tags source target entries i₀ i = i
+μ-loop listed tags source target entries i₀ i = i
 
 -- an index further
-module _ (ns : List ℕ) (s t : List Event) (tags : List ℕ) (j i : ℕ) (e : j ≡ suc i) (p : Past ns s t tags j) where
+module _ (regs : List Bool) (ns : List ℕ) (s t : List Event) (tags : List ℕ) (j i : ℕ) (e : j ≡ suc i) (p : Past regs ns s t tags j) where
   inside : i < length (trace s t tags)
   inside = omega (arith, p .bound, length-trace s t tags)
 
-  open-is : (b : Bool) → (leaves ns (decoded (getD tags i 0)) && removableAt s t tags i) ≡ b → Open view ns (tracedFor s t 0) (trace s t tags) i ≡ b
+  open-is : (b : Bool) → (leaves ns (decoded (getD tags i 0)) && removableAt regs s t tags i) ≡ b → Open (viewIn regs) ns (tracedFor s t 0) (trace s t tags) i ≡ b
   open-is b h = rw (trace-at s t tags i) h
 
-  on : (leaves ns (decoded (getD tags i 0)) && removableAt s t tags i) ≡ false → Past ns s t tags i
+  on : (leaves ns (decoded (getD tags i 0)) && removableAt regs s t tags i) ≡ false → Past regs ns s t tags i
   on h = record {
     bound = omega (arith, p .bound);
-    none-yet = removal-on view ns (tracedFor s t 0) i (trace s t tags) inside (rw (← e) (p .none-yet)) (open-is false h);
+    none-yet = removal-on (viewIn regs) ns (tracedFor s t 0) i (trace s t tags) inside (rw (← e) (p .none-yet)) (open-is false h);
   }
 
-  found : leaves ns (decoded (getD tags i 0)) ≡ true → removableAt s t tags i ≡ true
-      → Remove (i + 1) (getD tags i 0 + 1) ≡ removeStep (trace s t tags) (removal view ns [] (trace s t tags))
+  found : leaves ns (decoded (getD tags i 0)) ≡ true → removableAt regs s t tags i ≡ true
+      → Remove (i + 1) (getD tags i 0 + 1) ≡ removeStep (trace s t tags) (removal (viewIn regs) ns [] (trace s t tags))
   found g m =
-      let r = removal-found view ns (tracedFor s t 0) i (trace s t tags) inside (rw (← e) (p .none-yet)) (open-is true (rw (g, m))) in
+      let r = removal-found (viewIn regs) ns (tracedFor s t 0) i (trace s t tags) inside (rw (← e) (p .none-yet)) (open-is true (rw (g, m))) in
       let n : numberAt (trace s t tags) i ≡ suc (getD tags i 0) = number-at s t tags i (omega (arith, p .bound)) ∙ leaving-old ns (getD tags i 0) g .1 in
       rw (r, n, add-one i, add-one (getD tags i 0))
 
@@ -59,6 +59,9 @@ module _ (c : tie.After-is-leaving Inv-loop μ-loop) where
 
   abbrev start : tie.Start Inv-loop μ-loop
   start = turn .before .before .before .before .before
+
+  abbrev marks : List Bool
+  marks = start .args .listed .now
 
   abbrev tags : List ℕ
   tags = start .args .tags .now
@@ -85,25 +88,25 @@ module _ (c : tie.After-is-leaving Inv-loop μ-loop) where
   few h = leaving-old entries (getD tags index 0) (gone-is h) .0
 
 may-is : (c : tie.After-may-remove Inv-loop μ-loop) {b : Bool} → c .may-remove .result ≡ b
-    → removableAt (source (c .before .before)) (target (c .before .before)) (tags (c .before .before)) (index (c .before .before)) ≡ b
+    → removableAt (marks (c .before .before)) (source (c .before .before)) (target (c .before .before)) (tags (c .before .before)) (index (c .before .before)) ≡ b
 may-is c h = sym (c .may-remove .ensures) ∙ h
 
 returns : tie.Need-returns Inv-loop μ-loop
 returns c =
     let a = c .before .before .before in
-    found (entries a) (source a) (target a) (tags a) (turn a .loop .i) (index a) (one-less a) (turn a .loop .inv) (gone-is a (c .before .before .if1 .taken))
+    found (marks a) (entries a) (source a) (target a) (tags a) (turn a .loop .i) (index a) (one-less a) (turn a .loop .inv) (gone-is a (c .before .before .if1 .taken))
     (may-is (c .before) (c .if2 .taken))
 
 loop-again : tie.Need-loop-again Inv-loop μ-loop
 loop-again c =
     let a = c .before .before .before in
-    on (entries a) (source a) (target a) (tags a) (turn a .loop .i) (index a) (one-less a) (turn a .loop .inv)
+    on (marks a) (entries a) (source a) (target a) (tags a) (turn a .loop .i) (index a) (one-less a) (turn a .loop .inv)
     (rw (gone-is a (c .before .before .if1 .taken)) (may-is (c .before) (c .if2 .left)))
 
 loop-again-2 : tie.Need-loop-again-2 Inv-loop μ-loop
 loop-again-2 c =
     let a = c .before in
-    on (entries a) (source a) (target a) (tags a) (turn a .loop .i) (index a) (one-less a) (turn a .loop .inv) (rw (gone-is a (c .if1 .left)))
+    on (marks a) (entries a) (source a) (target a) (tags a) (turn a .loop .i) (index a) (one-less a) (turn a .loop .inv) (rw (gone-is a (c .if1 .left)))
 
 loop-holds : tie.Need-loop-holds Inv-loop μ-loop
 loop-holds c =
@@ -121,7 +124,7 @@ returns-2 c =
     let s = wholeEvents (a .source .now) in
     let t = wholeEvents (a .target .now) in
     let u = trace s t (a .tags .now) in
-    sym (ap (removeStep u) (subst (λ k. removal view (a .entries .now) (behind [] u k) (drop k u) ≡ none) e (l .inv .none-yet)))
+    sym (ap (removeStep u) (subst (λ k. removal (viewIn (a .listed .now)) (a .entries .now) (behind [] u k) (drop k u) ≡ none) e (l .inv .none-yet)))
 
 pub removal-step-spec : {M : Type 1} → statement M
 removal-step-spec =
