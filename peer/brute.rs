@@ -12,6 +12,8 @@
 //!   all      every source, target and matching of up to 3 events a side
 //!   equal    up to 4 events a side, every matching without a 10
 //!   random   longer sources with every kind of event, and random candidates
+//! and the same three with a list, `all-listed`, `equal-listed`, `random-listed`: a
+//! register's loads return anything, and the target starts with another value there.
 
 #[allow(dead_code)]
 mod peer;
@@ -23,7 +25,7 @@ mod steps;
 #[allow(dead_code)]
 mod texts;
 
-use peer::{order, Event, Kind, Memory, Word, CELLS};
+use peer::{order, Event, Kind, Locations, Memory, Word, CELLS, NO_LOCATIONS};
 use random::Random;
 use std::collections::HashMap;
 
@@ -32,6 +34,36 @@ use std::collections::HashMap;
 const MAX_LEN: usize = 8;
 /// Room for the events of one trace, in words.
 const ROOM: usize = MAX_LEN * peer::EVENT_WORDS;
+
+/// What the traces of a search share.
+struct Setting {
+    /// The starting memory of sources, and that of targets.
+    starts: [Memory; 2],
+    /// The locations of plain accesses, registers among them.
+    places: Vec<u8>,
+    listed: Locations,
+    list: Option<Vec<u8>>,
+}
+
+impl Setting {
+    fn new(start: Memory, places: &[u8]) -> Setting {
+        Setting { starts: [start; 2], places: places.to_vec(), listed: NO_LOCATIONS, list: None }
+    }
+
+    /// With a list of one register, which starts elsewhere in the target.
+    fn with_register(start: Memory, places: &[u8], register: u8) -> Setting {
+        let mut setting = Setting::new(start, places);
+        setting.starts[1][usize::from(register)] += 1;
+        setting.listed[usize::from(register)] = true;
+        setting.list = Some(texts::list_text(&setting.listed));
+        setting
+    }
+
+    /// Whether an event is a register's, which reads anything.
+    fn is_register(&self, event: Event) -> bool {
+        event.kind.is_plain() && self.listed[usize::from(event.place)]
+    }
+}
 
 // -------------------------------------------------------------------- states
 
@@ -104,9 +136,9 @@ fn closure(start: Reached, next: impl Fn(u64, &mut Vec<u64>)) -> Reached {
     found
 }
 
-fn swaps(codes: &[u8], trace: &[Event], steps: &mut Vec<u64>) {
+fn swaps(listed: &Locations, codes: &[u8], trace: &[Event], steps: &mut Vec<u64>) {
     for at in 1..codes.len() {
-        if rules::may_swap(trace, at - 1) {
+        if rules::may_swap(listed, trace, at - 1) {
             let mut swapped = codes.to_vec();
             swapped.swap(at - 1, at);
             steps.push(pack(&swapped));
@@ -114,9 +146,9 @@ fn swaps(codes: &[u8], trace: &[Event], steps: &mut Vec<u64>) {
     }
 }
 
-fn removals(codes: &[u8], trace: &[Event], steps: &mut Vec<u64>) {
+fn removals(listed: &Locations, codes: &[u8], trace: &[Event], steps: &mut Vec<u64>) {
     for at in 0..codes.len() {
-        if rules::may_remove(trace, at) {
+        if rules::may_remove(listed, trace, at) {
             let mut shorter = codes.to_vec();
             shorter.remove(at);
             steps.push(pack(&shorter));
@@ -124,10 +156,10 @@ fn removals(codes: &[u8], trace: &[Event], steps: &mut Vec<u64>) {
     }
 }
 
-fn insertions(codes: &[u8], trace: &[Event], locations: &[u8], steps: &mut Vec<u64>) {
+fn insertions(setting: &Setting, codes: &[u8], trace: &[Event], steps: &mut Vec<u64>) {
     for at in 0..=codes.len() {
-        for &location in locations {
-            if let Some(value) = rules::insertable_value(trace, at, location) {
+        for &location in &setting.places {
+            if let Some(value) = rules::insertable_value(&setting.listed, trace, at, location) {
                 let mut longer = codes.to_vec();
                 longer.insert(at, inserted_code(location, value));
                 steps.push(pack(&longer));
@@ -138,22 +170,23 @@ fn insertions(codes: &[u8], trace: &[Event], locations: &[u8], steps: &mut Vec<u
 
 /// Every trace of at most `limit` events that a run reaches, inserted ones
 /// counted, and some longer ones that only removals have touched.
-fn reached(source: &[Event], locations: &[u8], limit: usize) -> Reached {
+fn reached(setting: &Setting, source: &[Event], limit: usize) -> Reached {
+    let listed = &setting.listed;
     let identity: Vec<u8> = (1..=source.len() as u8).collect();
     let decode = |codes: &[u8]| -> Vec<Event> { codes.iter().map(|&code| event_of(code, source)).collect() };
     let removed = closure(Reached::from([(pack(&identity), 0)]), |state, steps| {
         let codes = unpack(state);
         let trace = decode(&codes);
-        removals(&codes, &trace, steps);
-        swaps(&codes, &trace, steps);
+        removals(listed, &codes, &trace, steps);
+        swaps(listed, &codes, &trace, steps);
     });
     closure(removed, |state, steps| {
         let codes = unpack(state);
         let trace = decode(&codes);
         if codes.len() < limit {
-            insertions(&codes, &trace, locations, steps);
+            insertions(setting, &codes, &trace, steps);
         }
-        swaps(&codes, &trace, steps);
+        swaps(listed, &codes, &trace, steps);
     })
 }
 
@@ -188,7 +221,7 @@ impl Tally {
 
 /// One source with its text and all that its runs reach.
 struct Bench<'a> {
-    start: &'a Memory,
+    setting: &'a Setting,
     head: Vec<u8>,
     source: Vec<Event>,
     source_text: Vec<u8>,
@@ -201,12 +234,13 @@ struct Bench<'a> {
 }
 
 impl<'a> Bench<'a> {
-    fn new(start: &'a Memory, source: Vec<Event>, locations: &[u8], limit: usize) -> Bench<'a> {
+    fn new(setting: &'a Setting, source: Vec<Event>, limit: usize) -> Bench<'a> {
+        let [start, target_start] = &setting.starts;
         Bench {
-            start,
-            head: texts::trace_head(start).into_bytes(),
+            setting,
+            head: texts::trace_head(target_start).into_bytes(),
             source_text: texts::trace_text(start, &source),
-            reached: reached(&source, locations, limit),
+            reached: reached(setting, &source, limit),
             source,
             lines: HashMap::new(),
             target_text: vec![],
@@ -234,7 +268,7 @@ impl<'a> Bench<'a> {
         }
         let (mut room1, mut room2, mut room3) = ([0; ROOM], [0; ROOM], [0; MAX_LEN]);
         let texts = (&self.source_text, &self.target_text, &self.matching_text);
-        peer::check(texts.0, texts.1, texts.2, &mut room1, &mut room2, &mut room3).answer.number
+        peer::check(self.setting.list.as_deref(), texts.0, texts.1, texts.2, &mut room1, &mut room2, &mut room3).answer.number
     }
 
     /// The steps of the shortest run that reaches the target with the matching.
@@ -272,7 +306,8 @@ impl<'a> Bench<'a> {
             self.tally.differences += 1;
             let source = String::from_utf8_lossy(&self.source_text);
             let target = String::from_utf8_lossy(&self.target_text);
-            println!("DIFFERENCE shortest {shortest:?} answer {answer} cost {}\n{source}{target}{entries:?}", cost());
+            let list = String::from_utf8_lossy(self.setting.list.as_deref().unwrap_or_default());
+            println!("DIFFERENCE shortest {shortest:?} answer {answer} cost {}\n{list}{source}{target}{entries:?}", cost());
         }
         self.tally.compared += 1;
         self.tally.answers[answer as usize] += 1;
@@ -281,7 +316,7 @@ impl<'a> Bench<'a> {
 
 // ------------------------------------------------------------ small alphabets
 
-/// An event whose value, if it reads, is still to be filled in.
+/// An event whose value, if it reads no register, is still to be filled in.
 #[derive(Clone, Copy)]
 struct Shape(Event);
 
@@ -291,9 +326,9 @@ fn shape(kind: Kind, place: u8, order: u8, first: Word, second: Word) -> Shape {
 
 impl Shape {
     /// The event on a memory: what it reads is what the memory holds.
-    fn on(self, memory: &Memory) -> Event {
+    fn on(self, setting: &Setting, memory: &Memory) -> Event {
         let mut event = self.0;
-        if matches!(event.kind, Kind::Load | Kind::ALoad | Kind::Rmw | Kind::Add | Kind::Add64) {
+        if !setting.is_register(event) && matches!(event.kind, Kind::Load | Kind::ALoad | Kind::Rmw | Kind::Add | Kind::Add64) {
             event.first = memory[usize::from(event.place)];
         }
         event
@@ -301,10 +336,10 @@ impl Shape {
 }
 
 /// Whether the event is right on the memory, and the memory after it.
-fn step(memory: &mut Memory, event: Event) -> bool {
+fn step(setting: &Setting, memory: &mut Memory, event: Event) -> bool {
     let cell = &mut memory[usize::from(event.place)];
     let (right, after) = match event.kind {
-        Kind::Load | Kind::ALoad => (*cell == event.first, event.first),
+        Kind::Load | Kind::ALoad => (*cell == event.first, *cell),
         Kind::Store | Kind::AStore => (true, event.first),
         Kind::Rmw => (*cell == event.first, event.second),
         Kind::Add => (*cell == event.first, (event.first + event.second) % (1 << 32)),
@@ -312,7 +347,7 @@ fn step(memory: &mut Memory, event: Event) -> bool {
         Kind::Fence | Kind::Lock | Kind::Unlock => return true,
     };
     *cell = after;
-    right
+    right || setting.is_register(event)
 }
 
 /// Two locations, two values, both marks, a lock and an atomic load.
@@ -331,17 +366,39 @@ fn tiny_alphabet() -> Vec<Shape> {
 
 const TINY_LOCATIONS: [u8; 2] = [0, 1];
 
+/// A location and a register, two values, both marks, and a lock whose number is the
+/// register's.
+fn listed_alphabet() -> Vec<Shape> {
+    let [plain, register] = TINY_LOCATIONS;
+    let mut shapes = vec![shape(Kind::Lock, register, order::NONE, 0, 0)];
+    for (mark, value) in [(order::USED, 0), (order::UNUSED, 1)] {
+        shapes.push(shape(Kind::Load, plain, mark, 0, 0));
+        shapes.push(shape(Kind::Load, register, mark, value, 0));
+        shapes.push(shape(Kind::Store, plain, order::NONE, value, 0));
+        shapes.push(shape(Kind::Store, register, order::NONE, value, 0));
+    }
+    shapes
+}
+
+/// The alphabet without a list and with one, each in its setting.
+fn tiny(lists: bool) -> (Vec<Shape>, Setting) {
+    match lists {
+        false => (tiny_alphabet(), Setting::new([0; CELLS], &TINY_LOCATIONS)),
+        true => (listed_alphabet(), Setting::with_register([0; CELLS], &TINY_LOCATIONS, TINY_LOCATIONS[1])),
+    }
+}
+
 /// All lawful traces of at most `limit` events over the alphabet.
-fn all_traces(alphabet: &[Shape], start: &Memory, limit: usize) -> Vec<Vec<Event>> {
+fn all_traces(alphabet: &[Shape], setting: &Setting, limit: usize) -> Vec<Vec<Event>> {
     let mut traces = vec![];
-    let mut todo = vec![(vec![], *start)];
+    let mut todo = vec![(vec![], setting.starts[0])];
     while let Some((trace, memory)) = todo.pop() {
         if trace.len() < limit {
             for shape in alphabet {
                 let mut longer: Vec<Event> = trace.clone();
                 let mut after = memory;
-                longer.push(shape.on(&memory));
-                step(&mut after, shape.on(&memory));
+                longer.push(shape.on(setting, &memory));
+                step(setting, &mut after, shape.on(setting, &memory));
                 todo.push((longer, after));
             }
         }
@@ -390,13 +447,14 @@ fn on_all_cores(sources: &[Vec<Event>], job: impl Fn(&[Event]) -> Tally + Sync) 
 }
 
 /// Every source, target and matching of at most `limit` events a side.
-fn all_cases(limit: usize) -> Tally {
-    let start = [0; CELLS];
-    let traces = all_traces(&tiny_alphabet(), &start, limit);
+fn all_cases(lists: bool, limit: usize) -> Tally {
+    let (alphabet, setting) = tiny(lists);
+    // What a trace may be does not hang on the starts of registers.
+    let traces = all_traces(&alphabet, &setting, limit);
     let matchings: Vec<Vec<Vec<Vec<u16>>>> =
         (0..=limit).map(|source| (0..=limit).map(|target| all_matchings(source, target)).collect()).collect();
     on_all_cores(&traces, |source| {
-        let mut bench = Bench::new(&start, source.to_vec(), &TINY_LOCATIONS, limit);
+        let mut bench = Bench::new(&setting, source.to_vec(), limit);
         for target in &traces {
             for entries in &matchings[source.len()][target.len()] {
                 bench.compare(target, entries);
@@ -414,6 +472,7 @@ fn fill(bench: &mut Bench, alphabet: &[Shape], limit: usize, target: &mut Vec<Ev
     if target.len() == limit {
         return;
     }
+    let setting = bench.setting;
     let mark = if bench.tally.compared % 2 == 0 { order::USED } else { order::UNUSED };
     let marked = |event: Event| match event.kind {
         Kind::Load => Event { order: mark, ..event },
@@ -422,7 +481,7 @@ fn fill(bench: &mut Bench, alphabet: &[Shape], limit: usize, target: &mut Vec<Ev
     for index in 0..entries.len() {
         let event = marked(bench.source[index]);
         let mut after = *memory;
-        if entries[index] == 0 && step(&mut after, event) {
+        if entries[index] == 0 && step(setting, &mut after, event) {
             target.push(event);
             entries[index] = target.len() as u16;
             fill(bench, alphabet, limit, target, entries, &after);
@@ -431,9 +490,9 @@ fn fill(bench: &mut Bench, alphabet: &[Shape], limit: usize, target: &mut Vec<Ev
         }
     }
     for shape in alphabet.iter().filter(|shape| shape.0.order != order::UNUSED) {
-        let event = marked(shape.on(memory));
+        let event = marked(shape.on(setting, memory));
         let mut after = *memory;
-        step(&mut after, event);
+        step(setting, &mut after, event);
         target.push(event);
         fill(bench, alphabet, limit, target, entries, &after);
         target.pop();
@@ -441,13 +500,12 @@ fn fill(bench: &mut Bench, alphabet: &[Shape], limit: usize, target: &mut Vec<Ev
 }
 
 /// Up to `limit` events a side, every matching whose kept events are equal.
-fn equal_cases(limit: usize) -> Tally {
-    let start = [0; CELLS];
-    let alphabet = tiny_alphabet();
-    let sources = all_traces(&alphabet, &start, limit);
+fn equal_cases(lists: bool, limit: usize) -> Tally {
+    let (alphabet, setting) = tiny(lists);
+    let sources = all_traces(&alphabet, &setting, limit);
     on_all_cores(&sources, |source| {
-        let mut bench = Bench::new(&start, source.to_vec(), &TINY_LOCATIONS, limit);
-        fill(&mut bench, &alphabet, limit, &mut vec![], &mut vec![0; source.len()], &start);
+        let mut bench = Bench::new(&setting, source.to_vec(), limit);
+        fill(&mut bench, &alphabet, limit, &mut vec![], &mut vec![0; source.len()], &setting.starts[1]);
         // Everything that the runs reach has been met: nothing was skipped.
         let within = bench.reached.keys().filter(|&&state| unpack(state).len() <= limit).count() as u64;
         assert_eq!(within, bench.tally.answers[0], "a reached trace was not among the cases");
@@ -458,14 +516,16 @@ fn equal_cases(limit: usize) -> Tally {
 // -------------------------------------------------------------------- random
 
 const RANDOM_LOCATIONS: [u8; 2] = [1, 4];
+/// With a list: the first is a register, and the number of the mutex.
+const RANDOM_LISTED: [u8; 3] = [1, 4, 2];
 const RANDOM_ATOMIC: u8 = 3;
 const RANDOM_LIMIT: usize = 7;
 
-fn random_shape(random: &mut Random) -> Shape {
-    let place = random.pick(&RANDOM_LOCATIONS);
+fn random_shape(random: &mut Random, setting: &Setting) -> Shape {
+    let place = random.pick(&setting.places);
     let value = random.below(3) as Word;
     match random.below(14) {
-        0..=4 => shape(Kind::Load, place, random.pick(&[order::USED, order::UNUSED]), 0, 0),
+        0..=4 => shape(Kind::Load, place, random.pick(&[order::USED, order::UNUSED]), value, 0),
         5..=10 => shape(Kind::Store, place, order::NONE, value, 0),
         11 => shape(Kind::Fence, 0, order::SC, 0, 0),
         12 => shape(random.pick(&[Kind::Lock, Kind::Unlock]), 1, order::NONE, 0, 0),
@@ -482,7 +542,7 @@ fn random_shape(random: &mut Random) -> Shape {
 /// 0 for none.
 type Candidate = Vec<(Event, u8)>;
 
-fn random_change(random: &mut Random, candidate: &mut Candidate, source: &[Event]) {
+fn random_change(random: &mut Random, setting: &Setting, candidate: &mut Candidate, source: &[Event]) {
     let at = random.below(candidate.len() + 1);
     match random.below(5) {
         0 if at < candidate.len() => {
@@ -492,7 +552,7 @@ fn random_change(random: &mut Random, candidate: &mut Candidate, source: &[Event
         2 if candidate.len() < RANDOM_LIMIT => {
             let mut guess = [0; CELLS];
             guess.fill_with(|| random.below(3) as Word);
-            let event = random_shape(random).on(&guess);
+            let event = random_shape(random, setting).on(setting, &guess);
             candidate.insert(at, (event, 0));
         }
         3 if at < candidate.len() => candidate[at].1 = 0,
@@ -506,24 +566,33 @@ fn random_change(random: &mut Random, candidate: &mut Candidate, source: &[Event
     }
 }
 
-fn is_lawful(start: &Memory, target: &[Event]) -> bool {
-    let mut memory = *start;
-    target.iter().all(|&event| step(&mut memory, event))
+fn is_lawful(setting: &Setting, target: &[Event]) -> bool {
+    let mut memory = setting.starts[1];
+    target.iter().all(|&event| step(setting, &mut memory, event))
 }
 
-fn random_bench(random: &mut Random, candidates: usize) -> Tally {
+fn random_setting(random: &mut Random, lists: bool) -> Setting {
     let mut start = [0; CELLS];
-    for location in RANDOM_LOCATIONS {
+    let places: &[u8] = if lists { &RANDOM_LISTED } else { &RANDOM_LOCATIONS };
+    for &location in places {
         start[usize::from(location)] = random.below(3) as Word;
     }
-    let mut memory = start;
+    match lists {
+        false => Setting::new(start, places),
+        true => Setting::with_register(start, places, places[0]),
+    }
+}
+
+fn random_bench(random: &mut Random, lists: bool, candidates: usize) -> Tally {
+    let setting = random_setting(random, lists);
+    let mut memory = setting.starts[0];
     let mut source = vec![];
     for _ in 0..4 + random.below(4) {
-        let event = random_shape(random).on(&memory);
-        step(&mut memory, event);
+        let event = random_shape(random, &setting).on(&setting, &memory);
+        step(&setting, &mut memory, event);
         source.push(event);
     }
-    let mut bench = Bench::new(&start, source, &RANDOM_LOCATIONS, RANDOM_LIMIT);
+    let mut bench = Bench::new(&setting, source, RANDOM_LIMIT);
     let mut reached: Vec<u64> = bench.reached.keys().copied().collect();
     reached.sort_unstable();
     for _ in 0..candidates {
@@ -532,31 +601,31 @@ fn random_bench(random: &mut Random, candidates: usize) -> Tally {
             .map(|code| (event_of(code, &bench.source), if code >= INSERTED { 0 } else { code }))
             .collect();
         for _ in 0..random.below(4) {
-            random_change(random, &mut candidate, &bench.source);
+            random_change(random, &setting, &mut candidate, &bench.source);
         }
         let target: Vec<Event> = candidate.iter().map(|item| item.0).collect();
         let mut entries = vec![0; bench.source.len()];
         for (at, item) in candidate.iter().enumerate().filter(|(_, item)| item.1 != 0) {
             entries[usize::from(item.1) - 1] = at as u16 + 1;
         }
-        if is_lawful(bench.start, &target) {
+        if is_lawful(&setting, &target) {
             bench.compare(&target, &entries);
         }
     }
     bench.tally
 }
 
-fn random_cases(seed: u64, sources: usize, candidates: usize) -> Tally {
+fn random_cases(seed: u64, lists: bool, sources: usize, candidates: usize) -> Tally {
     // The source traces are drawn inside, so only the seeds are shared out.
     let seeds: Vec<Vec<Event>> = vec![vec![]; sources];
     let index = std::sync::atomic::AtomicU64::new(0);
     on_all_cores(&seeds, |_| {
         let mine = index.fetch_add(1, std::sync::atomic::Ordering::Relaxed);
-        random_bench(&mut Random::new(seed.wrapping_add(mine.wrapping_mul(0x1_0000_0001))), candidates)
+        random_bench(&mut Random::new(seed.wrapping_add(mine.wrapping_mul(0x1_0000_0001))), lists, candidates)
     })
 }
 
-/// `brute [part [seed]]`; without a part, all three.
+/// `brute [part [seed]]`; without a part, all six.
 fn main() {
     let arguments: Vec<String> = std::env::args().skip(1).collect();
     let part = arguments.first().map_or("", |part| part.as_str());
@@ -569,9 +638,11 @@ fn main() {
             total.add(&tally);
         }
     };
-    run("all", &|| all_cases(3));
-    run("equal", &|| equal_cases(4));
-    run("random", &|| random_cases(seed, 40_000, 200));
+    for (lists, names) in [(false, ["all", "equal", "random"]), (true, ["all-listed", "equal-listed", "random-listed"])] {
+        run(names[0], &|| all_cases(lists, 3));
+        run(names[1], &|| equal_cases(lists, 4));
+        run(names[2], &|| random_cases(seed, lists, 40_000, 200));
+    }
     total.print("total");
     if total.differences > 0 {
         std::process::exit(1);

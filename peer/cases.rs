@@ -1,6 +1,6 @@
 //! Cases with answers worked out by hand: the runs of the requirement, and the
 //! limits of every number, count, line and room. `forms.rs` has those of form 2,
-//! `counters.rs` those of counters of 64 bits.
+//! `counters.rs` those of counters of 64 bits, `lists.rs` those with registers.
 
 use crate::peer::{MAX_MATCHING, MAX_TEXT};
 
@@ -8,9 +8,11 @@ pub type Triple = (u32, u32, u32);
 
 pub const ALL: usize = 800;
 
-/// What a check is handed; the rooms as events, events and entries.
+/// What a check is handed, with a list or without one; the rooms as events, events
+/// and entries.
 #[derive(Clone)]
 pub struct Case {
+    pub list: Option<Vec<u8>>,
     pub source: Vec<u8>,
     pub target: Vec<u8>,
     pub matching: Vec<u8>,
@@ -20,6 +22,10 @@ pub struct Case {
 impl Case {
     pub fn texts(&self) -> [&[u8]; 3] {
         [&self.source, &self.target, &self.matching]
+    }
+
+    pub fn list(&self) -> Option<&[u8]> {
+        self.list.as_deref()
     }
 }
 
@@ -67,19 +73,21 @@ pub fn raw(head: &str, rest: &[u8]) -> Vec<u8> {
     [head.as_bytes(), rest].concat()
 }
 
-/// Cases being listed.
+/// Cases being listed, all with the same list of registers or none.
+#[derive(Default)]
 pub struct List {
     pub known: Vec<Known>,
+    pub list: Option<Vec<u8>>,
 }
 
 impl List {
     pub fn add(&mut self, name: &str, source: Vec<u8>, target: Vec<u8>, matching: Vec<u8>, rooms: [usize; 3], answer: Triple) {
-        let case = Case { source, target, matching, rooms };
+        let case = Case { list: self.list.clone(), source, target, matching, rooms };
         self.known.push(Known { name: name.to_string(), case, answer });
     }
 
     /// A case in the notation of the requirement, with all the room there is.
-    fn run(&mut self, name: &str, source: &str, target: &str, entries: &str, answer: Triple) {
+    pub fn run(&mut self, name: &str, source: &str, target: &str, entries: &str, answer: Triple) {
         self.add(name, trace(source), trace(target), matching(entries), [ALL; 3], answer);
     }
 
@@ -114,7 +122,7 @@ impl List {
 
 /// The runs of the requirement.
 pub fn runs() -> Vec<Known> {
-    let mut list = List { known: vec![] };
+    let mut list = List::default();
     list.run("P1", "", "", "", DONE);
     list.run("P2", "load 1 0 used; load 1 0 used", "load 1 0 used", "keep 1; gone", DONE);
     list.run("P3", "load 1 0 used; load 1 0 used", "load 1 0 used", "gone; keep 1", (13, 1, 1));
@@ -465,7 +473,7 @@ fn counts(list: &mut List) {
 
 /// All cases of document 01 that are known by hand.
 pub fn all() -> Vec<Known> {
-    let mut list = List { known: runs() };
+    let mut list = List { known: runs(), list: None };
     for part in [numbers, orders, layouts, inits, values, matchings, judgements, rooms, lengths, counts] {
         part(&mut list);
     }

@@ -31,6 +31,7 @@ mod zeros;
 
 use cases::Case;
 use forms::{KnownWriting, Move};
+use generate::Lists;
 use peer::{form_of, Answer, Entry, Form, Memory, Word, CELLS, EVENT_WORDS, MAX_EVENTS, MAX_MATCHING};
 use random::Random;
 use std::collections::BTreeMap;
@@ -131,7 +132,7 @@ fn compare_check(given: &Given, tally: &mut Tally) -> Same {
     let [mut ours_entries, mut peer_entries] = [entries.clone(), entries.clone()];
     let ours = ours::check(case.texts(), ours_rooms.each_mut().map(Vec::as_mut_slice), &mut ours_entries);
     let [source_room, target_room] = &mut peer_rooms;
-    let peer = peer::check(&case.source, &case.target, &case.matching, source_room, target_room, &mut peer_entries);
+    let peer = peer::check(None, &case.source, &case.target, &case.matching, source_room, target_room, &mut peer_entries);
     same("check: answer", &ours.answer, &peer.answer)?;
     same("check: all that is handed back", &ours, &peer)?;
     let stored = [ours.source_events, ours.target_events].map(|events| events * EVENT_WORDS);
@@ -211,7 +212,7 @@ fn try_any_answer(random: &mut Random, case: &Case) -> Same {
 fn compare_trace(text: &[u8], room: &[Word], tally: &mut Tally) -> Result<Option<(Memory, Vec<Word>)>, Difference> {
     let [mut ours_room, mut peer_room] = [room.to_vec(), room.to_vec()];
     let ours = ours::read_trace(text, &mut ours_room);
-    let peer = peer::read_trace(text, &mut peer_room);
+    let peer = peer::read_trace(None, text, &mut peer_room);
     same("reading a trace", &ours, &peer)?;
     same("form of a trace", &ours::trace_form(text), &by_form(form_of(text), 1, 2))?;
     let stored = ours.events * EVENT_WORDS;
@@ -253,7 +254,7 @@ fn compare_bytes(
 /// A trace written into so many bytes, and read back.
 fn compare_writing(random: &mut Random, form: Form, memory: &Memory, words: &[Word], bytes: usize, tally: &mut Tally) -> Same {
     let ours = |out: &mut [u8]| ours::write_trace(form, memory, words, out);
-    let peer = |out: &mut [u8]| peer::write_trace(form, memory, words, out);
+    let peer = |out: &mut [u8]| peer::write_trace(None, form, memory, words, out);
     let (answer, written) = compare_bytes(random, "writing", bytes, ours, peer)?;
     tally.add(by_form(form, "writer 1", "writer 2"), answer);
     if let Some(text) = written {
@@ -268,9 +269,9 @@ fn compare_writing(random: &mut Random, form: Form, memory: &Memory, words: &[Wo
 }
 
 /// A text moved to a form, and back.
-fn compare_move(random: &mut Random, Move { to, text, bytes }: &Move, tally: &mut Tally) -> Same {
+fn compare_move(random: &mut Random, Move { to, text, bytes, .. }: &Move, tally: &mut Tally) -> Same {
     let ours = |out: &mut [u8]| ours::move_to(*to, text, out);
-    let peer = |out: &mut [u8]| peer::move_to(*to, text, out);
+    let peer = |out: &mut [u8]| peer::move_to(None, *to, text, out);
     let (answer, moved) = compare_bytes(random, "move", *bytes, ours, peer)?;
     tally.add(by_form(*to, "move to 1", "move to 2"), answer);
     if let Some(moved) = moved {
@@ -325,7 +326,7 @@ fn try_writing(random: &mut Random, memory: &Memory, words: &[Word], tally: &mut
     let memory = changed_memory(random, memory);
     let words = changed_words(random, words);
     let form = random.pick(&[Form::One, Form::Two]);
-    let needed = generate::bytes_needed(peer::write_trace(form, &memory, &words, &mut []));
+    let needed = generate::bytes_needed(peer::write_trace(None, form, &memory, &words, &mut []));
     let bytes = generate::bytes_for(random, needed);
     compare_writing(random, form, &memory, &words, bytes, tally)
 }
@@ -337,7 +338,7 @@ fn compare(random: &mut Random, given: &Given, tally: &mut Tally) -> Same {
         if let Some((memory, words)) = compare_trace(text, room, tally)? {
             try_writing(random, &memory, &words, tally)?;
         }
-        let handed = generate::move_of(random, text);
+        let handed = generate::move_of(random, None, text);
         compare_move(random, &handed, tally)?;
     }
     compare_matching(&given.case.matching, &given.entries, tally)
@@ -349,7 +350,7 @@ fn long_case(random: &mut Random) -> Case {
         0 => MAX_EVENTS - random.below(3),
         _ => 20 + random.below(MAX_EVENTS - 20),
     };
-    let mut case = generate::lawful_case(random, events);
+    let mut case = generate::lawful_case(random, Lists::Without, events);
     for text in [&mut case.source, &mut case.target] {
         if random.once_in(2) {
             generate::add_codes(random, text);
@@ -389,10 +390,10 @@ fn noise(random: &mut Random) -> Vec<u8> {
 fn random_case(random: &mut Random) -> Case {
     match random.below(64) {
         0 => long_case(random),
-        1 => Case { source: noise(random), ..generate::mixed_case(random) },
-        2 => Case { target: noise(random), ..generate::mixed_case(random) },
-        3 => Case { matching: noise(random), ..generate::mixed_case(random) },
-        _ => generate::mixed_case(random),
+        1 => Case { source: noise(random), ..generate::mixed_case(random, Lists::Without) },
+        2 => Case { target: noise(random), ..generate::mixed_case(random, Lists::Without) },
+        3 => Case { matching: noise(random), ..generate::mixed_case(random, Lists::Without) },
+        _ => generate::mixed_case(random, Lists::Without),
     }
 }
 

@@ -188,7 +188,7 @@ fn lengths(both: &mut Both) {
 
 /// All checks of C-13 that are known by hand.
 pub fn checks() -> Vec<Known> {
-    let mut list = List { known: vec![] };
+    let mut list = List::default();
     for part in [values, narrow, sums, lines, answers, lengths] {
         part(&mut Both(&mut list));
     }
@@ -197,7 +197,7 @@ pub fn checks() -> Vec<Known> {
 
 /// The moves that are known by hand.
 pub fn moves() -> Vec<KnownMove> {
-    let mut moves = Moves { known: vec![] };
+    let mut moves = Moves::default();
     let lines = "init 1 18446744073709551615; add64 1 ar 18446744073709551615 1; add 1 rlx 0 4294967295; rmw 1 sc 4294967295 4294967296";
     moves.there_and_back("counters", &trace(lines), &texts::with_codes(&trace(lines), || 0));
     for to in [Form::One, Form::Two] {
@@ -242,7 +242,7 @@ fn writings_of(list: &mut Writings, form: Form) {
 
 /// The writings that are known by hand.
 pub fn writings() -> Vec<KnownWriting> {
-    let mut list = Writings { known: vec![] };
+    let mut list = Writings::default();
     writings_of(&mut list, Form::One);
     writings_of(&mut list, Form::Two);
     list.known

@@ -154,7 +154,7 @@ fn coded_lengths(list: &mut List) {
 
 /// All checks of form 2 that are known by hand.
 pub fn checks() -> Vec<Known> {
-    let mut list = List { known: vec![] };
+    let mut list = List::default();
     for part in [coded_runs, code_lines, coded_answers, coded_lengths] {
         part(&mut list);
     }
@@ -164,9 +164,11 @@ pub fn checks() -> Vec<Known> {
 /// So many bytes hold every text.
 pub const PLENTY: usize = Form::Two.limit();
 
-/// What a move is handed: the form that is wanted, a text, and so many bytes.
+/// What a move is handed: a list or none, the form that is wanted, a text, and so
+/// many bytes.
 #[derive(Clone)]
 pub struct Move {
+    pub list: Option<Vec<u8>>,
     pub to: Form,
     pub text: Vec<u8>,
     pub bytes: usize,
@@ -181,19 +183,22 @@ pub struct KnownMove {
     pub moved: Vec<u8>,
 }
 
+/// Moves being listed, all with the same list or none.
+#[derive(Default)]
 pub struct Moves {
     pub known: Vec<KnownMove>,
+    pub list: Option<Vec<u8>>,
 }
 
 impl Moves {
     pub fn done(&mut self, name: &str, to: Form, text: &[u8], bytes: usize, moved: &[u8]) {
-        let handed = Move { to, text: text.to_vec(), bytes };
+        let handed = Move { list: self.list.clone(), to, text: text.to_vec(), bytes };
         let answer = (0, 0, moved.len() as u32);
         self.known.push(KnownMove { name: format!("{name}, to {to:?}"), handed, answer, moved: moved.to_vec() });
     }
 
     pub fn refused(&mut self, name: &str, to: Form, text: Vec<u8>, bytes: usize, answer: Triple) {
-        let handed = Move { to, text, bytes };
+        let handed = Move { list: self.list.clone(), to, text, bytes };
         self.known.push(KnownMove { name: format!("{name}, to {to:?}"), handed, answer, moved: vec![] });
     }
 
@@ -287,7 +292,7 @@ fn moves_lost(moves: &mut Moves) {
 
 /// The moves that are known by hand.
 pub fn moves() -> Vec<KnownMove> {
-    let mut moves = Moves { known: vec![] };
+    let mut moves = Moves::default();
     moves_done(&mut moves);
     moves_refused(&mut moves, Form::One);
     moves_refused(&mut moves, Form::Two);
@@ -298,11 +303,12 @@ pub fn moves() -> Vec<KnownMove> {
 /// The words that the reader of a writing has: one event more than a trace.
 pub const WRITING_WORDS: usize = (ALL + 1) * EVENT_WORDS;
 
-/// What the writer is handed: the form, and the starting memory and the words of
-/// a lawful trace, with words of 0 behind them, one word changed, cut to so many
-/// words; and so many bytes.
+/// What the writer is handed: a list or none, the form, and the starting memory and
+/// the words of a trace that is lawful without a list, with words of 0 behind them,
+/// one word changed, cut to so many words; and so many bytes.
 #[derive(Clone)]
 pub struct Writing {
+    pub list: Option<Vec<u8>>,
     pub form: Form,
     pub text: Vec<u8>,
     pub words: usize,
@@ -314,7 +320,7 @@ impl Writing {
     /// The memory and the words.
     pub fn read(&self) -> (Memory, Vec<Word>) {
         let mut words = vec![0; WRITING_WORDS];
-        let read = peer::read_trace(&self.text, &mut words);
+        let read = peer::read_trace(None, &self.text, &mut words);
         assert_eq!(read.answer.number, 0, "the trace is lawful");
         if let Some((at, word)) = self.change {
             words[at] = word;
@@ -332,19 +338,22 @@ pub struct KnownWriting {
     pub answer: Triple,
 }
 
+/// Writings being listed, all with the same list or none.
+#[derive(Default)]
 pub struct Writings {
     pub known: Vec<KnownWriting>,
+    pub list: Option<Vec<u8>>,
 }
 
 impl Writings {
     pub fn add(&mut self, name: &str, form: Form, text: Vec<u8>, words: usize, bytes: usize, answer: Triple) {
-        let handed = Writing { form, text, words, change: None, bytes };
+        let handed = Writing { list: self.list.clone(), form, text, words, change: None, bytes };
         self.known.push(KnownWriting { name: format!("{name}, {form:?}"), handed, answer });
     }
 
     /// One word changed, and as many bytes as there can be.
     pub fn changed(&mut self, name: &str, form: Form, lines: &str, words: usize, change: (usize, Word), answer: Triple) {
-        let handed = Writing { form, text: coded(lines), words, change: Some(change), bytes: PLENTY };
+        let handed = Writing { list: self.list.clone(), form, text: coded(lines), words, change: Some(change), bytes: PLENTY };
         self.known.push(KnownWriting { name: format!("{name}, {form:?}"), handed, answer });
     }
 }
@@ -375,7 +384,7 @@ fn writings_of(list: &mut Writings, form: Form) {
 
 /// The writings that are known by hand.
 pub fn writings() -> Vec<KnownWriting> {
-    let mut list = Writings { known: vec![] };
+    let mut list = Writings::default();
     writings_of(&mut list, Form::One);
     writings_of(&mut list, Form::Two);
     for code in [1, 9, 10, 99, 100, 65_534, 65_535] {

@@ -1,12 +1,12 @@
 //! Random triples of texts. A random source is changed by lawful removals,
 //! swaps and insertions to a target, and the matching is kept along; then in
 //! most a fault is planted, in the moves, the events, the matching, the rooms
-//! or the bytes. Traces of form 2 are made from those of form 1 by zero lines, and
+//! or the bytes. Some have a list of registers, whose loads return anything. Traces of form 2 are made from those of form 1 by zero lines, and
 //! code lines at will; from them come moves between the forms, and writings in both.
 
 use crate::cases::Case;
 use crate::forms::{Move, Writing, PLENTY};
-use crate::peer::{self, order, Answer, Event, Form, Kind, Memory, Word, CELLS, EVENT_WORDS, MAX_EVENTS};
+use crate::peer::{self, order, Answer, Event, Form, Kind, Locations, Memory, Word, CELLS, EVENT_WORDS, MAX_EVENTS, MAX_REGISTERS, NO_LOCATIONS};
 use crate::random::Random;
 use crate::{rules, texts};
 
@@ -31,6 +31,8 @@ struct World {
     updates: &'static [Kind],
     /// One event in so many synchronises.
     sync_rarity: usize,
+    /// The locations that are registers; none in a world without a list.
+    listed: Option<Locations>,
 }
 
 fn shuffled<T: Copy>(random: &mut Random, items: &[T]) -> Vec<T> {
@@ -56,6 +58,30 @@ impl World {
             values,
             updates: if wide { &UPDATES } else { &UPDATES[..2] },
             sync_rarity: 3 + random.below(8),
+            listed: None,
+        }
+    }
+
+    /// A world with a list. It names no location of atomic use.
+    fn with_list(random: &mut Random) -> World {
+        let mut world = World::new(random);
+        let mut listed = NO_LOCATIONS;
+        for place in world.plain.iter().chain(&PLACES).filter(|place| !world.atomic.contains(place)) {
+            listed[usize::from(*place)] |= random.once_in(3);
+        }
+        world.listed = Some(listed);
+        world
+    }
+
+    fn listed(&self) -> &Locations {
+        self.listed.as_ref().unwrap_or(&NO_LOCATIONS)
+    }
+
+    /// What a load reads: of a register anything, else what the memory holds.
+    fn read(&self, random: &mut Random, memory: &Memory, place: u8) -> Word {
+        match self.listed()[usize::from(place)] {
+            true => random.pick(&self.values),
+            false => memory[usize::from(place)],
         }
     }
 
@@ -86,7 +112,7 @@ impl World {
         let place = random.pick(&self.plain);
         if random.once_in(2) {
             let mark = random.pick(&[order::USED, order::USED, order::UNUSED]);
-            Event { kind: Kind::Load, place, order: mark, first: memory[usize::from(place)], second: 0, code: 0 }
+            Event { kind: Kind::Load, place, order: mark, first: self.read(random, memory, place), second: 0, code: 0 }
         } else {
             Event { kind: Kind::Store, place, order: order::NONE, first: random.pick(&self.values), second: 0, code: 0 }
         }
@@ -125,6 +151,13 @@ fn step(memory: &mut Memory, event: &Event) {
     }
 }
 
+/// Whether triples have a list.
+#[derive(Clone, Copy)]
+pub enum Lists {
+    Without,
+    With,
+}
+
 /// A triple before it becomes texts. Each target event has its source number,
 /// 0 for none.
 struct Draft {
@@ -136,8 +169,11 @@ struct Draft {
 }
 
 impl Draft {
-    fn new(random: &mut Random, events: usize) -> Draft {
-        let world = World::new(random);
+    fn new(random: &mut Random, lists: Lists, events: usize) -> Draft {
+        let world = match lists {
+            Lists::Without => World::new(random),
+            Lists::With => World::with_list(random),
+        };
         let start = world.start(random);
         let mut memory = start;
         let mut source = vec![];
@@ -167,14 +203,14 @@ impl Draft {
 
     fn lawful_swap(&mut self, random: &mut Random) {
         let at = random.below(self.target.len().max(1));
-        if at + 1 < self.target.len() && rules::may_swap(&self.target, at) {
+        if at + 1 < self.target.len() && rules::may_swap(self.world.listed(), &self.target, at) {
             self.swap(at);
         }
     }
 
     fn lawful_removal(&mut self, random: &mut Random) {
         let at = random.below(self.target.len().max(1));
-        if at < self.target.len() && rules::may_remove(&self.target, at) {
+        if at < self.target.len() && rules::may_remove(self.world.listed(), &self.target, at) {
             self.remove(at);
         }
     }
@@ -183,7 +219,7 @@ impl Draft {
         let at = random.below(self.target.len() + 1);
         let place = random.pick(&self.world.plain);
         if self.target.len() < MAX_EVENTS {
-            if let Some(first) = rules::insertable_value(&self.target, at, place) {
+            if let Some(first) = rules::insertable_value(self.world.listed(), &self.target, at, place) {
                 let mark = random.pick(&[order::USED, order::UNUSED]);
                 self.insert(at, Event { kind: Kind::Load, place, order: mark, first, second: 0, code: 0 });
             }
@@ -255,12 +291,35 @@ impl Draft {
         entries
     }
 
-    /// The starting memory of the target, changed in one cell.
-    fn other_start(&self, random: &mut Random) -> Memory {
+    /// The starting memory of the target, which differs at will in registers.
+    fn target_start(&self, random: &mut Random) -> Memory {
         let mut start = self.start;
+        for (location, _) in self.world.listed().iter().enumerate().filter(|(_, &listed)| listed) {
+            if random.once_in(2) {
+                start[location] = random.pick(&self.world.values);
+            }
+        }
+        start
+    }
+
+    /// The same, changed in one cell besides.
+    fn other_start(&self, random: &mut Random) -> Memory {
+        let mut start = self.target_start(random);
         let place = random.pick(&[self.world.plain.as_slice(), &self.world.atomic, &PLACES].concat());
         start[usize::from(place)] = random.pick(self.world.all_values());
         start
+    }
+
+    fn list(&self) -> Option<Vec<u8>> {
+        self.world.listed.as_ref().map(texts::list_text)
+    }
+
+    /// One location more on the list, seldom one of atomic use.
+    fn list_one(&mut self, random: &mut Random) {
+        let place = random.pick(&[self.world.plain.as_slice(), &self.world.atomic, &PLACES].concat());
+        if let Some(listed) = &mut self.world.listed {
+            listed[usize::from(place)] = true;
+        }
     }
 }
 
@@ -339,6 +398,38 @@ pub fn disorder(random: &mut Random, text: &mut Vec<u8>) {
     *text = lines.concat();
 }
 
+/// Damage to a list: to its bytes, to the order of its lines, or lines up to about
+/// the most that it may have.
+fn damage_list(random: &mut Random, list: &mut Vec<u8>) {
+    let mut lines: Vec<Vec<u8>> = list.split_inclusive(|&byte| byte == b'\n').map(<[u8]>::to_vec).collect();
+    let [from, to] = [(); 2].map(|()| random.below(lines.len()));
+    match random.below(5) {
+        0 => return damage(random, list),
+        1 => lines.swap(from, to),
+        2 => lines.insert(from, lines[to].clone()),
+        3 => lines.insert(from, random.pick(&[b"reg\t256\n".as_slice(), b"reg\t07\n", b"reg\t7\t\n", b"regs\t1\n"]).to_vec()),
+        _ => {
+            let registers = MAX_REGISTERS - 1 + random.below(3);
+            lines.truncate(1);
+            lines.extend((0..registers).map(|location| format!("reg\t{}\n", 3 * location).into_bytes()));
+        }
+    }
+    *list = lines.concat();
+}
+
+/// A list that knows nothing of a trace, sometimes damaged.
+pub fn any_list(random: &mut Random) -> Vec<u8> {
+    let mut listed = NO_LOCATIONS;
+    for place in PLACES {
+        listed[usize::from(place)] = random.once_in(2);
+    }
+    let mut list = texts::list_text(&listed);
+    if random.once_in(6) {
+        damage_list(random, &mut list);
+    }
+    list
+}
+
 /// Code lines of one to five digits, often the one that form 1 does not lose.
 fn code(random: &mut Random) -> u32 {
     random.pick(&[0, 0, 0, 0, 1, 7, 9, 10, 99, 100, 999, 1_000, 9_999, 10_000, 65_534, 65_535])
@@ -381,8 +472,8 @@ pub fn damage_starts(random: &mut Random, text: &mut Vec<u8>) {
 }
 
 /// A triple of any sort, each of its traces in one of the forms.
-pub fn mixed_case(random: &mut Random) -> Case {
-    let mut case = case(random);
+pub fn mixed_case(random: &mut Random, lists: Lists) -> Case {
+    let mut case = case(random, lists);
     for text in [&mut case.source, &mut case.target] {
         if random.once_in(2) {
             add_codes(random, text);
@@ -407,22 +498,23 @@ fn size(random: &mut Random) -> usize {
 }
 
 /// A triple that every rule allows.
-pub fn lawful_case(random: &mut Random, events: usize) -> Case {
-    let mut draft = Draft::new(random, events);
+pub fn lawful_case(random: &mut Random, lists: Lists, events: usize) -> Case {
+    let mut draft = Draft::new(random, lists, events);
     draft.change(random);
     let entries = draft.entries();
     Case {
+        list: draft.list(),
         source: texts::trace_text(&draft.start, &draft.source),
-        target: texts::trace_text(&draft.start, &draft.target),
+        target: texts::trace_text(&draft.target_start(random), &draft.target),
         matching: texts::matching_text(&entries),
         rooms: fitting_rooms(random, [draft.source.len(), draft.target.len(), entries.len()]),
     }
 }
 
 /// A triple with a fault planted, which may turn out to be none.
-pub fn faulty_case(random: &mut Random) -> Case {
+pub fn faulty_case(random: &mut Random, lists: Lists) -> Case {
     let events = size(random);
-    let mut draft = Draft::new(random, events);
+    let mut draft = Draft::new(random, lists, events);
     draft.change(random);
     let fault = random.below(16);
     match fault {
@@ -434,9 +526,10 @@ pub fn faulty_case(random: &mut Random) -> Case {
     if (9..=10).contains(&fault) {
         change_entries(random, &mut entries, draft.target.len());
     }
-    let target_start = if fault == 11 { draft.other_start(random) } else { draft.start };
+    let target_start = if fault == 11 { draft.other_start(random) } else { draft.target_start(random) };
     let needs = [draft.source.len(), draft.target.len(), entries.len()];
     let mut case = Case {
+        list: draft.list(),
         source: texts::trace_text(&draft.start, &draft.source),
         target: texts::trace_text(&target_start, &draft.target),
         matching: texts::matching_text(&entries),
@@ -449,6 +542,16 @@ pub fn faulty_case(random: &mut Random) -> Case {
         14 => disorder(random, text),
         15 => case.rooms[side] = random.below(needs[side].max(1)),
         _ => {}
+    }
+    if let Some(list) = &mut case.list {
+        match random.below(8) {
+            0 => damage_list(random, list),
+            1 => {
+                draft.list_one(random);
+                *list = draft.list().expect("a world with a list");
+            }
+            _ => {}
+        }
     }
     case
 }
@@ -473,17 +576,17 @@ pub fn bytes_needed(refused: Answer) -> usize {
 }
 
 /// A move of a text, mostly to the form that it has not.
-pub fn move_of(random: &mut Random, text: &[u8]) -> Move {
+pub fn move_of(random: &mut Random, list: Option<&[u8]>, text: &[u8]) -> Move {
     let to = match (peer::form_of(text), random.once_in(8)) {
         (Form::One, false) | (Form::Two, true) => Form::Two,
         _ => Form::One,
     };
-    let needed = bytes_needed(peer::move_to(to, text, &mut []));
-    Move { to, text: text.to_vec(), bytes: bytes_for(random, needed) }
+    let needed = bytes_needed(peer::move_to(list, to, text, &mut []));
+    Move { list: list.map(<[u8]>::to_vec), to, text: text.to_vec(), bytes: bytes_for(random, needed) }
 }
 
 /// A writing of a lawful trace in one of the forms, often with one word changed.
-pub fn writing_of(random: &mut Random, text: &[u8], events: usize) -> Writing {
+pub fn writing_of(random: &mut Random, list: Option<&[u8]>, text: &[u8], events: usize) -> Writing {
     let form = random.pick(&[Form::One, Form::Two]);
     let words = match random.below(12) {
         0 => random.below(events * EVENT_WORDS + EVENT_WORDS),
@@ -494,19 +597,19 @@ pub fn writing_of(random: &mut Random, text: &[u8], events: usize) -> Writing {
         let at = if random.once_in(2) { code } else { random.below(words) };
         (at, random.pick(&[0, 1, 2, 7, 9, 255, 256, 65_535, 65_536, Word::from(u32::MAX), 1 << 32, Word::MAX]))
     });
-    let mut writing = Writing { form, text: text.to_vec(), words, change, bytes: 0 };
+    let mut writing = Writing { list: list.map(<[u8]>::to_vec), form, text: text.to_vec(), words, change, bytes: 0 };
     let (memory, words) = writing.read();
-    let needed = bytes_needed(peer::write_trace(form, &memory, &words, &mut []));
+    let needed = bytes_needed(peer::write_trace(list, form, &memory, &words, &mut []));
     writing.bytes = bytes_for(random, needed);
     writing
 }
 
 /// A triple of any sort, of traces of form 1.
-pub fn case(random: &mut Random) -> Case {
+pub fn case(random: &mut Random, lists: Lists) -> Case {
     if random.once_in(8) {
         let events = size(random);
-        lawful_case(random, events)
+        lawful_case(random, lists, events)
     } else {
-        faulty_case(random)
+        faulty_case(random, lists)
     }
 }

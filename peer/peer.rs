@@ -1,5 +1,8 @@
 //! Reading, writing and checking of traces and matchings, in ordinary safe Rust.
 //!
+//! Each call but that of a matching has a list of device registers or none, which
+//! is read first; without one no location is listed.
+//!
 //! A text is parsed once, into a compact buffer of its own, because a refused
 //! call must leave the lent rooms as they were. Only when every text of the
 //! call has been found lawful are the buffers copied to the rooms. The check
@@ -12,12 +15,16 @@
 
 /// The longest matching, in bytes.
 pub const MAX_MATCHING: usize = 32_400;
+/// The longest list, in bytes.
+pub const MAX_LIST: usize = 32_400;
 /// The longest trace of form 1, in bytes.
 pub const MAX_TEXT: usize = 52_500;
 /// The longest trace of form 2, in bytes.
 pub const MAX_CODED_TEXT: usize = 57_300;
 /// The most events of a trace, and the most entries of a matching.
 pub const MAX_EVENTS: usize = 800;
+/// The most registers of a list.
+pub const MAX_REGISTERS: usize = 32;
 /// Locations are numbered 0 to 255, and so are mutexes.
 pub const CELLS: usize = 256;
 /// An event in a room is this many words.
@@ -40,6 +47,7 @@ const TAB: u8 = b'\t';
 const LF: u8 = b'\n';
 
 const MATCHING_HEADER: &[u8] = b"match\t1\n";
+const LIST_HEADER: &[u8] = b"regs\t1\n";
 
 /// The number of an answer.
 pub mod number {
@@ -65,6 +73,7 @@ pub mod number {
     pub const CODE_LOST: u32 = 19;
     pub const START_MISSING: u32 = 20;
     pub const IDLE_ZERO: u32 = 21;
+    pub const LIST_OUT_OF_ORDER: u32 = 22;
 }
 
 /// The side of an answer.
@@ -73,6 +82,7 @@ pub mod side {
     pub const SOURCE: u32 = 1;
     pub const TARGET: u32 = 2;
     pub const MATCHING: u32 = 3;
+    pub const LIST: u32 = 4;
 }
 
 /// What stands in the order word of an event.
@@ -140,9 +150,9 @@ pub type Memory = [Word; CELLS];
 const ZERO_MEMORY: Memory = [0; CELLS];
 
 /// A set of locations.
-type Locations = [bool; CELLS];
+pub type Locations = [bool; CELLS];
 
-const NO_LOCATIONS: Locations = [false; CELLS];
+pub const NO_LOCATIONS: Locations = [false; CELLS];
 
 #[derive(Clone, Copy, Debug, PartialEq, Eq)]
 pub struct Answer {
@@ -158,6 +168,13 @@ impl Answer {
     fn new(number: u32, side: u32, place: usize) -> Answer {
         Answer { number, side, place: place as u32 }
     }
+}
+
+/// The locations that a list names; none under a refusal.
+#[derive(Clone, Debug, PartialEq, Eq)]
+pub struct ListRead {
+    pub answer: Answer,
+    pub listed: Locations,
 }
 
 #[derive(Clone, Debug, PartialEq, Eq)]
@@ -307,7 +324,29 @@ pub struct Event {
     pub code: u16,
 }
 
+/// What the rules see of an event: a plain access, or one that synchronises.
+#[derive(Clone, Copy, PartialEq, Eq)]
+enum Seen {
+    Load,
+    Store,
+    Wall,
+}
+
 impl Event {
+    /// Whether it is a plain access to a location that is not listed. One to a
+    /// listed location counts as synchronising.
+    pub fn is_plain(self, listed: &Locations) -> bool {
+        self.kind.is_plain() && !listed[usize::from(self.place)]
+    }
+
+    fn seen(self, listed: &Locations) -> Seen {
+        match self.kind {
+            Kind::Load if self.is_plain(listed) => Seen::Load,
+            Kind::Store if self.is_plain(listed) => Seen::Store,
+            _ => Seen::Wall,
+        }
+    }
+
     /// The six words of the event in a room.
     pub fn words(self) -> [Word; EVENT_WORDS] {
         [self.kind as Word, self.place.into(), self.order.into(), self.first, self.second, self.code.into()]
@@ -525,6 +564,12 @@ impl<'a> Cursor<'a> {
             _ => None,
         }
     }
+
+    /// A whole line of a list with its LF: the location.
+    fn register(&mut self) -> Option<u8> {
+        self.rest = self.rest.strip_prefix(b"reg\t")?;
+        self.place(LF)
+    }
 }
 
 /// Answer 1.
@@ -540,6 +585,41 @@ fn body<'a>(text: &'a [u8], header: &[u8], form: Form, side: u32) -> Result<Curs
     match text.strip_prefix(header) {
         Some(rest) => Ok(Cursor { rest, form }),
         None => Err(Answer::new(number::BAD_LINE, side, 1)),
+    }
+}
+
+/// Answers 1, 2 and 22 of a list.
+fn parse_list(text: &[u8]) -> Result<Locations, Answer> {
+    within(MAX_LIST, text, side::LIST)?;
+    let mut cursor = body(text, LIST_HEADER, Form::One, side::LIST)?;
+    let mut listed = NO_LOCATIONS;
+    let mut registers = 0;
+    let mut next_location = 0;
+    while !cursor.rest.is_empty() {
+        let line = registers + 2;
+        let Some(location) = cursor.register().map(usize::from) else {
+            return Err(Answer::new(number::BAD_LINE, side::LIST, line));
+        };
+        if location < next_location || registers == MAX_REGISTERS {
+            return Err(Answer::new(number::LIST_OUT_OF_ORDER, side::LIST, line));
+        }
+        listed[location] = true;
+        next_location = location + 1;
+        registers += 1;
+    }
+    Ok(listed)
+}
+
+/// The locations that the list of a call names. A call without one lists none.
+fn registers(list: Option<&[u8]>) -> Result<Locations, Answer> {
+    list.map_or(Ok(NO_LOCATIONS), parse_list)
+}
+
+/// Reads a list alone.
+pub fn read_list(text: &[u8]) -> ListRead {
+    match parse_list(text) {
+        Ok(listed) => ListRead { answer: Answer::DONE, listed },
+        Err(answer) => ListRead { answer, listed: NO_LOCATIONS },
     }
 }
 
@@ -610,10 +690,11 @@ fn cover(lines: &Lines, memory: &Memory, side: u32) -> Result<(), Answer> {
 const PLAIN_USE: u8 = 1;
 const ATOMIC_USE: u8 = 2;
 
-/// Answers 5 and 6: the events one by one against the latest values.
-fn replay(start: &Memory, events: &[Event], side: u32) -> Result<(), Answer> {
+/// Answers 5 and 6: the events one by one against the latest values. A listed
+/// location is one of plain use from the start, and may hold any value.
+fn replay(listed: &Locations, start: &Memory, events: &[Event], side: u32) -> Result<(), Answer> {
     let mut cells = *start;
-    let mut uses = [0u8; CELLS];
+    let mut uses = listed.map(|listed| if listed { PLAIN_USE } else { 0 });
     for (index, event) in events.iter().enumerate() {
         let (usage, reads, after) = match event.kind {
             Kind::Load => (PLAIN_USE, true, event.first),
@@ -630,7 +711,7 @@ fn replay(start: &Memory, events: &[Event], side: u32) -> Result<(), Answer> {
         if uses[place] == PLAIN_USE | ATOMIC_USE {
             return Err(Answer::new(number::MIXED_USE, side, index + 1));
         }
-        if reads && cells[place] != event.first {
+        if reads && cells[place] != event.first && !listed[place] {
             return Err(Answer::new(number::NOT_LATEST, side, index + 1));
         }
         cells[place] = after;
@@ -639,18 +720,18 @@ fn replay(start: &Memory, events: &[Event], side: u32) -> Result<(), Answer> {
 }
 
 /// Answers 1 to 6, 20 and 21 of a trace.
-fn parse(text: &[u8], side: u32, memory: &mut Memory) -> Result<Vec<Event>, Answer> {
+fn parse(listed: &Locations, text: &[u8], side: u32, memory: &mut Memory) -> Result<Vec<Event>, Answer> {
     let lines = parse_lines(text, side, memory)?;
     if form_of(text) == Form::Two {
         cover(&lines, memory, side)?;
     }
-    replay(memory, &lines.events, side)?;
+    replay(listed, memory, &lines.events, side)?;
     Ok(lines.events)
 }
 
 /// All answers of a trace, for a room of `room` words.
-fn parse_trace(text: &[u8], side: u32, room: usize, memory: &mut Memory) -> Result<Vec<Event>, Answer> {
-    let events = parse(text, side, memory)?;
+fn parse_trace(listed: &Locations, text: &[u8], side: u32, room: usize, memory: &mut Memory) -> Result<Vec<Event>, Answer> {
+    let events = parse(listed, text, side, memory)?;
     if room / EVENT_WORDS < events.len() {
         return Err(Answer::new(number::ROOM_TOO_SHORT, side, events.len()));
     }
@@ -694,9 +775,10 @@ fn store_entries(entries: &[u16], room: &mut [Entry]) {
 }
 
 /// Reads a trace alone.
-pub fn read_trace(text: &[u8], room: &mut [Word]) -> TraceRead {
+pub fn read_trace(list: Option<&[u8]>, text: &[u8], room: &mut [Word]) -> TraceRead {
     let mut read = TraceRead { answer: Answer::DONE, events: 0, memory: ZERO_MEMORY };
-    match parse_trace(text, side::SOURCE, room.len(), &mut read.memory) {
+    let parsed = registers(list).and_then(|listed| parse_trace(&listed, text, side::SOURCE, room.len(), &mut read.memory));
+    match parsed {
         Ok(events) => {
             store_events(&events, room);
             read.events = events.len();
@@ -844,9 +926,10 @@ fn unpack(room: &[Word]) -> Result<Vec<Event>, Answer> {
 
 /// Writes the text of the events in a part of a room, with `init` lines made
 /// from the starting memory.
-pub fn write_trace(form: Form, memory: &Memory, room: &[Word], out: &mut [u8]) -> Answer {
-    wrote(unpack(room).and_then(|events| {
-        replay(memory, &events, side::NONE)?;
+pub fn write_trace(list: Option<&[u8]>, form: Form, memory: &Memory, room: &[Word], out: &mut [u8]) -> Answer {
+    wrote(registers(list).and_then(|listed| {
+        let events = unpack(room)?;
+        replay(&listed, memory, &events, side::NONE)?;
         keep_codes(form, &events, side::NONE)?;
         put(&render(form, memory, &events), out)
     }))
@@ -856,18 +939,18 @@ pub fn write_trace(form: Form, memory: &Memory, room: &[Word], out: &mut [u8]) -
 
 /// Writes the text of a trace in the other form. A text that has the wanted
 /// form already has not the first line that the move wants.
-pub fn move_to(to: Form, text: &[u8], out: &mut [u8]) -> Answer {
+pub fn move_to(list: Option<&[u8]>, to: Form, text: &[u8], out: &mut [u8]) -> Answer {
     let mut memory = ZERO_MEMORY;
     let form = form_of(text);
-    let moved = within(form.limit(), text, side::SOURCE).and_then(|()| {
+    wrote(registers(list).and_then(|listed| {
+        within(form.limit(), text, side::SOURCE)?;
         if form == to {
             return Err(Answer::new(number::BAD_LINE, side::SOURCE, 1));
         }
-        let events = parse(text, side::SOURCE, &mut memory)?;
+        let events = parse(&listed, text, side::SOURCE, &mut memory)?;
         keep_codes(to, &events, side::SOURCE)?;
         put(&render(to, &memory, &events), out)
-    });
-    wrote(moved)
+    }))
 }
 
 // ----------------------------------------------------------------- checking
@@ -893,12 +976,12 @@ impl Indices {
     }
 }
 
-/// Answer 7.
-fn compare_starts(source: &Memory, target: &Memory) -> Result<(), Answer> {
+/// Answer 7, which listed locations are no matter of.
+fn compare_starts(listed: &Locations, source: &Memory, target: &Memory) -> Result<(), Answer> {
     if source == target {
         return Ok(());
     }
-    match source.iter().zip(target).position(|(a, b)| a != b) {
+    match (0..CELLS).find(|&location| source[location] != target[location] && !listed[location]) {
         Some(location) => Err(Answer::new(number::STARTS_DIFFER, side::TARGET, location)),
         None => Ok(()),
     }
@@ -926,26 +1009,26 @@ fn match_up(source_events: usize, target_events: usize, entries: &[u16]) -> Resu
 
 /// The source stores, by index, whose next access in the stretch that is a
 /// store or is kept is not a store: *closing*, should they be gone.
-fn closing_stores(source: &[Event], entries: &[u16]) -> Indices {
+fn closing_stores(listed: &Locations, source: &[Event], entries: &[u16]) -> Indices {
     let mut closing = Indices::EMPTY;
     // The stretch in which the next access that decides is a store.
     let mut store_follows = [0u16; CELLS];
     let mut stretch = 1u16;
     for (index, (event, &entry)) in source.iter().zip(entries).enumerate().rev() {
         let place = usize::from(event.place);
-        match event.kind {
-            Kind::Store => {
+        match event.seen(listed) {
+            Seen::Store => {
                 if store_follows[place] != stretch {
                     closing.insert(index);
                 }
                 store_follows[place] = stretch;
             }
-            Kind::Load => {
+            Seen::Load => {
                 if entry != 0 {
                     store_follows[place] = 0;
                 }
             }
-            _ => stretch += 1,
+            Seen::Wall => stretch += 1,
         }
     }
     closing
@@ -969,6 +1052,7 @@ const UNTOUCHED: [Spot; CELLS] = [Spot { highest: 0, stretch: 0, witnessed: fals
 
 /// Answers 10 to 14.
 struct SourceJudge<'a> {
+    listed: &'a Locations,
     target: &'a [Event],
     closing: Indices,
     spots: [Spot; CELLS],
@@ -1033,20 +1117,21 @@ impl SourceJudge<'_> {
     }
 
     fn event(&mut self, index: usize, event: Event, entry: u16) -> Result<(), u32> {
-        match (event.kind, entry) {
-            (Kind::Load, 0) => self.remove_load(event),
-            (Kind::Store, 0) => self.remove_store(event, index),
-            (Kind::Load | Kind::Store, _) => self.keep_plain(event, entry),
-            (_, 0) => Err(number::SYNC_GONE),
-            (_, _) => self.keep_sync(event, entry),
+        match (event.seen(self.listed), entry) {
+            (Seen::Load, 0) => self.remove_load(event),
+            (Seen::Store, 0) => self.remove_store(event, index),
+            (Seen::Load | Seen::Store, _) => self.keep_plain(event, entry),
+            (Seen::Wall, 0) => Err(number::SYNC_GONE),
+            (Seen::Wall, _) => self.keep_sync(event, entry),
         }
     }
 }
 
-fn judge_source(source: &[Event], target: &[Event], entries: &[u16]) -> Result<(), Answer> {
+fn judge_source(listed: &Locations, source: &[Event], target: &[Event], entries: &[u16]) -> Result<(), Answer> {
     let mut judge = SourceJudge {
+        listed,
         target,
-        closing: closing_stores(source, entries),
+        closing: closing_stores(listed, source, entries),
         spots: UNTOUCHED,
         stretch: 1,
         highest: 0,
@@ -1060,26 +1145,24 @@ fn judge_source(source: &[Event], target: &[Event], entries: &[u16]) -> Result<(
     Ok(())
 }
 
-/// Answers 15 and 16.
-fn judge_target(target: &[Event], matched: &Indices) -> Result<(), Answer> {
+/// Answers 15 and 16: of what may not be inserted a load is 16, any other 15.
+fn judge_target(listed: &Locations, target: &[Event], matched: &Indices) -> Result<(), Answer> {
     // The stretch in which a location was last accessed.
     let mut touched = [0u16; CELLS];
     let mut stretch = 1u16;
     for (index, event) in target.iter().enumerate() {
         let place = usize::from(event.place);
-        if !matched.contains(index) {
-            if event.kind != Kind::Load {
-                return Err(Answer::new(number::NOT_A_LOAD, side::TARGET, index + 1));
-            }
-            // A lawful trace gives the load the value of the near access.
-            if touched[place] != stretch {
-                return Err(Answer::new(number::NOTHING_NEAR, side::TARGET, index + 1));
-            }
+        let seen = event.seen(listed);
+        // A lawful trace gives a load the value of the near access.
+        let insertable = seen == Seen::Load && touched[place] == stretch;
+        if !matched.contains(index) && !insertable {
+            let number = if event.kind == Kind::Load { number::NOTHING_NEAR } else { number::NOT_A_LOAD };
+            return Err(Answer::new(number, side::TARGET, index + 1));
         }
-        if event.kind.is_plain() {
-            touched[place] = stretch;
-        } else {
+        if seen == Seen::Wall {
             stretch += 1;
+        } else {
+            touched[place] = stretch;
         }
     }
     Ok(())
@@ -1088,6 +1171,7 @@ fn judge_target(target: &[Event], matched: &Indices) -> Result<(), Answer> {
 /// Checks a matching between a source and a target trace. A room of events
 /// holds one event in six words; a room of entries one entry in a word.
 pub fn check(
+    list: Option<&[u8]>,
     source: &[u8],
     target: &[u8],
     matching: &[u8],
@@ -1096,11 +1180,15 @@ pub fn check(
     entry_room: &mut [Entry],
 ) -> Checked {
     let mut checked = Checked::refused(Answer::DONE);
-    let source = match parse_trace(source, side::SOURCE, source_room.len(), &mut checked.source_memory) {
+    let listed = match registers(list) {
+        Ok(listed) => listed,
+        Err(answer) => return Checked::refused(answer),
+    };
+    let source = match parse_trace(&listed, source, side::SOURCE, source_room.len(), &mut checked.source_memory) {
         Ok(events) => events,
         Err(answer) => return Checked::refused(answer),
     };
-    let target = match parse_trace(target, side::TARGET, target_room.len(), &mut checked.target_memory) {
+    let target = match parse_trace(&listed, target, side::TARGET, target_room.len(), &mut checked.target_memory) {
         Ok(events) => events,
         Err(answer) => return Checked::refused(answer),
     };
@@ -1114,11 +1202,11 @@ pub fn check(
     checked.source_events = source.len();
     checked.target_events = target.len();
     checked.entries = entries.len();
-    let judged = compare_starts(&checked.source_memory, &checked.target_memory)
+    let judged = compare_starts(&listed, &checked.source_memory, &checked.target_memory)
         .and_then(|()| match_up(source.len(), target.len(), &entries))
         .and_then(|matched| {
-            judge_source(&source, &target, &entries)?;
-            judge_target(&target, &matched)
+            judge_source(&listed, &source, &target, &entries)?;
+            judge_target(&listed, &target, &matched)
         });
     if let Err(answer) = judged {
         checked.answer = answer;

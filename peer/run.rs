@@ -21,6 +21,7 @@ mod texts;
 #[allow(dead_code)]
 mod zeros;
 
+use generate::Lists;
 use peer::{offending_line, EVENT_WORDS, MAX_EVENTS};
 use random::Random;
 use std::io::Write;
@@ -28,7 +29,7 @@ use std::process::{exit, Command};
 
 /// What is printed of three texts, and how many steps it has.
 fn printed(texts: [&[u8]; 3]) -> Result<(Vec<u8>, usize), String> {
-    let run = steps::run(texts)?;
+    let run = steps::run(None, texts)?;
     let answer = run.answer;
     let word = if answer.number == 0 { "accepted" } else { "refused" };
     let mut out = format!("{word}\t{}\t{}\t{}\n", answer.number, answer.side, answer.place).into_bytes();
@@ -44,9 +45,9 @@ fn printed(texts: [&[u8]; 3]) -> Result<(Vec<u8>, usize), String> {
 /// The replay of the steps that another program printed.
 fn replayed(source: &[u8], target: &[u8], lines: &[u8]) -> Result<(), String> {
     let mut room = vec![0; MAX_EVENTS * EVENT_WORDS];
-    let count = peer::read_trace(source, &mut room).events;
+    let count = peer::read_trace(None, source, &mut room).events;
     let source = steps::events(&room, count);
-    let count = peer::read_trace(target, &mut room).events;
+    let count = peer::read_trace(None, target, &mut room).events;
     let target = steps::events(&room, count);
     let number = |field: &str| field.parse::<usize>().map_err(|_| format!("no number: {field}"));
     let mut steps = Vec::new();
@@ -59,7 +60,7 @@ fn replayed(source: &[u8], target: &[u8], lines: &[u8]) -> Result<(), String> {
             word => return Err(format!("no step: {word}")),
         });
     }
-    steps::replay(&source, &target, &steps)
+    steps::replay(&peer::NO_LOCATIONS, &source, &target, &steps)
 }
 
 /// One case, beside the other program.
@@ -89,7 +90,7 @@ fn beside(program: &str, count: usize, seed: u64) -> Result<(), String> {
     }
     for index in 0..count {
         let events = 1 + random.below(if index % 16 == 0 { MAX_EVENTS } else { 40 });
-        let case = if index % 4 == 3 { generate::faulty_case(&mut random) } else { generate::lawful_case(&mut random, events) };
+        let case = if index % 4 == 3 { generate::faulty_case(&mut random, Lists::Without) } else { generate::lawful_case(&mut random, Lists::Without, events) };
         steps += compared(program, case.texts())?;
     }
     println!("{} known and {count} random cases, {steps} steps: the same", known.len());

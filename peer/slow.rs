@@ -6,7 +6,10 @@
 //! 20 and 21 are found on the lines as they stand. A text that document 01 reads
 //! otherwise than document 02 does, by a value of more than 32 bits, an `add64`
 //! or a length between the limits of both, is not put to it: there is no slow
-//! answer then.
+//! answer then. Document 01 has no registers. Under a list each access to one is put
+//! to it as an atomic store, which synchronises and whose value is not asked about,
+//! and the starts of registers are left out; 5 of a register, and 16 for 15 of its
+//! load, are found here.
 
 use crate::naive::{self, Trace, Triple};
 
@@ -14,8 +17,10 @@ const FORM_1: &[u8] = b"trace\t1\n";
 const FORM_2: &[u8] = b"trace\t2\n";
 const FORM_1_LIMIT: usize = 52_500;
 const FORM_2_LIMIT: usize = 57_300;
-/// The limit of document 01.
+/// The limit of document 01, and of lists.
 const OLD_LIMIT: usize = 32_400;
+/// The most registers of a list.
+const MOST_REGISTERS: usize = 32;
 
 /// What is left of a trace text for document 01.
 struct Plain {
@@ -25,6 +30,81 @@ struct Plain {
     text: Vec<u8>,
     /// The code lines of the events.
     codes: Vec<u32>,
+}
+
+/// What is left of that under a list.
+struct Walled {
+    text: Vec<u8>,
+    codes: Vec<u32>,
+    /// The starts of registers, which the text lacks.
+    starts: Vec<(usize, u64)>,
+    /// The kind and the order word of each event that is a register's.
+    accesses: Vec<Option<[u64; 2]>>,
+    /// The first event that uses a register atomically.
+    atomic: Option<u32>,
+}
+
+/// The locations that a list names, as texts; its refusal.
+fn listed(list: Option<&[u8]>) -> Result<Vec<String>, Triple> {
+    let Some(list) = list else {
+        return Ok(vec![]);
+    };
+    if list.len() > OLD_LIMIT {
+        return Err((1, 4, 0));
+    }
+    let list = String::from_utf8_lossy(list).into_owned();
+    let lines: Vec<&str> = list.split_inclusive('\n').collect();
+    if lines.first() != Some(&"regs\t1\n") {
+        return Err((2, 4, 1));
+    }
+    let mut listed: Vec<usize> = vec![];
+    for (index, line) in lines.iter().enumerate().skip(1) {
+        let place = index as u32 + 1;
+        let Some(location) = (0..256).find(|location| *line == format!("reg\t{location}\n")) else {
+            return Err((2, 4, place));
+        };
+        if listed.iter().any(|&earlier| earlier >= location) || listed.len() == MOST_REGISTERS {
+            return Err((22, 4, place));
+        }
+        listed.push(location);
+    }
+    Ok(listed.iter().map(usize::to_string).collect())
+}
+
+/// A text for document 01 with walls for registers. Lines that are not of the layout
+/// stay: the text is asked about no more where there is one.
+fn walled(plain: &Plain, listed: &[String]) -> Walled {
+    let mut walled = Walled { text: FORM_1.to_vec(), codes: plain.codes.clone(), starts: vec![], accesses: vec![], atomic: None };
+    for fields in fields(&plain.text) {
+        let words: Vec<&str> = fields.iter().map(String::as_str).collect();
+        let listed = words.get(1).is_some_and(|location| listed.iter().any(|listed| listed == location));
+        let mut line = fields.join("\t");
+        let mut access = None;
+        match words[..] {
+            ["init", location, value] if listed => {
+                walled.starts.extend(location.parse().ok().zip(value.parse().ok()));
+                continue;
+            }
+            ["load", location, value, mark] if listed => {
+                line = format!("astore\t{location}\trlx\t{value}");
+                access = Some([1, if mark == "used" { 6 } else { 7 }]);
+            }
+            ["store", location, value] if listed => {
+                line = format!("astore\t{location}\trel\t{value}");
+                access = Some([2, 0]);
+            }
+            ["aload" | "astore" | "rmw" | "add", ..] if listed => {
+                walled.atomic = walled.atomic.or(Some(walled.accesses.len() as u32 + 1));
+            }
+            _ => {}
+        }
+        if words[0] != "init" {
+            walled.accesses.push(access);
+        }
+        walled.text.extend_from_slice(line.as_bytes());
+        walled.text.push(b'\n');
+    }
+    walled
 }
 
 impl Plain {
@@ -114,12 +194,17 @@ fn old(text: &[u8]) -> Option<Plain> {
     (within && !wide).then_some(plain)
 }
 
-fn stored(trace: Trace, codes: &[u32]) -> Stored {
-    let with_code = |(row, &code): (&naive::Row, &u32)| {
-        let [kind, place, order, first, second, _] = row.words();
-        [kind, place, order, first, second, code].map(u64::from)
-    };
-    Stored { words: trace.rows.iter().zip(codes).flat_map(with_code).collect(), start: trace.start.map(u64::from) }
+fn stored(trace: Trace, walled: &Walled) -> Stored {
+    let words = trace.rows.iter().enumerate().flat_map(|(index, row)| {
+        let [kind, place, order, first, second, _] = row.words().map(u64::from);
+        let [kind, order] = walled.accesses[index].unwrap_or([kind, order]);
+        [kind, place, order, first, second, walled.codes[index].into()]
+    });
+    let mut start = trace.start.map(u64::from);
+    for &(location, value) in &walled.starts {
+        start[location] = value;
+    }
+    Stored { words: words.collect(), start }
 }
 
 /// The fields of each line of a lawful text after the first.
@@ -154,30 +239,55 @@ fn uncovered(text: &[u8], side: u32) -> Option<Triple> {
 }
 
 /// The refusal of a trace, for a room of so many events.
-fn refusal(text: &[u8], plain: &Plain, side: u32, room: usize) -> Option<Triple> {
+fn refusal(text: &[u8], plain: &Plain, walled: &Walled, side: u32, room: usize) -> Option<Triple> {
     match naive::read_trace(&plain.lines, side, room) {
         Err(answer) if answer.0 <= 4 => return Some(answer),
         _ => {}
     }
     let uncovered = if is_form_2(text) { uncovered(text, side) } else { None };
-    uncovered.or(naive::read_trace(&plain.text, side, room).err())
+    if uncovered.is_some() {
+        return uncovered;
+    }
+    let refused = naive::read_trace(&walled.text, side, room).err();
+    match (walled.atomic, refused) {
+        (Some(event), Some((5 | 6, _, earlier))) if earlier < event => refused,
+        (Some(event), _) => Some((5, side, event)),
+        (None, _) => refused,
+    }
+}
+
+/// What a register's load without a source is: 16, as of every load.
+fn inserted(answer: Triple, target: &Walled) -> Triple {
+    match answer {
+        (15, 2, event) if matches!(target.accesses[event as usize - 1], Some([1, _])) => (16, 2, event),
+        _ => answer,
+    }
 }
 
 /// The check of source, target and matching text, for rooms of so many events,
 /// events and entries.
-pub fn check([source, target, matching]: [&[u8]; 3], rooms: [usize; 3]) -> Option<Outcome> {
+pub fn check(list: Option<&[u8]>, [source, target, matching]: [&[u8]; 3], rooms: [usize; 3]) -> Option<Outcome> {
+    let refused = |answer| Some(Outcome { answer, line: naive::offending_line(source, target, answer), stored: None });
+    let listed = match listed(list) {
+        Ok(listed) => listed,
+        Err(answer) => return refused(answer),
+    };
     let (plain_source, plain_target) = (old(source)?, old(target)?);
-    let refused = refusal(source, &plain_source, 1, rooms[0]).or_else(|| refusal(target, &plain_target, 2, rooms[1]));
-    if let Some(answer) = refused {
-        return Some(Outcome { answer, line: naive::offending_line(source, target, answer), stored: None });
+    let walls = [&plain_source, &plain_target].map(|plain| walled(plain, &listed));
+    if walls.iter().any(|walled| walled.text.len() > OLD_LIMIT) {
+        return None;
     }
-    let outcome = naive::check([&plain_source.text, &plain_target.text, matching], rooms);
+    let [source_walls, target_walls] = &walls;
+    let first = refusal(source, &plain_source, source_walls, 1, rooms[0]);
+    if let Some(answer) = first.or_else(|| refusal(target, &plain_target, target_walls, 2, rooms[1])) {
+        return refused(answer);
+    }
+    let outcome = naive::check([&source_walls.text, &target_walls.text, matching], rooms);
+    let answer = inserted(outcome.answer, target_walls);
     Some(Outcome {
-        answer: outcome.answer,
-        line: naive::offending_line(source, target, outcome.answer),
-        stored: outcome.stored.map(|(first, second, entries)| {
-            (stored(first, &plain_source.codes), stored(second, &plain_target.codes), entries)
-        }),
+        answer,
+        line: naive::offending_line(source, target, answer),
+        stored: outcome.stored.map(|(first, second, entries)| (stored(first, source_walls), stored(second, target_walls), entries)),
     })
 }
 
@@ -202,8 +312,12 @@ fn with_zeros(text: &[u8]) -> Vec<u8> {
 }
 
 /// The answer to a move into so many bytes, and the text that it writes.
-pub fn moved(to_form_2: bool, text: &[u8], bytes: usize) -> Option<(Triple, Vec<u8>)> {
+pub fn moved(list: Option<&[u8]>, to_form_2: bool, text: &[u8], bytes: usize) -> Option<(Triple, Vec<u8>)> {
     let refused = |answer| Some((answer, vec![]));
+    let listed = match listed(list) {
+        Ok(listed) => listed,
+        Err(answer) => return refused(answer),
+    };
     if is_over(text) {
         return refused((1, 1, 0));
     }
@@ -211,7 +325,11 @@ pub fn moved(to_form_2: bool, text: &[u8], bytes: usize) -> Option<(Triple, Vec<
         return refused((2, 1, 1));
     }
     let plain = old(text)?;
-    if let Some(answer) = refusal(text, &plain, 1, usize::MAX) {
+    let walled = walled(&plain, &listed);
+    if walled.text.len() > OLD_LIMIT {
+        return None;
+    }
+    if let Some(answer) = refusal(text, &plain, &walled, 1, usize::MAX) {
         return refused(answer);
     }
     if let Some(event) = plain.codes.iter().position(|&code| code != 0) {

@@ -19,6 +19,7 @@ mod rules;
 mod texts;
 
 use cases::Case;
+use generate::Lists;
 use peer::{Entry, Form, Memory, Word, CELLS, EVENT_WORDS, MAX_CODED_TEXT, MAX_EVENTS};
 use random::Random;
 use std::arch::asm;
@@ -61,7 +62,7 @@ struct Input {
 impl Input {
     fn new(case: Case) -> Input {
         let mut words = vec![0; MAX_EVENTS * EVENT_WORDS];
-        let read = peer::read_trace(&case.source, &mut words);
+        let read = peer::read_trace(None, &case.source, &mut words);
         assert_eq!(read.answer.number, 0);
         words.truncate(read.events * EVENT_WORDS);
         Input { form: peer::form_of(&case.source), case, memory: read.memory, words }
@@ -83,15 +84,15 @@ fn known() -> Vec<Input> {
 }
 
 fn typical(events: usize) -> Vec<Input> {
-    let case = |seed| generate::lawful_case(&mut Random::new(seed), events);
+    let case = |seed| generate::lawful_case(&mut Random::new(seed), Lists::Without, events);
     (1..=CASES).map(|seed| Input::new(case(seed))).collect()
 }
 
 /// The same in form 2, with zero lines and code lines of 0.
 fn typical_coded(events: usize) -> Vec<Input> {
-    let coded = |Case { source, target, matching, rooms }| {
-        let [source, target] = [source, target].map(|text: Vec<u8>| texts::with_codes(&text, || 0));
-        Input::new(Case { source, target, matching, rooms })
+    let coded = |case: Case| {
+        let [source, target] = [&case.source, &case.target].map(|text| texts::with_codes(text, || 0));
+        Input::new(Case { source, target, ..case })
     };
     typical(events).into_iter().map(|input| coded(input.case)).collect()
 }
@@ -99,7 +100,7 @@ fn typical_coded(events: usize) -> Vec<Input> {
 /// The longest lawful texts of so many events, all kept.
 fn longest(events: usize) -> Vec<Input> {
     let text = forms::fullest(Form::One, events, "");
-    let case = Case { source: text.clone(), target: text, matching: cases::keep_all(events), rooms: [MAX_EVENTS; 3] };
+    let case = Case { list: None, source: text.clone(), target: text, matching: cases::keep_all(events), rooms: [MAX_EVENTS; 3] };
     vec![Input::new(case)]
 }
 
@@ -116,7 +117,7 @@ fn falling() -> Vec<Input> {
     order.sort_by_key(|&event| CELLS - location(event));
     let number = |event: usize| order.iter().position(|&other| other == event).expect("an event") + 1;
     let keeps: String = (0..MAX_EVENTS).map(|event| format!("keep {};", number(event))).collect();
-    vec![Input::new(Case { source, target: stores(&order), matching: cases::matching(&keeps), rooms: [MAX_EVENTS; 3] })]
+    vec![Input::new(Case { list: None, source, target: stores(&order), matching: cases::matching(&keeps), rooms: [MAX_EVENTS; 3] })]
 }
 
 type Call = fn(&Input, &mut Rooms) -> u32;
@@ -134,7 +135,7 @@ const READ_TRACE: Work = Work {
         let result = ours::read_trace_to(black_box(&input.case.source), &mut rooms.source, &mut rooms.memories[0]);
         black_box(result)[0] as u32
     },
-    peer: |input, rooms| black_box(peer::read_trace(black_box(&input.case.source), &mut rooms.source)).answer.number,
+    peer: |input, rooms| black_box(peer::read_trace(None, black_box(&input.case.source), &mut rooms.source)).answer.number,
 };
 
 const READ_MATCHING: Work = Work {
@@ -146,13 +147,13 @@ const READ_MATCHING: Work = Work {
 const WRITE: Work = Work {
     name: "writing a trace",
     ours: |input, rooms| black_box(ours::write_trace(input.form, &input.memory, black_box(&input.words), &mut rooms.bytes)).number,
-    peer: |input, rooms| black_box(peer::write_trace(input.form, &input.memory, black_box(&input.words), &mut rooms.bytes)).number,
+    peer: |input, rooms| black_box(peer::write_trace(None, input.form, &input.memory, black_box(&input.words), &mut rooms.bytes)).number,
 };
 
 const MOVE: Work = Work {
     name: "moving a trace to the other form",
     ours: |input, rooms| black_box(ours::move_to(input.other(), black_box(&input.case.source), &mut rooms.bytes)).number,
-    peer: |input, rooms| black_box(peer::move_to(input.other(), black_box(&input.case.source), &mut rooms.bytes)).number,
+    peer: |input, rooms| black_box(peer::move_to(None, input.other(), black_box(&input.case.source), &mut rooms.bytes)).number,
 };
 
 const CHECK: Work = Work {
@@ -163,7 +164,7 @@ const CHECK: Work = Work {
     },
     peer: |input, rooms| {
         let [a, b, c] = input.case.texts().map(black_box);
-        black_box(peer::check(a, b, c, &mut rooms.source, &mut rooms.target, &mut rooms.entries)).answer.number
+        black_box(peer::check(None, a, b, c, &mut rooms.source, &mut rooms.target, &mut rooms.entries)).answer.number
     },
 };
 

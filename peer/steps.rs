@@ -1,7 +1,7 @@
 //! The run of an accepted matching in the fixed order, and a replay of steps by
 //! the rules alone. Ordinary Rust, beside the proved one.
 
-use crate::peer::{check, Answer, Event, Kind, Word, EVENT_WORDS, MAX_EVENTS};
+use crate::peer::{check, read_list, Answer, Event, Kind, Locations, Word, EVENT_WORDS, MAX_EVENTS, NO_LOCATIONS};
 use crate::rules::{insertable_value, may_remove, may_swap};
 use crate::texts::event_line;
 use std::fmt::Write;
@@ -29,11 +29,16 @@ pub fn events(room: &[Word], count: usize) -> Vec<Event> {
     room.chunks(EVENT_WORDS).take(count).map(|words| Event::from_words(words).expect("a room holds events")).collect()
 }
 
-/// The run of three texts, checked in rooms that hold the most.
-pub fn run([source, target, matching]: [&[u8]; 3]) -> Result<Run, String> {
+/// The locations that the list of a call names; none without one, or if it is refused.
+pub fn listed(list: Option<&[u8]>) -> Locations {
+    list.map_or(NO_LOCATIONS, |list| read_list(list).listed)
+}
+
+/// The run of three texts under a list or none, checked in rooms that hold the most.
+pub fn run(list: Option<&[u8]>, [source, target, matching]: [&[u8]; 3]) -> Result<Run, String> {
     let [mut source_room, mut target_room] = [(); 2].map(|()| vec![0; MAX_EVENTS * EVENT_WORDS]);
     let mut entry_room = vec![0; MAX_EVENTS];
-    let checked = check(source, target, matching, &mut source_room, &mut target_room, &mut entry_room);
+    let checked = check(list, source, target, matching, &mut source_room, &mut target_room, &mut entry_room);
     if checked.answer.number != 0 {
         return Ok(Run { answer: checked.answer, cost: 0, source: vec![], target: vec![], steps: vec![] });
     }
@@ -41,7 +46,7 @@ pub fn run([source, target, matching]: [&[u8]; 3]) -> Result<Run, String> {
     let target = events(&target_room, checked.target_events);
     let entries: Vec<usize> = entry_room[..checked.entries].iter().map(|&entry| entry as usize).collect();
     let cost = cost(&entries, target.len());
-    let steps = steps(&source, &target, &entries).ok_or("a gone event is stuck")?;
+    let steps = steps(&listed(list), &source, &target, &entries).ok_or("a gone event is stuck")?;
     if steps.len() != cost {
         return Err(format!("{} steps, but {cost} are counted", steps.len()));
     }
@@ -58,10 +63,10 @@ pub fn cost(entries: &[usize], targets: usize) -> usize {
 }
 
 /// The gone events, the highest first of those that may be removed now.
-fn removals(events: &mut Vec<Event>, numbers: &mut Vec<usize>, steps: &mut Vec<Step>) -> bool {
+fn removals(listed: &Locations, events: &mut Vec<Event>, numbers: &mut Vec<usize>, steps: &mut Vec<Step>) -> bool {
     let mut sources: Vec<usize> = (1..=events.len()).collect();
     while numbers.contains(&0) {
-        let Some(at) = (0..events.len()).rev().find(|&at| numbers[at] == 0 && may_remove(events, at)) else {
+        let Some(at) = (0..events.len()).rev().find(|&at| numbers[at] == 0 && may_remove(listed, events, at)) else {
             return false;
         };
         steps.push(Step::Remove { place: at + 1, number: sources[at] });
@@ -88,10 +93,10 @@ fn swaps(numbers: &mut [usize], steps: &mut Vec<Step>) {
 }
 
 /// The whole run, or nothing if a gone event cannot be removed.
-fn steps(source: &[Event], target: &[Event], entries: &[usize]) -> Option<Vec<Step>> {
+fn steps(listed: &Locations, source: &[Event], target: &[Event], entries: &[usize]) -> Option<Vec<Step>> {
     let mut steps = Vec::new();
     let mut numbers = entries.to_vec();
-    if !removals(&mut source.to_vec(), &mut numbers, &mut steps) {
+    if !removals(listed, &mut source.to_vec(), &mut numbers, &mut steps) {
         return None;
     }
     swaps(&mut numbers, &mut steps);
@@ -104,16 +109,16 @@ fn same(event: &Event, target: &Event) -> bool {
     order && Event { order: target.order, code: target.code, ..*event } == *target
 }
 
-/// Applies each step by the rules, knowing nothing of the matching; at the end
-/// the trace must be the target, marks and code lines apart.
-pub fn replay(source: &[Event], target: &[Event], steps: &[Step]) -> Result<(), String> {
+/// Applies each step by the rules under a list, knowing nothing of the matching; at
+/// the end the trace must be the target, marks and code lines apart.
+pub fn replay(listed: &Locations, source: &[Event], target: &[Event], steps: &[Step]) -> Result<(), String> {
     let mut events = source.to_vec();
     let mut sources: Vec<usize> = (1..=source.len()).collect();
     for (index, &step) in steps.iter().enumerate() {
         let allowed = match step {
             Step::Remove { place, number } => {
                 let at = place - 1;
-                let may = at < events.len() && sources[at] == number && may_remove(&events, at);
+                let may = at < events.len() && sources[at] == number && may_remove(listed, &events, at);
                 if may {
                     events.remove(at);
                     sources.remove(at);
@@ -121,7 +126,7 @@ pub fn replay(source: &[Event], target: &[Event], steps: &[Step]) -> Result<(), 
                 may
             }
             Step::Swap { place } => {
-                let may = place < events.len() && may_swap(&events, place - 1);
+                let may = place < events.len() && may_swap(listed, &events, place - 1);
                 if may {
                     events.swap(place - 1, place);
                     sources.swap(place - 1, place);
@@ -132,7 +137,7 @@ pub fn replay(source: &[Event], target: &[Event], steps: &[Step]) -> Result<(), 
                 let event = target[place - 1];
                 let may = event.kind == Kind::Load
                     && place <= events.len() + 1
-                    && insertable_value(&events, place - 1, event.place) == Some(event.first);
+                    && insertable_value(listed, &events, place - 1, event.place) == Some(event.first);
                 if may {
                     events.insert(place - 1, event);
                     sources.insert(place - 1, 0);

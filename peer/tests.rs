@@ -7,6 +7,7 @@ mod counters;
 mod forms;
 #[allow(dead_code)]
 mod generate;
+mod lists;
 mod naive;
 mod peer;
 #[allow(dead_code)]
@@ -18,6 +19,8 @@ mod zeros;
 
 use cases::{Case, Triple};
 use forms::{KnownMove, KnownWriting};
+use generate::Lists;
+use lists::KnownList;
 use peer::{form_of, number, side, Answer, Checked, Entry, Form, Memory, Word, CELLS, EVENT_WORDS, MAX_EVENTS};
 use random::Random;
 use std::fmt::Debug;
@@ -32,7 +35,7 @@ const GUARD: u8 = 0xaa;
 const ZERO: Memory = [0; CELLS];
 const FORMS: [Form; 2] = [Form::One, Form::Two];
 /// The answers are numbered from 0.
-const ANSWERS: usize = 22;
+const ANSWERS: usize = 23;
 /// How many lawful changes of longer traces are tried.
 const LAWFUL: usize = 6_000;
 
@@ -51,7 +54,7 @@ fn check(case: &Case) -> (Checked, Rooms) {
     let mut rooms =
         Rooms { source: words(case.rooms[0]), target: words(case.rooms[1]), entries: vec![ENTRY_MARKER; case.rooms[2]] };
     let checked =
-        peer::check(&case.source, &case.target, &case.matching, &mut rooms.source, &mut rooms.target, &mut rooms.entries);
+        peer::check(case.list(), &case.source, &case.target, &case.matching, &mut rooms.source, &mut rooms.target, &mut rooms.entries);
     (checked, rooms)
 }
 
@@ -70,7 +73,7 @@ struct Compared {
 /// such texts; and the readers alone.
 fn compare(case: &Case, what: &str) -> Compared {
     let (checked, rooms) = check(case);
-    let slow = slow::check(case.texts(), case.rooms);
+    let slow = slow::check(case.list(), case.texts(), case.rooms);
     let is_slow = slow.is_some();
     if let Some(outcome) = slow {
         compare_slow(case, &checked, &rooms, outcome, what);
@@ -104,8 +107,9 @@ fn compare_slow(case: &Case, checked: &Checked, rooms: &Rooms, outcome: slow::Ou
 fn compare_readings(case: &Case, what: &str) {
     for (text, capacity) in [(&case.source, case.rooms[0]), (&case.target, case.rooms[1])] {
         let mut room = vec![MARKER; capacity * EVENT_WORDS + SPARE_WORDS];
-        let read = peer::read_trace(text, &mut room);
-        let alone = Case { source: text.clone(), target: cases::trace(""), matching: cases::matching(""), rooms: [capacity, 0, 0] };
+        let read = peer::read_trace(case.list(), text, &mut room);
+        let alone =
+            Case { list: case.list.clone(), source: text.clone(), target: cases::trace(""), matching: cases::matching(""), rooms: [capacity, 0, 0] };
         let (checked, rooms) = check(&alone);
         // A lawful trace leaves the check to go on to 7 or 8.
         let lawful = matches!(triple(checked.answer), (number::DONE | number::STARTS_DIFFER | number::ENTRY_COUNT, _, _));
@@ -114,13 +118,13 @@ fn compare_readings(case: &Case, what: &str) {
         assert_eq!((read.events, read.memory), (checked.source_events, checked.source_memory), "{what}: a trace alone");
         assert_eq!(room, rooms.source, "{what}: room of a trace alone");
         if lawful {
-            write_back(&read, &room, text, what);
+            write_back(case.list(), &read, &room, text, what);
         }
-        compare_moves(text, what);
+        compare_moves(case.list(), text, what);
     }
     let mut room = vec![ENTRY_MARKER; case.rooms[2]];
     let read = peer::read_matching(&case.matching, &mut room);
-    let alone = Case { source: cases::trace(""), target: cases::trace(""), matching: case.matching.clone(), rooms: [0, 0, case.rooms[2]] };
+    let alone = Case { list: None, source: cases::trace(""), target: cases::trace(""), matching: case.matching.clone(), rooms: [0, 0, case.rooms[2]] };
     let (checked, rooms) = check(&alone);
     let judged = [number::ENTRY_COUNT, number::BAD_TARGET_NUMBER].contains(&checked.answer.number);
     let expected = if judged { (0, 0, 0) } else { triple(checked.answer) };
@@ -141,9 +145,9 @@ fn written(what: &str, bytes: usize, write: impl Fn(&mut [u8]) -> Answer) -> (Tr
 }
 
 /// The writer gives back the very text that was read.
-fn write_back(read: &peer::TraceRead, room: &[Word], text: &[u8], what: &str) {
+fn write_back(list: Option<&[u8]>, read: &peer::TraceRead, room: &[Word], text: &[u8], what: &str) {
     let part = &room[..read.events * EVENT_WORDS];
-    let write = |bytes| written(what, bytes, |out| peer::write_trace(form_of(text), &read.memory, part, out));
+    let write = |bytes| written(what, bytes, |out| peer::write_trace(list, form_of(text), &read.memory, part, out));
     let size = text.len() as u32;
     for spare in [0, 3] {
         assert_eq!(write(text.len() + spare), ((0, 0, size), text.to_vec()), "{what}: written back");
@@ -151,27 +155,27 @@ fn write_back(read: &peer::TraceRead, room: &[Word], text: &[u8], what: &str) {
     assert_eq!(write(text.len() - 1).0, (number::ROOM_TOO_SHORT, side::NONE, size), "{what}: writer, short room");
 }
 
-fn move_to(to: Form, text: &[u8], bytes: usize, what: &str) -> (Triple, Vec<u8>) {
-    let moved = written(what, bytes, |out| peer::move_to(to, text, out));
-    if let Some(slow) = slow::moved(to == Form::Two, text, bytes) {
+fn move_to(list: Option<&[u8]>, to: Form, text: &[u8], bytes: usize, what: &str) -> (Triple, Vec<u8>) {
+    let moved = written(what, bytes, |out| peer::move_to(list, to, text, out));
+    if let Some(slow) = slow::moved(list, to == Form::Two, text, bytes) {
         assert_eq!(moved, slow, "{what}: move to {to:?}");
     }
     moved
 }
 
 /// The moves of a text against the slow ones, and back again.
-fn compare_moves(text: &[u8], what: &str) {
+fn compare_moves(list: Option<&[u8]>, text: &[u8], what: &str) {
     for to in FORMS {
-        let (answer, moved) = move_to(to, text, Form::Two.limit(), what);
+        let (answer, moved) = move_to(list, to, text, Form::Two.limit(), what);
         if answer.0 == number::DONE {
-            assert_eq!(move_to(form_of(text), &moved, text.len(), what).1, text, "{what}: there and back");
-            move_to(to, text, moved.len() - 1, what);
+            assert_eq!(move_to(list, form_of(text), &moved, text.len(), what).1, text, "{what}: there and back");
+            move_to(list, to, text, moved.len() - 1, what);
         }
     }
 }
 
 fn known_cases() -> usize {
-    let known = [cases::all(), forms::checks(), counters::checks(), zeros::checks()].concat();
+    let known = [cases::all(), forms::checks(), counters::checks(), zeros::checks(), lists::checks(), lists::examples()].concat();
     for known in &known {
         assert_eq!(compare(&known.case, &known.name).answer, known.answer, "{}: answer by hand", known.name);
     }
@@ -196,30 +200,31 @@ fn parts_of_texts() {
     assert!(line(2, 1, 2).is_empty());
     assert!(line(9, 3, 1).is_empty() && line(7, 2, 0).is_empty() && line(17, 1, 5).is_empty());
     assert!(line(19, 1, 1).is_empty() && line(20, 2, 1).is_empty() && line(21, 2, 2).is_empty());
+    assert!((0..30).all(|number| line(number, side::LIST, 2).is_empty()));
     // Answers that no check of these texts gives are no danger.
     assert!(line(2, 1, 0).is_empty() && line(2, 2, 99).is_empty() && line(16, 2, 99).is_empty());
 }
 
 fn known_moves() -> usize {
-    let moves = [forms::moves(), counters::moves(), zeros::moves()].concat();
+    let moves = [forms::moves(), counters::moves(), zeros::moves(), lists::moves()].concat();
     for KnownMove { name, handed, answer, moved } in &moves {
         let what = format!("move: {name}");
-        assert_eq!(move_to(handed.to, &handed.text, handed.bytes, &what), (*answer, moved.clone()), "{what}");
+        assert_eq!(move_to(handed.list.as_deref(), handed.to, &handed.text, handed.bytes, &what), (*answer, moved.clone()), "{what}");
     }
     moves.len()
 }
 
 /// The writings that are known by hand; what is written is read back.
 fn known_writings() -> usize {
-    let writings = [forms::writings(), counters::writings(), zeros::writings()].concat();
+    let writings = [forms::writings(), counters::writings(), zeros::writings(), lists::writings()].concat();
     for KnownWriting { name, handed, answer: by_hand } in &writings {
         let what = format!("writing: {name}");
         let (memory, words) = handed.read();
-        let (answer, text) = written(&what, handed.bytes, |out| peer::write_trace(handed.form, &memory, &words, out));
+        let (answer, text) = written(&what, handed.bytes, |out| peer::write_trace(handed.list.as_deref(), handed.form, &memory, &words, out));
         assert_eq!(answer, *by_hand, "{what}");
         if answer.0 == number::DONE {
             let mut room = vec![MARKER; words.len()];
-            let read = peer::read_trace(&text, &mut room);
+            let read = peer::read_trace(handed.list.as_deref(), &text, &mut room);
             assert_eq!((triple(read.answer), read.memory, room), ((0, 0, 0), memory, words), "{what}: read back");
             assert_eq!(form_of(&text), handed.form, "{what}: form");
         }
@@ -242,7 +247,7 @@ fn writer_cases() -> usize {
         [9, 0, 0, 0, 1, 0], [9, 0, 0, 0, 0, Word::MAX], [9, 0, 5, 0, 0, 0],
         [10, 0, 0, 0, 0, 0], [10, 0, 6, 0, 0, 0], [10, 256, 1, 0, 0, 0], [10, 0, 1, 0, 0, 65_536], [2, 1 << 32, 0, 0, 0, 0], [8, 0, 1 << 32, 0, 0, 0],
     ];
-    let write_in = |form, memory: &Memory, room: &[Word]| written("writer", 100, |out| peer::write_trace(form, memory, room, out)).0;
+    let write_in = |form, memory: &Memory, room: &[Word]| written("writer", 100, |out| peer::write_trace(None, form, memory, room, out)).0;
     let write = |memory: &Memory, room: &[Word]| write_in(Form::One, memory, room);
     for words in bad {
         for form in FORMS {
@@ -269,14 +274,24 @@ fn writer_cases() -> usize {
     bad.len()
 }
 
-/// Random triples, every other of traces of both forms: how many have each answer,
-/// and how many the slow checker knows.
-fn random_cases(seed: u64, count: usize) -> ([usize; ANSWERS], usize) {
+/// The lists that are known by hand, read alone.
+fn known_lists() -> usize {
+    let known = lists::texts();
+    for KnownList { name, text, answer, listed } in &known {
+        let read = peer::read_list(text);
+        assert_eq!((triple(read.answer), &read.listed), (*answer, listed), "list: {name}");
+    }
+    known.len()
+}
+
+/// Random triples with a list or without, every other of traces of both forms: how
+/// many have each answer, and how many the slow checker knows.
+fn random_cases(seed: u64, count: usize, lists: Lists) -> ([usize; ANSWERS], usize) {
     let mut random = Random::new(seed);
     let mut answers = [0; ANSWERS];
     let mut slow = 0;
     for index in 0..count {
-        let case = if index % 2 == 0 { generate::case(&mut random) } else { generate::mixed_case(&mut random) };
+        let case = if index % 2 == 0 { generate::case(&mut random, lists) } else { generate::mixed_case(&mut random, lists) };
         let compared = compare(&case, &format!("random case {index} of seed {seed}"));
         answers[compared.answer.0 as usize] += 1;
         slow += usize::from(compared.is_slow);
@@ -285,10 +300,10 @@ fn random_cases(seed: u64, count: usize) -> ([usize; ANSWERS], usize) {
 }
 
 /// Runs of the rules on longer traces are accepted.
-fn lawful_cases(seed: u64, count: usize) {
+fn lawful_cases(seed: u64, count: usize, lists: Lists) {
     let mut random = Random::new(seed);
     for index in 0..count {
-        let mut case = generate::lawful_case(&mut random, index % 120);
+        let mut case = generate::lawful_case(&mut random, lists, index % 120);
         if index % 2 == 0 {
             generate::add_codes(&mut random, &mut case.source);
             generate::add_codes(&mut random, &mut case.target);
@@ -297,7 +312,8 @@ fn lawful_cases(seed: u64, count: usize) {
     }
 }
 
-/// `tests [count [seed]]`: how many random cases, from which seed.
+/// `tests [count [seed]]`: how many random cases without a list, and as many with
+/// one, from which seed.
 fn main() {
     let mut arguments = std::env::args().skip(1).map(|argument| argument.parse::<u64>().expect("a number"));
     let count = arguments.next().unwrap_or(200_000) as usize;
@@ -307,8 +323,11 @@ fn main() {
     parts_of_texts();
     println!("{} bad events for the writer, and its other answers: ok", writer_cases());
     println!("{} moves and {} writings known by hand: ok", known_moves(), known_writings());
-    lawful_cases(seed, LAWFUL);
-    println!("{LAWFUL} lawful changes of up to 119 events: accepted");
-    let (answers, slow) = random_cases(seed, count);
-    println!("{count} random cases, {slow} of them agree with the slow checker; by answer {answers:?}");
+    println!("{} lists known by hand: ok", known_lists());
+    for (lists, with) in [(Lists::Without, ""), (Lists::With, " with a list")] {
+        lawful_cases(seed, LAWFUL, lists);
+        println!("{LAWFUL} lawful changes of up to 119 events{with}: accepted");
+        let (answers, slow) = random_cases(seed, count, lists);
+        println!("{count} random cases{with}, {slow} of them agree with the slow checker; by answer {answers:?}");
+    }
 }

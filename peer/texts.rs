@@ -1,7 +1,7 @@
 //! Texts made from events with the standard formatter, for the programs that
 //! test the checker. Independent of the checker's own writer.
 
-use crate::peer::{self, Event, Kind, Memory, EVENT_WORDS, MAX_EVENTS};
+use crate::peer::{self, Event, Kind, Locations, Memory, EVENT_WORDS, MAX_EVENTS};
 use std::collections::BTreeSet;
 
 const ORDERS: [&str; 8] = ["", "rlx", "acq", "rel", "ar", "sc", "used", "unused"];
@@ -69,7 +69,7 @@ pub fn add_zero(lines: &mut Vec<Vec<u8>>, location: u8) {
 /// lines keep their numbers.
 pub fn with_zeros(text: &[u8]) -> Vec<u8> {
     const TOUCHING: [&str; 7] = ["load", "store", "aload", "astore", "rmw", "add", "add64"];
-    let read = peer::read_trace(text, &mut [0; MAX_EVENTS * EVENT_WORDS]);
+    let read = peer::read_trace(None, text, &mut [0; MAX_EVENTS * EVENT_WORDS]);
     if (1..=4).contains(&read.answer.number) {
         return text.to_vec();
     }
@@ -109,6 +109,14 @@ pub fn matching_text(entries: &[u16]) -> Vec<u8> {
     let mut text = String::from("match\t1\n");
     for &entry in entries {
         text += &entry_line(entry);
+    }
+    text.into_bytes()
+}
+
+pub fn list_text(listed: &Locations) -> Vec<u8> {
+    let mut text = String::from("regs\t1\n");
+    for (location, _) in listed.iter().enumerate().filter(|(_, &listed)| listed) {
+        text += &format!("reg\t{location}\n");
     }
     text.into_bytes()
 }

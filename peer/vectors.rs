@@ -50,6 +50,20 @@
 //! steps. The replay of `steps.rs`, which knows the rules alone, accepts each
 //! run.
 //!
+//! `lists`, `list_moves`, `list_writes` and `list_runs` hold checks, moves, writings and
+//! runs with a list, as `vectors`, `moves`, `writes` and `runs` do, with one number
+//! more before the name, the length of the list (bytes), and the list as the last of
+//! the raw bytes. The trace of a writing is read without the list.
+//!
+//! `list_texts` holds lists read alone:
+//!
+//!   0, length of the list (bytes), 0, 0, 0, 0,
+//!   answer number, side, place, length of the marks (256; 0 if refused),
+//!   the name.
+//!
+//! The raw bytes are the list and, for each location from 0 on, `1` if it is listed
+//! and `0` if not.
+//!
 //! The cases known by hand come first, then random ones until every answer has
 //! its share. Each answer to a check or a move of texts that document 01 reads
 //! alike is given by the fast checker and the slow one, or the program stops.
@@ -58,6 +72,7 @@ mod cases;
 mod counters;
 mod forms;
 mod generate;
+mod lists;
 #[allow(dead_code)]
 mod naive;
 #[allow(dead_code)]
@@ -73,6 +88,8 @@ mod zeros;
 
 use cases::{Case, Known, Triple, ALL, DONE};
 use forms::{KnownMove, KnownWriting, Move, Writing};
+use generate::Lists;
+use lists::KnownList;
 use peer::{form_of, Answer, Form};
 use random::Random;
 use std::collections::BTreeMap;
@@ -189,6 +206,44 @@ const RUN_SHARES: [((u32, u32), usize); 9] = [
     ((16, 2), 4),
 ];
 
+/// What a list brings to a check, and what comes before and behind.
+const LIST_SHARES: [((u32, u32), usize); 24] = [
+    ((2, 4), 20),
+    ((22, 4), 20),
+    ((2, 1), 5),
+    ((2, 2), 5),
+    ((2, 3), 5),
+    ((4, 1), 5),
+    ((5, 1), 20),
+    ((5, 2), 10),
+    ((6, 1), 10),
+    ((6, 2), 10),
+    ((7, 2), 20),
+    ((8, 3), 5),
+    ((9, 3), 5),
+    ((10, 1), 20),
+    ((11, 1), 60),
+    ((12, 1), 60),
+    ((13, 1), 20),
+    ((14, 1), 30),
+    ((15, 2), 40),
+    ((16, 2), 40),
+    ((17, 1), 5),
+    ((20, 1), 10),
+    ((21, 2), 5),
+    ((0, 0), 80),
+];
+
+const LIST_TEXT_SHARES: [((u32, u32), usize); 3] = [((0, 0), 20), ((2, 4), 20), ((22, 4), 20)];
+
+const LIST_MOVE_SHARES: [((u32, u32), usize); 8] =
+    [((0, 0), 40), ((2, 4), 5), ((22, 4), 5), ((5, 1), 10), ((6, 1), 10), ((17, 0), 5), ((19, 1), 5), ((20, 1), 5)];
+
+const LIST_WRITING_SHARES: [((u32, u32), usize); 7] =
+    [((0, 0), 40), ((2, 4), 5), ((22, 4), 5), ((5, 0), 10), ((6, 0), 10), ((17, 0), 5), ((18, 0), 5)];
+
+const LIST_RUN_SHARES: [((u32, u32), usize); 5] = [((0, 0), 60), ((2, 4), 2), ((22, 4), 2), ((11, 1), 4), ((16, 2), 4)];
+
 /// A lawful triple of a run has up to so many events.
 const RUN_EVENTS: usize = 40;
 
@@ -227,12 +282,14 @@ fn form_number(form: Form) -> usize {
 }
 
 /// What a vector says: the numbers of its header up to the answer, the raw bytes
-/// that are handed over, the answer, and the raw bytes that come back.
+/// that are handed over, the answer, and the raw bytes that come back; then the list
+/// of a call that has one.
 struct Vector<'a> {
     numbers: Vec<usize>,
     handed: Vec<&'a [u8]>,
     answer: Triple,
     given: Vec<u8>,
+    list: Option<&'a [u8]>,
 }
 
 #[derive(Default)]
@@ -248,11 +305,12 @@ impl File {
         self.vectors += 1;
         let (number, side, place) = vector.answer;
         let answer = [number, side, place].map(|number| number as usize);
-        for number in vector.numbers.iter().chain(&answer).chain(&[vector.given.len()]) {
+        let list_length = vector.list.map(<[u8]>::len);
+        for number in vector.numbers.iter().chain(&answer).chain(&[vector.given.len()]).chain(&list_length) {
             self.bytes.extend_from_slice(format!("{number} ").as_bytes());
         }
         self.bytes.extend_from_slice(format!("{name}\n").as_bytes());
-        for part in vector.handed.iter().chain(&[vector.given.as_slice(), b"\n"]) {
+        for part in vector.handed.iter().chain(&[vector.given.as_slice(), vector.list.unwrap_or_default(), b"\n"]) {
             self.bytes.extend_from_slice(part);
         }
         *self.counts.entry((number, side)).or_default() += 1;
@@ -305,14 +363,14 @@ fn check_vector(case: &Case, vector: usize) -> Vector<'_> {
     let words = room_words(case, vector);
     let [mut source, mut target] = [words[0], words[1]].map(|words| vec![0; words]);
     let mut entries = vec![0; words[2]];
-    let answer = peer::check(&case.source, &case.target, &case.matching, &mut source, &mut target, &mut entries).answer;
+    let answer = peer::check(case.list(), &case.source, &case.target, &case.matching, &mut source, &mut target, &mut entries).answer;
     let given = peer::offending_line(&case.source, &case.target, answer).to_vec();
     let answer = triple(answer);
-    if let Some(outcome) = slow::check(case.texts(), case.rooms) {
+    if let Some(outcome) = slow::check(case.list(), case.texts(), case.rooms) {
         assert_eq!((answer, &given), (outcome.answer, &outcome.line), "the checkers differ");
     }
     let lengths = case.texts().map(<[u8]>::len);
-    Vector { numbers: [lengths, words].concat(), handed: case.texts().to_vec(), answer, given }
+    Vector { numbers: [lengths, words].concat(), handed: case.texts().to_vec(), answer, given, list: case.list() }
 }
 
 /// The text at the front of bytes that a call was lent, if it was done.
@@ -322,21 +380,23 @@ fn front(out: &[u8], answer: Answer) -> Vec<u8> {
 }
 
 /// A move, on which both checkers must agree.
-fn move_vector(Move { to, text, bytes }: &Move, _: usize) -> Vector<'_> {
+fn move_vector(Move { list, to, text, bytes }: &Move, _: usize) -> Vector<'_> {
+    let list = list.as_deref();
     let mut out = vec![0; *bytes];
-    let answer = peer::move_to(*to, text, &mut out);
+    let answer = peer::move_to(list, *to, text, &mut out);
     let given = front(&out, answer);
     let answer = triple(answer);
-    if let Some(moved) = slow::moved(*to == Form::Two, text, *bytes) {
+    if let Some(moved) = slow::moved(list, *to == Form::Two, text, *bytes) {
         assert_eq!((answer, given.clone()), moved, "the moves differ");
     }
-    Vector { numbers: vec![form_number(*to), text.len(), 0, 0, 0, *bytes], handed: vec![text], answer, given }
+    Vector { numbers: vec![form_number(*to), text.len(), 0, 0, 0, *bytes], handed: vec![text], answer, given, list }
 }
 
 fn writing_vector(writing: &Writing, _: usize) -> Vector<'_> {
     let (memory, words) = writing.read();
     let mut out = vec![0; writing.bytes];
-    let answer = peer::write_trace(writing.form, &memory, &words, &mut out);
+    let list = writing.list.as_deref();
+    let answer = peer::write_trace(list, writing.form, &memory, &words, &mut out);
     let given = front(&out, answer);
     let (at, word) = writing.change.unwrap_or((forms::WRITING_WORDS, 0));
     Vector {
@@ -344,14 +404,15 @@ fn writing_vector(writing: &Writing, _: usize) -> Vector<'_> {
         handed: vec![&writing.text],
         answer: triple(answer),
         given,
+        list,
     }
 }
 
 /// A run, which the rules must allow.
 fn run_vector(case: &Case, _: usize) -> Vector<'_> {
-    let run = steps::run(case.texts()).expect("no gone event is stuck");
+    let run = steps::run(case.list(), case.texts()).expect("no gone event is stuck");
     if run.answer.number == peer::number::DONE {
-        steps::replay(&run.source, &run.target, &run.steps).expect("the rules allow the run");
+        steps::replay(&steps::listed(case.list()), &run.source, &run.target, &run.steps).expect("the rules allow the run");
     }
     let lengths = case.texts().map(<[u8]>::len);
     let rooms = [peer::MAX_EVENTS * peer::EVENT_WORDS, peer::MAX_EVENTS * peer::EVENT_WORDS, peer::MAX_EVENTS];
@@ -360,6 +421,7 @@ fn run_vector(case: &Case, _: usize) -> Vector<'_> {
         handed: case.texts().to_vec(),
         answer: triple(run.answer),
         given: steps::lines(&run).into_bytes(),
+        list: case.list(),
     }
 }
 
@@ -375,7 +437,7 @@ fn checks(random: &mut Random) -> File {
     let mut file = File::default();
     add_known_checks(&mut file, &cases::all());
     let mut lawful = |random: &mut Random, events: usize, name: &str| {
-        let case = generate::lawful_case(random, events);
+        let case = generate::lawful_case(random, Lists::Without, events);
         let vector = check_vector(&case, file.vectors + 1);
         assert_eq!(vector.answer, (0, 0, 0), "what the rules allow is refused");
         file.add(name, &vector);
@@ -386,7 +448,7 @@ fn checks(random: &mut Random) -> File {
     for index in 0..LAWFUL {
         lawful(random, index % 15, &format!("lawful {}", index + 1));
     }
-    file.add_random(&CHECK_SHARES, || generate::faulty_case(random), check_vector);
+    file.add_random(&CHECK_SHARES, || generate::faulty_case(random, Lists::Without), check_vector);
     file
 }
 
@@ -396,7 +458,7 @@ fn form_checks(random: &mut Random) -> File {
     add_known_checks(&mut file, &forms::checks());
     let is_coded = |case: &Case| [&case.source, &case.target].into_iter().any(|text| form_of(text) == Form::Two);
     let draw = || loop {
-        let case = generate::mixed_case(random);
+        let case = generate::mixed_case(random, Lists::Without);
         if is_coded(&case) {
             return case;
         }
@@ -410,8 +472,8 @@ fn counter_checks(random: &mut Random) -> File {
     let mut file = File::default();
     add_known_checks(&mut file, &counters::checks());
     let draw = || loop {
-        let case = generate::mixed_case(random);
-        if slow::check(case.texts(), case.rooms).is_none() {
+        let case = generate::mixed_case(random, Lists::Without);
+        if slow::check(None, case.texts(), case.rooms).is_none() {
             return case;
         }
     };
@@ -425,7 +487,7 @@ fn zero_checks(random: &mut Random) -> File {
     add_known_checks(&mut file, &zeros::checks());
     let draw = || {
         let events = 1 + random.below(12);
-        let mut case = generate::lawful_case(random, events);
+        let mut case = generate::lawful_case(random, Lists::Without, events);
         generate::add_codes(random, &mut case.source);
         generate::add_codes(random, &mut case.target);
         let text = if random.once_in(2) { &mut case.source } else { &mut case.target };
@@ -441,16 +503,26 @@ fn zero_checks(random: &mut Random) -> File {
     file
 }
 
-fn moves(random: &mut Random) -> File {
-    let mut file = File::default();
-    for KnownMove { name, handed, answer, moved } in &[forms::moves(), counters::moves(), zeros::moves()].concat() {
+fn add_known_moves(file: &mut File, known: &[KnownMove]) {
+    for KnownMove { name, handed, answer, moved } in known {
         let vector = move_vector(handed, 0);
         assert_eq!(vector.given, *moved, "{name}: the text by hand differs");
         file.add_known(name, &vector, *answer);
     }
+}
+
+fn add_known_writings(file: &mut File, known: &[KnownWriting]) {
+    for KnownWriting { name, handed, answer } in known {
+        file.add_known(name, &writing_vector(handed, 0), *answer);
+    }
+}
+
+fn moves(random: &mut Random) -> File {
+    let mut file = File::default();
+    add_known_moves(&mut file, &[forms::moves(), counters::moves(), zeros::moves()].concat());
     let draw = || {
-        let text = generate::mixed_case(random).source;
-        generate::move_of(random, &text)
+        let text = generate::mixed_case(random, Lists::Without).source;
+        generate::move_of(random, None, &text)
     };
     file.add_random(&MOVE_SHARES, draw, move_vector);
     file
@@ -458,22 +530,88 @@ fn moves(random: &mut Random) -> File {
 
 fn writings(random: &mut Random) -> File {
     let mut file = File::default();
-    for KnownWriting { name, handed, answer } in &[forms::writings(), counters::writings(), zeros::writings()].concat() {
-        file.add_known(name, &writing_vector(handed, 0), *answer);
-    }
-    let draw = || loop {
-        let text = generate::mixed_case(random).source;
-        let read = peer::read_trace(&text, &mut [0; peer::MAX_EVENTS * peer::EVENT_WORDS]);
+    add_known_writings(&mut file, &[forms::writings(), counters::writings(), zeros::writings()].concat());
+    file.add_random(&WRITING_SHARES, || random_writing(random, Lists::Without), writing_vector);
+    file
+}
+
+/// A writing of a trace that is lawful without a list.
+fn random_writing(random: &mut Random, lists: Lists) -> Writing {
+    loop {
+        let text = generate::mixed_case(random, Lists::Without).source;
+        let read = peer::read_trace(None, &text, &mut [0; peer::MAX_EVENTS * peer::EVENT_WORDS]);
         if read.answer.number == peer::number::DONE {
-            return generate::writing_of(random, &text, read.events);
+            let list = match lists {
+                Lists::Without => None,
+                Lists::With => Some(generate::any_list(random)),
+            };
+            return generate::writing_of(random, list.as_deref(), &text, read.events);
         }
+    }
+}
+
+/// Checks with a list; each of its traces in one of the forms.
+fn list_checks(random: &mut Random) -> File {
+    let mut file = File::default();
+    let known = [lists::examples(), lists::checks()].concat();
+    let known: Vec<Known> = known.into_iter().filter(|known| known.case.list.is_some()).collect();
+    add_known_checks(&mut file, &known);
+    file.add_random(&LIST_SHARES, || generate::mixed_case(random, Lists::With), check_vector);
+    file
+}
+
+fn list_text_vector<'a>(list: &'a Vec<u8>, _: usize) -> Vector<'a> {
+    let read = peer::read_list(list);
+    let given = match read.answer.number {
+        peer::number::DONE => read.listed.map(|listed| if listed { b'1' } else { b'0' }).to_vec(),
+        _ => vec![],
     };
-    file.add_random(&WRITING_SHARES, draw, writing_vector);
+    Vector { numbers: vec![0, list.len(), 0, 0, 0, 0], handed: vec![list], answer: triple(read.answer), given, list: None }
+}
+
+fn list_texts(random: &mut Random) -> File {
+    let mut file = File::default();
+    for KnownList { name, text, answer, listed } in &lists::texts() {
+        assert_eq!(peer::read_list(text).listed, *listed, "{name}: the marks by hand differ");
+        file.add_known(name, &list_text_vector(text, 0), *answer);
+    }
+    file.add_random(&LIST_TEXT_SHARES, || generate::any_list(random), list_text_vector);
+    file
+}
+
+fn list_moves(random: &mut Random) -> File {
+    let mut file = File::default();
+    add_known_moves(&mut file, &lists::moves());
+    let draw = || {
+        let case = generate::mixed_case(random, Lists::With);
+        generate::move_of(random, case.list(), &case.source)
+    };
+    file.add_random(&LIST_MOVE_SHARES, draw, move_vector);
+    file
+}
+
+fn list_writings(random: &mut Random) -> File {
+    let mut file = File::default();
+    let known: Vec<KnownWriting> = lists::writings().into_iter().filter(|known| known.handed.list.is_some()).collect();
+    add_known_writings(&mut file, &known);
+    file.add_random(&LIST_WRITING_SHARES, || random_writing(random, Lists::With), writing_vector);
+    file
+}
+
+/// Runs with a list: the examples, those known by hand that have a step, and random ones.
+fn list_runs(random: &mut Random) -> File {
+    let mut file = File::default();
+    let known = lists::examples().into_iter().chain(lists::checks().into_iter().filter(has_step));
+    for Known { name, case, answer } in known.filter(|known| known.case.list.is_some()) {
+        file.add_known(&name, &run_vector(&case, 0), answer);
+    }
+    let draw = || if random.once_in(2) { changed_case(random, Lists::With) } else { generate::mixed_case(random, Lists::With) };
+    file.add_random(&LIST_RUN_SHARES, draw, run_vector);
     file
 }
 
 fn all_room([source, target, matching]: [&[u8]; 3]) -> Case {
-    Case { source: source.to_vec(), target: target.to_vec(), matching: matching.to_vec(), rooms: [ALL; 3] }
+    Case { list: None, source: source.to_vec(), target: target.to_vec(), matching: matching.to_vec(), rooms: [ALL; 3] }
 }
 
 fn examples() -> Vec<Known> {
@@ -498,10 +636,10 @@ fn backwards() -> Known {
 }
 
 /// A lawful triple with a removal, a swap and an insertion, each of its traces in one of the forms.
-fn changed_case(random: &mut Random) -> Case {
+fn changed_case(random: &mut Random, lists: Lists) -> Case {
     loop {
         let events = 3 + random.below(RUN_EVENTS - 2);
-        let mut case = generate::lawful_case(random, events);
+        let mut case = generate::lawful_case(random, lists, events);
         for text in [&mut case.source, &mut case.target] {
             if random.once_in(2) {
                 generate::add_codes(random, text);
@@ -514,18 +652,21 @@ fn changed_case(random: &mut Random) -> Case {
     }
 }
 
+fn has_step(known: &Known) -> bool {
+    steps::run(known.case.list(), known.case.texts()).expect("no gone event is stuck").cost != 0
+}
+
 /// Whole runs: those of the requirement and the examples, every other one known
 /// by hand that has a step, and random ones.
 fn runs(random: &mut Random) -> File {
     let mut file = File::default();
     let requirement = cases::runs();
     let others = [cases::all().split_off(requirement.len()), forms::checks(), counters::checks(), zeros::checks()].concat();
-    let has_step = |known: &Known| steps::run(known.case.texts()).expect("no gone event is stuck").cost != 0;
     let first = requirement.into_iter().chain(examples()).chain([backwards()]);
     for Known { name, case, answer } in first.chain(others.into_iter().filter(has_step)) {
         file.add_known(&name, &run_vector(&case, 0), answer);
     }
-    let draw = || if random.once_in(2) { changed_case(random) } else { generate::mixed_case(random) };
+    let draw = || if random.once_in(2) { changed_case(random, Lists::Without) } else { generate::mixed_case(random, Lists::Without) };
     file.add_random(&RUN_SHARES, draw, run_vector);
     file
 }
@@ -535,7 +676,7 @@ fn main() {
     let folder = arguments.next().expect("the folder to write the files in");
     let folder = Path::new(&folder);
     let seed = arguments.next().map_or(1, |seed| seed.parse().expect("the seed is a number"));
-    let files: [(&str, fn(&mut Random) -> File); 7] = [
+    let files: [(&str, fn(&mut Random) -> File); 12] = [
         ("vectors", checks),
         ("forms", form_checks),
         ("counters", counter_checks),
@@ -543,6 +684,11 @@ fn main() {
         ("moves", moves),
         ("writes", writings),
         ("runs", runs),
+        ("lists", list_checks),
+        ("list_texts", list_texts),
+        ("list_moves", list_moves),
+        ("list_writes", list_writings),
+        ("list_runs", list_runs),
     ];
     for (name, make) in files {
         make(&mut Random::new(seed)).write(folder, name);

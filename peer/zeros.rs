@@ -146,7 +146,7 @@ fn checks_of_both(list: &mut List) {
 
 /// All checks of C-15 that are known by hand.
 pub fn checks() -> Vec<Known> {
-    let mut list = List { known: vec![] };
+    let mut list = List::default();
     for part in [each_kind, places, order, lines, checks_of_both] {
         part(&mut list);
     }
@@ -155,7 +155,7 @@ pub fn checks() -> Vec<Known> {
 
 /// The moves that are known by hand.
 pub fn moves() -> Vec<KnownMove> {
-    let mut moves = Moves { known: vec![] };
+    let mut moves = Moves::default();
     let mut both = |name: &str, one: &str, two: &str| moves.there_and_back(name, &trace(one), &bare(two));
     both("a zero line", "store 3 4", "init 3 0; store 3 4 0");
     both(
@@ -192,7 +192,7 @@ pub fn moves() -> Vec<KnownMove> {
 /// The writings that are known by hand. A zero line takes 9 bytes, an event of
 /// those below 10 to 12, and 2 more with its code line.
 pub fn writings() -> Vec<KnownWriting> {
-    let mut list = Writings { known: vec![] };
+    let mut list = Writings::default();
     let one = bare("init 1 0; store 1 8 0");
     for text in [&one, &trace("store 1 8")] {
         for (form, size) in [(Form::One, 8 + 10), (Form::Two, 8 + 9 + 12)] {
