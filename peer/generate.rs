@@ -1,12 +1,15 @@
 //! Random triples of texts. A random source is changed by lawful removals,
 //! swaps and insertions to a target, and the matching is kept along; then in
 //! most a fault is planted, in the moves, the events, the matching, the rooms
-//! or the bytes. Some have a list of registers, whose loads return anything. Traces of form 2 are made from those of form 1 by zero lines, and
-//! code lines at will; from them come moves between the forms, and writings in both.
+//! or the bytes. Those with a list have registers, whose loads return anything and
+//! whose starts differ. Traces of form 2 are made from those of form 1 by zero lines,
+//! and code lines at will; from them come moves between the forms, and writings in
+//! both.
 
 use crate::cases::Case;
 use crate::forms::{Move, Writing, PLENTY};
-use crate::peer::{self, order, Answer, Event, Form, Kind, Locations, Memory, Word, CELLS, EVENT_WORDS, MAX_EVENTS, MAX_REGISTERS, NO_LOCATIONS};
+use crate::peer::{self, order, Answer, Event, Form, Kind, Locations, Memory, Word};
+use crate::peer::{CELLS, EVENT_WORDS, MAX_EVENTS, MAX_REGISTERS, NO_LOCATIONS};
 use crate::random::Random;
 use crate::{rules, texts};
 

@@ -2,7 +2,7 @@
 //! hand: list texts, what a register is to every answer of a check, atomic uses,
 //! form 2; moves and writings. Location 7 is a register in most of them.
 
-use crate::cases::{filled, matching, raw, runs, text, trace, Known, List, Triple, ALL, DONE};
+use crate::cases::{filled, matching, raw, runs, text, trace, Known, List, Triple, ALL, DONE, TRACE};
 use crate::forms::{coded, KnownMove, KnownWriting, Moves, Writings, CODED, PLENTY};
 use crate::peer::{Form, Locations, Word, MAX_LIST, MAX_TEXT, NO_LOCATIONS};
 
@@ -321,7 +321,7 @@ fn ahead(known: &mut List) {
         known.add(&format!("{name}, no room"), good.clone(), good.clone(), matching("keep 1"), [0; 3], answer);
         known.add(&format!("{name}, all bad"), trace("lock"), trace("lock"), matching("kept"), [0; 3], answer);
     }
-    known.add("33 registers, a long source", filled("trace\t1\n", "lock\t0\n", MAX_TEXT + 1), good.clone(), matching(""), [ALL; 3], (22, 4, 34));
+    known.add("33 registers, a long source", filled(TRACE, "lock\t0\n", MAX_TEXT + 1), good.clone(), matching(""), [ALL; 3], (22, 4, 34));
     known.list = Some(filled(REGS, "reg\t1\n", MAX_LIST + 1));
     known.add("a list over its limit", trace("lock"), vec![], vec![], [0; 3], (1, 4, 0));
     under(known, "reg 7");
@@ -332,6 +332,8 @@ fn ahead(known: &mut List) {
     rooms("room exactly with a list", [1, 1, 1], DONE);
     known.bad_matching("2 of a matching with a list", matching("kept"), 2, 2);
     known.run("5 of the target with a list", "load 7 3 used", "aload 7 rlx 0", "keep 1", (5, 2, 1));
+    known.bad_trace("3 with a list", trace(&"lock 0;".repeat(801)), 3, 802);
+    known.add("1 of the source with a list", filled(TRACE, "lock\t0\n", MAX_TEXT + 1), vec![], vec![], [ALL; 3], (1, 1, 0));
 }
 
 /// The runs of the requirement beside a register that they do not use.
