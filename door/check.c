@@ -1,6 +1,6 @@
-/* Checks three files, source, target and matching, and prints what the program laprunto prints. Then both traces that were read are
- * written again, what was written is read back, and both texts are moved to the other form and back: status 1 if anything came back
- * otherwise. */
+/* Checks three files, source, target and matching, with a list of registers if there is a fourth, and prints what the program laprunto
+ * prints, and the locations that are listed. Then both traces that were read are written again, what was written is read back, and both
+ * texts are moved to the other form and back: status 1 if anything came back otherwise. */
 #include "laprunto.h"
 
 #include <stdio.h>
@@ -13,6 +13,9 @@ struct text {
     uint8_t bytes[FILE_BYTES];
     size_t size;
 };
+
+/* The list that every call is to be made with; none if it is null. */
+static const struct text *list;
 
 struct trace {
     laprunto_word words[LAPRUNTO_TRACE_WORDS];
@@ -37,8 +40,64 @@ static void print_line(const struct text *text, size_t from, size_t to) {
     }
 }
 
+/* The locations that the list names, none under a refusal. */
+static void print_listed(void) {
+    uint8_t listed[LAPRUNTO_CELLS];
+    size_t result[LAPRUNTO_ANSWER];
+    laprunto_read_list(list->bytes, list->size, result, listed);
+    for (size_t i = 0; i < LAPRUNTO_CELLS; i++) {
+        if (listed[i] == 1) {
+            printf("listed\t%zu\n", i);
+        }
+    }
+}
+
 static int same_text(const struct text *one, const struct text *other) {
     return one->size == other->size && memcmp(one->bytes, other->bytes, one->size) == 0;
+}
+
+/* Each of these calls, with the list if there is one. */
+static void check(const struct text texts[3], struct trace *source, struct trace *target, laprunto_entry *entries, size_t *result) {
+    if (list != NULL) {
+        laprunto_check_listed(list->bytes, list->size, texts[0].bytes, texts[0].size, texts[1].bytes, texts[1].size, texts[2].bytes,
+                              texts[2].size, source->words, LAPRUNTO_TRACE_WORDS, target->words, LAPRUNTO_TRACE_WORDS, entries,
+                              LAPRUNTO_ENTRY_WORDS, source->memory, target->memory, result);
+    } else {
+        laprunto_check(texts[0].bytes, texts[0].size, texts[1].bytes, texts[1].size, texts[2].bytes, texts[2].size, source->words,
+                       LAPRUNTO_TRACE_WORDS, target->words, LAPRUNTO_TRACE_WORDS, entries, LAPRUNTO_ENTRY_WORDS, source->memory,
+                       target->memory, result);
+    }
+    source->events = result[LAPRUNTO_SOURCE_EVENTS];
+    target->events = result[LAPRUNTO_TARGET_EVENTS];
+}
+
+static void read_trace(const struct text *text, struct trace *trace, size_t *result) {
+    if (list != NULL) {
+        laprunto_read_trace_listed(list->bytes, list->size, text->bytes, text->size, trace->words, LAPRUNTO_TRACE_WORDS, trace->memory,
+                                   result);
+    } else {
+        laprunto_read_trace(text->bytes, text->size, trace->words, LAPRUNTO_TRACE_WORDS, trace->memory, result);
+    }
+    trace->events = result[LAPRUNTO_COUNT];
+}
+
+static void write_trace(laprunto_number form, const struct trace *trace, struct text *out, size_t *result) {
+    if (list != NULL) {
+        laprunto_write_trace_listed(list->bytes, list->size, form, trace->memory, trace->words, trace->events * 6, out->bytes, FILE_BYTES,
+                                    result);
+    } else {
+        laprunto_write_trace(form, trace->memory, trace->words, trace->events * 6, out->bytes, FILE_BYTES, result);
+    }
+    out->size = result[LAPRUNTO_PLACE];
+}
+
+static void move_trace(laprunto_number to_form, const struct text *text, struct text *out, size_t *result) {
+    if (list != NULL) {
+        laprunto_move_trace_listed(list->bytes, list->size, to_form, text->bytes, text->size, out->bytes, FILE_BYTES, result);
+    } else {
+        laprunto_move_trace(to_form, text->bytes, text->size, out->bytes, FILE_BYTES, result);
+    }
+    out->size = result[LAPRUNTO_PLACE];
 }
 
 /* Whether a trace, written, is the text that it was read from, and is read back as it was. */
@@ -46,16 +105,13 @@ static int comes_back(const struct text *text, const struct trace *trace) {
     static struct text written;
     static struct trace again;
     size_t result[LAPRUNTO_READ];
-    size_t words = trace->events * 6;
-    laprunto_number form = laprunto_trace_form(text->bytes, text->size);
-    laprunto_write_trace(form, trace->memory, trace->words, words, written.bytes, FILE_BYTES, result);
-    written.size = result[LAPRUNTO_PLACE];
+    write_trace(laprunto_trace_form(text->bytes, text->size), trace, &written, result);
     if (result[LAPRUNTO_NUMBER] != 0 || !same_text(&written, text)) {
         return 0;
     }
-    laprunto_read_trace(written.bytes, written.size, again.words, LAPRUNTO_TRACE_WORDS, again.memory, result);
-    return result[LAPRUNTO_NUMBER] == 0 && result[LAPRUNTO_COUNT] == trace->events &&
-           memcmp(again.words, trace->words, words * sizeof(laprunto_word)) == 0 &&
+    read_trace(&written, &again, result);
+    return result[LAPRUNTO_NUMBER] == 0 && again.events == trace->events &&
+           memcmp(again.words, trace->words, trace->events * 6 * sizeof(laprunto_word)) == 0 &&
            memcmp(again.memory, trace->memory, sizeof trace->memory) == 0;
 }
 
@@ -64,16 +120,14 @@ static int moves_back(const struct text *text) {
     static struct text moved, back;
     size_t result[LAPRUNTO_ANSWER];
     laprunto_number form = laprunto_trace_form(text->bytes, text->size);
-    laprunto_move_trace(form == 2 ? 1 : 2, text->bytes, text->size, moved.bytes, FILE_BYTES, result);
+    move_trace(form == 2 ? 1 : 2, text, &moved, result);
     if (result[LAPRUNTO_NUMBER] == 19) {
         return form == 2;
     }
-    moved.size = result[LAPRUNTO_PLACE];
     if (result[LAPRUNTO_NUMBER] != 0) {
         return 0;
     }
-    laprunto_move_trace(form, moved.bytes, moved.size, back.bytes, FILE_BYTES, result);
-    back.size = result[LAPRUNTO_PLACE];
+    move_trace(form, &moved, &back, result);
     return result[LAPRUNTO_NUMBER] == 0 && same_text(&back, text);
 }
 
@@ -111,7 +165,7 @@ static int runs(const struct text texts[3], int accepted) {
 }
 
 int main(int count, char **names) {
-    static struct text texts[3];
+    static struct text texts[3], listed;
     static struct trace source, target;
     static laprunto_entry entries[LAPRUNTO_ENTRY_WORDS];
     size_t result[LAPRUNTO_CHECKED];
@@ -119,18 +173,20 @@ int main(int count, char **names) {
     for (int i = 0; i < 3; i++) {
         read_file(i + 1 < count ? names[i + 1] : "", &texts[i]);
     }
-    laprunto_check(texts[0].bytes, texts[0].size, texts[1].bytes, texts[1].size, texts[2].bytes, texts[2].size, source.words,
-                   LAPRUNTO_TRACE_WORDS, target.words, LAPRUNTO_TRACE_WORDS, entries, LAPRUNTO_ENTRY_WORDS, source.memory,
-                   target.memory, result);
-    source.events = result[LAPRUNTO_SOURCE_EVENTS];
-    target.events = result[LAPRUNTO_TARGET_EVENTS];
+    if (4 < count) {
+        read_file(names[4], &listed);
+        list = &listed;
+    }
+    check(texts, &source, &target, entries, result);
     printf("%s\t%zu\t%zu\t%zu\n", result[LAPRUNTO_NUMBER] == 0 ? "accepted" : "refused", result[LAPRUNTO_NUMBER],
            result[LAPRUNTO_SIDE], result[LAPRUNTO_PLACE]);
     laprunto_offending_line(texts[0].bytes, texts[0].size, texts[1].bytes, texts[1].size, (laprunto_number)result[LAPRUNTO_NUMBER],
                             (laprunto_number)result[LAPRUNTO_SIDE], result[LAPRUNTO_PLACE], &from, &to);
     print_line(&texts[result[LAPRUNTO_SIDE] == 2], from, to);
 
-    if (!runs(texts, result[LAPRUNTO_NUMBER] == 0)) {
+    if (list != NULL) {
+        print_listed();
+    } else if (!runs(texts, result[LAPRUNTO_NUMBER] == 0)) {
         fprintf(stderr, "the run does not go to its end\n");
         return 1;
     }

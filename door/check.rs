@@ -1,14 +1,16 @@
-//! Checks three files, source, target and matching, and prints what the program
-//! `laprunto` prints. Then both traces that were read are written again, what was
-//! written is read back, and both texts are moved to the other form and back:
-//! status 1 if anything came back otherwise.
+//! Checks three files, source, target and matching, with a list of registers if
+//! there is a fourth, and prints what the program `laprunto` prints, and the
+//! locations that are listed. Then both traces that were read are written again,
+//! what was written is read back, and both texts are moved to the other form and
+//! back: status 1 if anything came back otherwise.
 
 mod laprunto;
 
 use laprunto::{laprunto_apply, laprunto_next, laprunto_start};
 use laprunto::{laprunto_check, laprunto_move_trace, laprunto_offending_line, laprunto_read_matching};
+use laprunto::{laprunto_check_listed, laprunto_move_trace_listed, laprunto_read_list, laprunto_read_trace_listed, laprunto_write_trace_listed};
 use laprunto::{laprunto_read_trace, laprunto_trace_form, laprunto_write_trace};
-use laprunto::{Entry, Memory, Number, Word};
+use laprunto::{Entry, Listed, Memory, Number, Word};
 use std::io::{Read, Write};
 
 /// The longest text, a trace of form 2.
@@ -31,30 +33,36 @@ struct Checked {
     entries: Vec<Entry>,
 }
 
-fn check(source: &[u8], target: &[u8], matching: &[u8]) -> Checked {
+/// The text of a list of registers, or none.
+type List<'a> = Option<&'a [u8]>;
+
+/// The locations that a list names, none under a refusal.
+fn listed(list: &[u8]) -> Vec<usize> {
+    let (mut result, mut listed): ([usize; 3], Listed) = ([0; 3], [0; 256]);
+    unsafe { laprunto_read_list(list.as_ptr(), list.len(), &mut result, &mut listed) };
+    (0..256).filter(|&i| listed[i] == 1).collect()
+}
+
+fn check(list: List, source: &[u8], target: &[u8], matching: &[u8]) -> Checked {
     let [mut source_room, mut target_room] = [vec![0; EVENTS * WORDS], vec![0; EVENTS * WORDS]];
     let mut entry_room = vec![0; EVENTS];
     let [mut source_memory, mut target_memory] = [[0; 256]; 2];
     let mut result = [0; 6];
     // Each pointer is that of a slice and comes with its length.
     unsafe {
-        laprunto_check(
-            source.as_ptr(),
-            source.len(),
-            target.as_ptr(),
-            target.len(),
-            matching.as_ptr(),
-            matching.len(),
-            source_room.as_mut_ptr(),
-            source_room.len(),
-            target_room.as_mut_ptr(),
-            target_room.len(),
-            entry_room.as_mut_ptr(),
-            entry_room.len(),
-            &mut source_memory,
-            &mut target_memory,
-            &mut result,
-        );
+        match list {
+            Some(list) => laprunto_check_listed(
+                list.as_ptr(), list.len(),
+                source.as_ptr(), source.len(), target.as_ptr(), target.len(), matching.as_ptr(), matching.len(),
+                source_room.as_mut_ptr(), source_room.len(), target_room.as_mut_ptr(), target_room.len(),
+                entry_room.as_mut_ptr(), entry_room.len(), &mut source_memory, &mut target_memory, &mut result,
+            ),
+            None => laprunto_check(
+                source.as_ptr(), source.len(), target.as_ptr(), target.len(), matching.as_ptr(), matching.len(),
+                source_room.as_mut_ptr(), source_room.len(), target_room.as_mut_ptr(), target_room.len(),
+                entry_room.as_mut_ptr(), entry_room.len(), &mut source_memory, &mut target_memory, &mut result,
+            ),
+        }
     }
     let [number, side, place, source_events, target_events, entries] = result;
     source_room.truncate(source_events * WORDS);
@@ -104,25 +112,37 @@ fn written(write: impl Fn(&mut [u8], &mut [usize; 3])) -> Result<Vec<u8>, usize>
     }
 }
 
-fn write_trace(form: Number, trace: &Trace) -> Result<Vec<u8>, usize> {
+fn write_trace(list: List, form: Number, trace: &Trace) -> Result<Vec<u8>, usize> {
+    let (memory, room, words) = (&trace.memory, trace.words.as_ptr(), trace.words.len());
     written(|out, result| unsafe {
-        let (words, room) = (trace.words.len(), trace.words.as_ptr());
-        laprunto_write_trace(form, &trace.memory, room, words, out.as_mut_ptr(), out.len(), result);
+        let (bytes, size) = (out.as_mut_ptr(), out.len());
+        match list {
+            Some(list) => laprunto_write_trace_listed(list.as_ptr(), list.len(), form, memory, room, words, bytes, size, result),
+            None => laprunto_write_trace(form, memory, room, words, bytes, size, result),
+        }
     })
 }
 
-fn move_trace(to_form: Number, text: &[u8]) -> Result<Vec<u8>, usize> {
+fn move_trace(list: List, to_form: Number, text: &[u8]) -> Result<Vec<u8>, usize> {
     written(|out, result| unsafe {
-        laprunto_move_trace(to_form, text.as_ptr(), text.len(), out.as_mut_ptr(), out.len(), result);
+        let (bytes, size) = (out.as_mut_ptr(), out.len());
+        match list {
+            Some(list) => laprunto_move_trace_listed(list.as_ptr(), list.len(), to_form, text.as_ptr(), text.len(), bytes, size, result),
+            None => laprunto_move_trace(to_form, text.as_ptr(), text.len(), bytes, size, result),
+        }
     })
 }
 
-fn read_trace(text: &[u8]) -> Option<Trace> {
+fn read_trace(list: List, text: &[u8]) -> Option<Trace> {
     let mut words = vec![0; EVENTS * WORDS];
     let mut memory = [0; 256];
     let mut result = [0; 4];
     unsafe {
-        laprunto_read_trace(text.as_ptr(), text.len(), words.as_mut_ptr(), words.len(), &mut memory, &mut result);
+        let (bytes, size, room, lent) = (text.as_ptr(), text.len(), words.as_mut_ptr(), words.len());
+        match list {
+            Some(list) => laprunto_read_trace_listed(list.as_ptr(), list.len(), bytes, size, room, lent, &mut memory, &mut result),
+            None => laprunto_read_trace(bytes, size, room, lent, &mut memory, &mut result),
+        }
     }
     let [number, _, _, events] = result;
     words.truncate(events * WORDS);
@@ -141,15 +161,15 @@ fn read_matching(text: &[u8]) -> Option<Vec<Entry>> {
 }
 
 /// Whether a trace, written, is the text that it was read from, and is read back as it was.
-fn comes_back(text: &[u8], trace: &Trace) -> bool {
-    write_trace(form_of(text), trace).is_ok_and(|written| written == text && read_trace(&written).as_ref() == Some(trace))
+fn comes_back(list: List, text: &[u8], trace: &Trace) -> bool {
+    write_trace(list, form_of(text), trace).is_ok_and(|written| written == text && read_trace(list, &written).as_ref() == Some(trace))
 }
 
 /// Whether a lawful text, moved to the other form, moves back to the same bytes. Form 1 refuses what has code lines, with 19.
-fn moves_back(text: &[u8]) -> bool {
+fn moves_back(list: List, text: &[u8]) -> bool {
     let form = form_of(text);
-    match move_trace(3 - form, text) {
-        Ok(moved) => move_trace(form, &moved).is_ok_and(|back| back == text),
+    match move_trace(list, 3 - form, text) {
+        Ok(moved) => move_trace(list, form, &moved).is_ok_and(|back| back == text),
         Err(number) => form == 2 && number == 19,
     }
 }
@@ -199,27 +219,32 @@ fn read_file(name: Option<String>) -> Vec<u8> {
 fn main() {
     let mut names = std::env::args().skip(1);
     let [source, target, matching] = [(); 3].map(|()| read_file(names.next()));
-    let checked = check(&source, &target, &matching);
+    let list = names.next().map(|name| read_file(Some(name)));
+    let list = list.as_deref();
+    let checked = check(list, &source, &target, &matching);
     let word = if checked.number == 0 { "accepted" } else { "refused" };
     println!("{word}\t{}\t{}\t{}", checked.number, checked.side, checked.place);
     let line = offending_line(&source, &target, &checked);
     if !line.is_empty() {
         std::io::stdout().write_all(&[line, b"\n"].concat()).expect("the line can be printed");
     }
-    if !runs(&source, &target, &matching, checked.number == 0) {
+    for location in list.map(listed).unwrap_or_default() {
+        println!("listed\t{location}");
+    }
+    if list.is_none() && !runs(&source, &target, &matching, checked.number == 0) {
         eprintln!("the run does not go to its end");
         std::process::exit(1);
     }
     // A reading's refusal stores nothing; 0 and 7 to 16 come after all three texts were read.
     let read = checked.number == 0 || (7..=16).contains(&checked.number);
-    let back = comes_back(&source, &checked.source)
-        && comes_back(&target, &checked.target)
+    let back = comes_back(list, &source, &checked.source)
+        && comes_back(list, &target, &checked.target)
         && read_matching(&matching) == Some(checked.entries);
     if read && !back {
         eprintln!("what was written is not read back");
         std::process::exit(1);
     }
-    if read && !(moves_back(&source) && moves_back(&target)) {
+    if read && !(moves_back(list, &source) && moves_back(list, &target)) {
         eprintln!("what was moved does not move back");
         std::process::exit(1);
     }

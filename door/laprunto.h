@@ -1,4 +1,5 @@
-/* Laprunto for C: reading, writing, moving and checking of traces, the line at fault, and the run of an accepted matching.
+/* Laprunto for C: reading, writing, moving and checking of traces, with a list of device registers or without, the line at fault, and the
+ * run of an accepted matching.
  *
  * Link target/staticlib/libexport.a (`rt staticlib export`). Each function is proved against its contract in
  * crates/export/src and wants no other library than C's own memcpy, memmove and memset.
@@ -16,6 +17,9 @@
  *
  * Forms. A trace text is of form 2 where it begins with the line `trace`, tab, `2`, else of form 1. Where a form is handed in, 2 is
  * form 2 and any other number is form 1.
+ *
+ * Lists. A function whose name ends in _listed is the one without that ending, and takes the text of a list of registers first. The list is
+ * read ahead of everything else: where it refuses, with 1, 2 or 22 and side 4, that is the answer and nothing is stored.
  *
  * Results. Each begins with the answer, the number, side and place of the table in README.md; number 0 is done. Counts come
  * after it. Counts and memories are 0 where nothing is stored. */
@@ -35,18 +39,19 @@ typedef uint32_t laprunto_entry;  /* an entry of a matching */
 
 enum {
     LAPRUNTO_MATCHING_BYTES = 32400, /* the longest matching */
+    LAPRUNTO_LIST_BYTES = 32400,     /* the longest list of registers */
     LAPRUNTO_FORM_1_BYTES = 52500,   /* the longest trace of form 1 */
     LAPRUNTO_FORM_2_BYTES = 57300,   /* the longest trace of form 2 */
     LAPRUNTO_TRACE_WORDS = 4800,     /* 800 events */
     LAPRUNTO_ENTRY_WORDS = 800,      /* 800 entries */
-    LAPRUNTO_CELLS = 256,            /* a starting memory */
+    LAPRUNTO_CELLS = 256,            /* a starting memory, and a list's marks */
     LAPRUNTO_TAGS = 800              /* where each event of a run comes from */
 };
 
 /* Where what stands in a result. */
 enum {
     LAPRUNTO_NUMBER = 0, /* of every result */
-    LAPRUNTO_SIDE = 1,   /* 0 none, 1 source, 2 target, 3 matching */
+    LAPRUNTO_SIDE = 1,   /* 0 none, 1 source, 2 target, 3 matching, 4 list of registers */
     LAPRUNTO_PLACE = 2,
     LAPRUNTO_COUNT = 3,         /* of a reading: its events or entries */
     LAPRUNTO_SOURCE_EVENTS = 3, /* of a check */
@@ -54,7 +59,7 @@ enum {
     LAPRUNTO_ENTRIES = 5,
     LAPRUNTO_COST = 6, /* of a beginning: how many steps the run has to its end */
 
-    LAPRUNTO_ANSWER = 3,  /* the size_t of a writer's or a move's result, */
+    LAPRUNTO_ANSWER = 3,  /* the size_t of a writer's, a move's or a list's result, */
     LAPRUNTO_READ = 4,    /* of a reading's, */
     LAPRUNTO_CHECKED = 6, /* of a check's */
     LAPRUNTO_STARTED = 7  /* and of a beginning's, which is a check's and one more */
@@ -107,6 +112,27 @@ void laprunto_check(const uint8_t *source, size_t source_bytes, const uint8_t *t
                     laprunto_word *target_room, size_t target_room_words, laprunto_entry *entry_room,
                     size_t entry_room_entries, laprunto_word source_memory[LAPRUNTO_CELLS],
                     laprunto_word target_memory[LAPRUNTO_CELLS], size_t result[LAPRUNTO_CHECKED]);
+
+/* Reads a list of registers alone: side 4 where it refuses. Writes all of result and of listed: 1 for each location that is listed, 0 for any
+ * other, and 0 for all under a refusal. */
+void laprunto_read_list(const uint8_t *list, size_t list_bytes, size_t result[LAPRUNTO_ANSWER], uint8_t listed[LAPRUNTO_CELLS]);
+
+/* The same as above, with a list. */
+void laprunto_read_trace_listed(const uint8_t *list, size_t list_bytes, const uint8_t *text, size_t text_bytes, laprunto_word *room,
+                                size_t room_words, laprunto_word memory[LAPRUNTO_CELLS], size_t result[LAPRUNTO_READ]);
+
+void laprunto_write_trace_listed(const uint8_t *list, size_t list_bytes, laprunto_number form,
+                                 const laprunto_word memory[LAPRUNTO_CELLS], const laprunto_word *room, size_t room_words,
+                                 uint8_t *out, size_t out_bytes, size_t result[LAPRUNTO_ANSWER]);
+
+void laprunto_move_trace_listed(const uint8_t *list, size_t list_bytes, laprunto_number to_form, const uint8_t *text,
+                                size_t text_bytes, uint8_t *out, size_t out_bytes, size_t result[LAPRUNTO_ANSWER]);
+
+void laprunto_check_listed(const uint8_t *list, size_t list_bytes, const uint8_t *source, size_t source_bytes, const uint8_t *target,
+                           size_t target_bytes, const uint8_t *matching, size_t matching_bytes, laprunto_word *source_room,
+                           size_t source_room_words, laprunto_word *target_room, size_t target_room_words,
+                           laprunto_entry *entry_room, size_t entry_room_entries, laprunto_word source_memory[LAPRUNTO_CELLS],
+                           laprunto_word target_memory[LAPRUNTO_CELLS], size_t result[LAPRUNTO_CHECKED]);
 
 /* The line that an answer of a check finds fault with: the bytes from *from to before *to, of the target text where side is 2, else
  * of the source text, without its LF. Any three numbers may be handed in: where the number is one that has a line and the side is 1

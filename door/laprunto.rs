@@ -8,6 +8,8 @@ pub type Number = u32;
 /// An entry of a matching.
 pub type Entry = Number;
 pub type Memory = [Word; 256];
+/// A mark for each location: 1 if it is listed, 0 if not.
+pub type Listed = [u8; 256];
 
 #[rustfmt::skip]
 extern "C" {
@@ -40,4 +42,25 @@ extern "C" {
         run: *mut [usize; 2], tags: *mut [usize; 800], source: *const Word, source_words: usize, target: *const Word, target_words: usize,
         kind: usize, place: usize, number: usize,
     ) -> usize;
+
+    // The same with a list of registers.
+    pub fn laprunto_read_list(list: *const u8, list_bytes: usize, result: *mut [usize; 3], listed: *mut Listed);
+    pub fn laprunto_read_trace_listed(
+        list: *const u8, list_bytes: usize, text: *const u8, bytes: usize, room: *mut Word, words: usize, memory: *mut Memory,
+        result: *mut [usize; 4],
+    );
+    pub fn laprunto_write_trace_listed(
+        list: *const u8, list_bytes: usize, form: Number, memory: *const Memory, room: *const Word, words: usize, out: *mut u8, bytes: usize,
+        result: *mut [usize; 3],
+    );
+    pub fn laprunto_move_trace_listed(
+        list: *const u8, list_bytes: usize, to_form: Number, text: *const u8, bytes: usize, out: *mut u8, out_bytes: usize,
+        result: *mut [usize; 3],
+    );
+    pub fn laprunto_check_listed(
+        list: *const u8, list_bytes: usize,
+        source: *const u8, source_bytes: usize, target: *const u8, target_bytes: usize, matching: *const u8, matching_bytes: usize,
+        source_room: *mut Word, source_words: usize, target_room: *mut Word, target_words: usize, entry_room: *mut Entry, entries: usize,
+        source_memory: *mut Memory, target_memory: *mut Memory, result: *mut [usize; 6],
+    );
 }

@@ -9,8 +9,8 @@ use Rattle.steps.specs.declared.Applied.{Applied}
 use Rattle.steps.specs.declared.Run.{Run}
 use Rattle.steps.specs.declared.Started.{Started}
 use Rattle.steps.specs.declared.Step.{Step}
-use Rattle.export.specs.Numbers.{checkNumbers}
-use Rattle.export.specs.Runs.{Begins, Leaves, flag, runNumbers, stepNumbers}
+use Rattle.export.specs.Numbers.{checkNumbers, flag}
+use Rattle.export.specs.Runs.{Begins, Leaves, runNumbers, stepNumbers}
 
 pub step-laid : (s t : List Event) (ns : List ℕ) (swapped : ℕ) (r r′ : Run) (A : List ℕ) (st : Step) (l : List ℕ) → l ≡ stepNumbers st
     → st ≡ nextOf s t ns swapped r A → r ≡ r′ → l ≡ stepNumbers (nextOf s t ns swapped r′ A)

@@ -9,6 +9,11 @@ use Rattle.export.proofs.laprunto_write_trace.Reads as write-trace
 use Rattle.export.proofs.laprunto_move_trace.Reads as move-trace
 use Rattle.export.proofs.laprunto_check.Reads as check
 use Rattle.export.proofs.laprunto_offending_line.Reads as offending-line
+use Rattle.export.proofs.listed.laprunto_read_list.Reads as read-list
+use Rattle.export.proofs.listed.laprunto_read_trace_listed.Reads as read-trace-listed
+use Rattle.export.proofs.listed.laprunto_write_trace_listed.Reads as write-trace-listed
+use Rattle.export.proofs.listed.laprunto_move_trace_listed.Reads as move-trace-listed
+use Rattle.export.proofs.listed.laprunto_check_listed.Reads as check-listed
 use Rattle.export.proofs.run.laprunto_start.Reads as start
 use Rattle.export.proofs.run.laprunto_next.Reads as next
 use Rattle.export.proofs.run.laprunto_apply.Reads as apply
@@ -66,6 +71,51 @@ offending-line-from κ a x y s t h k = ap (λ (p : Span). p .from) (h .1 ∙ sym
 
 offending-line-to : OneOf offending-line.Post (λ κ r s. s .1 .1 .1 .1 .1 .1 .0 .now)
 offending-line-to κ a x y s t h k = ap (λ (p : Span). p .to) (h .1 ∙ sym (k .1))
+
+read-list-result : OneOf read-list.Post (λ κ r s. s .1 .0 .now)
+read-list-result κ a x y s t h k = h .0 ∙ sym (k .0)
+
+read-list-marks : OneOf read-list.Post (λ κ r s. s .1 .1 .0 .now)
+read-list-marks κ a x y s t h k = h .1 ∙ sym (k .1)
+
+read-trace-listed-result : OneOf read-trace-listed.Post (λ κ r s. s .1 .1 .1 .1 .0 .now)
+read-trace-listed-result κ a x y s t h k = h .0 ∙ sym (k .0)
+
+read-trace-listed-memory : OneOf read-trace-listed.Post (λ κ r s. s .1 .1 .1 .0 .now)
+read-trace-listed-memory κ a x y s t h k = h .1 .0 ∙ sym (k .1 .0)
+
+read-trace-listed-room : OneOf read-trace-listed.Post (λ κ r s. s .1 .1 .0 .now)
+read-trace-listed-room κ a x y s t h k = h .1 .1 ∙ sym (k .1 .1)
+
+write-trace-listed-result : OneOf write-trace-listed.Post (λ κ r s. s .1 .1 .1 .1 .1 .0 .now)
+write-trace-listed-result κ a x y s t h k = h .0 ∙ sym (k .0)
+
+write-trace-listed-bytes : OneOf write-trace-listed.Post (λ κ r s. s .1 .1 .1 .1 .0 .now)
+write-trace-listed-bytes κ a x y s t h k = h .1 ∙ sym (k .1)
+
+move-trace-listed-result : OneOf move-trace-listed.Post (λ κ r s. s .1 .1 .1 .1 .0 .now)
+move-trace-listed-result κ a x y s t h k = h .0 ∙ sym (k .0)
+
+move-trace-listed-bytes : OneOf move-trace-listed.Post (λ κ r s. s .1 .1 .1 .0 .now)
+move-trace-listed-bytes κ a x y s t h k = h .1 ∙ sym (k .1)
+
+check-listed-result : OneOf check-listed.Post (λ κ r s. s .1 .1 .1 .1 .1 .1 .1 .1 .1 .0 .now)
+check-listed-result κ a x y s t h k = h .numbers ∙ sym (k .numbers)
+
+check-listed-source-memory : OneOf check-listed.Post (λ κ r s. s .1 .1 .1 .1 .1 .1 .1 .0 .now)
+check-listed-source-memory κ a x y s t h k = h .sourceStart ∙ sym (k .sourceStart)
+
+check-listed-target-memory : OneOf check-listed.Post (λ κ r s. s .1 .1 .1 .1 .1 .1 .1 .1 .0 .now)
+check-listed-target-memory κ a x y s t h k = h .targetStart ∙ sym (k .targetStart)
+
+check-listed-source-room : OneOf check-listed.Post (λ κ r s. s .1 .1 .1 .1 .0 .now)
+check-listed-source-room κ a x y s t h k = h .sourceEvents ∙ sym (k .sourceEvents)
+
+check-listed-target-room : OneOf check-listed.Post (λ κ r s. s .1 .1 .1 .1 .1 .0 .now)
+check-listed-target-room κ a x y s t h k = h .targetEvents ∙ sym (k .targetEvents)
+
+check-listed-entry-room : OneOf check-listed.Post (λ κ r s. s .1 .1 .1 .1 .1 .1 .0 .now)
+check-listed-entry-room κ a x y s t h k = h .entries ∙ sym (k .entries)
 
 start-result : OneOf start.Post (λ κ r s. s .1 .1 .1 .1 .1 .1 .1 .1 .0 .now)
 start-result κ a x y s t h k = h .numbers ∙ sym (k .numbers)

@@ -1,17 +1,20 @@
 -- Document 01, "Numbers that come back": how what a call hands back lies in the arrays that C and Rust lend. Assumes nothing.
 use Prim.Native.Nat.{ℕ}
-use mathlib.Core.Bool.{cond}
-use mathlib.Core.List.{List, [], _∷_, _++_}
+use mathlib.Core.Bool.{Bool, cond}
+use mathlib.Core.List.{List, [], _∷_, _++_, map}
 use mathlib.Core.Path.{_≡_}
 use lib.Dec.{eqb}
 use Rattle.event.specs.declared.Answer.{Answer}
 use Rattle.event.specs.declared.memory.Memory.{Memory}
+use Rattle.registers.specs.Reading.{listOf}
+use Rattle.trace.specs.Listed.{unlessListed}
 use Rattle.trace.specs.declared.reading.TraceRead.{TraceRead}
 use Rattle.record.specs.declared.form.Form.{Form}
 use Rattle.record.specs.declared.form.Form.the-variants.{One, Two}
 use Rattle.matching.specs.declared.MatchingRead.{MatchingRead}
 use Rattle.checker.specs.declared.Checked.{Checked}
 use Rattle.checker.specs.Check.{Lent, checkOf, sourceRoomAfter, targetRoomAfter, entryRoomAfter}
+use Rattle.checker.specs.Check.{checkListed, sourceRoomIn, targetRoomIn, entryRoomIn}
 
 -- An answer: number, side, place.
 abbrev pub answerNumbers : Answer → List ℕ
@@ -29,6 +32,13 @@ matchingNumbers r = answerNumbers (r .answer) ++ r .entries ∷ []
 abbrev pub checkNumbers : Checked → List ℕ
 checkNumbers c = answerNumbers (c .answer) ++ c .source .events ∷ c .target .events ∷ c .entries ∷ []
 
+-- 1 for yes, 0 for no; and a list's marks.
+abbrev pub flag : Bool → ℕ
+flag b = cond b 1 0
+
+abbrev pub marks : List Bool → List ℕ
+marks listed = map flag listed
+
 -- The memory of 256 cells.
 abbrev pub starting : List ℕ → Memory
 starting cells = record { cells = cells }
@@ -42,11 +52,21 @@ formNumber Two = 2
 abbrev pub formNumbered : ℕ → Form
 formNumbered n = cond (eqb n 2) Two One
 
--- What a check leaves in the lent arrays and rooms.
-pub record Leaves (l : Lent) (result sourceMemory targetMemory sourceRoom targetRoom entryRoom : List ℕ) : Type 0 where
-  pub numbers : result ≡ checkNumbers (checkOf l)
-  pub sourceStart : sourceMemory ≡ checkOf l .source .memory .cells
-  pub targetStart : targetMemory ≡ checkOf l .target .memory .cells
-  pub sourceEvents : sourceRoom ≡ sourceRoomAfter l
-  pub targetEvents : targetRoom ≡ targetRoomAfter l
-  pub entries : entryRoom ≡ entryRoomAfter l
+-- What a check leaves in the lent arrays and rooms: what it is to hand back, laid out, and the three rooms as they are to be.
+pub record Lays (c : Checked) (source target matching : List ℕ) (result sourceMemory targetMemory sourceRoom targetRoom entryRoom : List ℕ) : Type 0 where
+  pub numbers : result ≡ checkNumbers c
+  pub sourceStart : sourceMemory ≡ c .source .memory .cells
+  pub targetStart : targetMemory ≡ c .target .memory .cells
+  pub sourceEvents : sourceRoom ≡ source
+  pub targetEvents : targetRoom ≡ target
+  pub entries : entryRoom ≡ matching
+
+-- Without a list, and with one.
+abbrev pub Leaves : Lent → List ℕ → List ℕ → List ℕ → List ℕ → List ℕ → List ℕ → Type 0
+Leaves l = Lays (checkOf l) (sourceRoomAfter l) (targetRoomAfter l) (entryRoomAfter l)
+
+abbrev pub LeavesListed : List ℕ → Lent → List ℕ → List ℕ → List ℕ → List ℕ → List ℕ → List ℕ → Type 0
+LeavesListed list l =
+    let regs = listOf list .listed in
+    Lays (checkListed list l) (unlessListed list (l .sourceRoom) (sourceRoomIn regs l)) (unlessListed list (l .targetRoom) (targetRoomIn regs l))
+    (unlessListed list (l .entryRoom) (entryRoomIn regs l))

@@ -1,6 +1,6 @@
 -- Requests C-12 and C-18 for C and Rust: how a beginning, a run and a step lie in the arrays that are lent. Assumes nothing.
 use Prim.Native.Nat.{ℕ}
-use mathlib.Core.Bool.{Bool, not, cond}
+use mathlib.Core.Bool.{not, cond}
 use mathlib.Core.Option.{Option}
 use mathlib.Core.List.{List, [], _∷_, _++_}
 use mathlib.Core.Path.{_≡_}
@@ -11,11 +11,7 @@ use Rattle.steps.specs.Play.{appliedOf, beginning, costOf, tagsAfter, tagsBegun
 use Rattle.steps.specs.declared.Run.{Run}
 use Rattle.steps.specs.declared.Step.{Step}
 use Rattle.steps.specs.declared.Step.the-variants.{Remove, Swap, Insert, Done, Stuck}
-use Rattle.export.specs.Numbers.{checkNumbers}
-
--- 1 for yes, 0 for no.
-abbrev pub flag : Bool → ℕ
-flag b = cond b 1 0
+use Rattle.export.specs.Numbers.{checkNumbers, flag}
 
 -- A run: whether it has begun, and how many events stand; and back, any number but 0 for yes.
 abbrev pub runNumbers : Run → List ℕ

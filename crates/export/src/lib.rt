@@ -1,5 +1,6 @@
 // The library for C and Rust: reading, writing, moving, checking and the line at fault, on numbers, slices and arrays.
 // `door/laprunto.h` declares them for C; a slice is a pointer and a length there, an array a pointer.
+pub mod listed;
 pub mod run;
 
 ghost use mathlib.Core.Path.{_≡_};
@@ -32,7 +33,7 @@ use trace::form::form_of;
 use writer::moving::move_to;
 
 // The form that a number names.
-fn form_numbered(n: Number) -> Form
+pub(crate) fn form_numbered(n: Number) -> Form
     ensures { λ r. ⌜ r ≡ formNumbered n ⌝ }
 {
     if n == 2 {

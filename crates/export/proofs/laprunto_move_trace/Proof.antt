@@ -1,17 +1,19 @@
 -- The form is the one that the number names, and the answer is laid out. Assumes nothing.
-use mathlib.Core.Path.{ap}
-use Rattle.export.specs.Numbers.{answerNumbers}
+use Rattle.record.specs.declared.form.Form.{Form}
+use Rattle.trace.specs.Moving.{moveOf, movedOut}
 use borrow.Author.Needs.{needs}
+use Rattle.export.proofs.Laid.{written-laid}
 use Rattle.export.proofs.laprunto_move_trace.Statement.{statement}
 use Rattle.export.proofs.laprunto_move_trace.Tie as tie
 
 returns : tie.Need-returns
 returns c =
     let m = c .before .before .before .before .before in
-    let f = m .before .before .form-numbered .ensures in (
-      rw (c .before .before .number-index .ensures, c .before .number-index2 .ensures, ← f) (ap answerNumbers (m .move-to .ensures .0)),
-      rw (← f) (m .move-to .ensures .1),
-    )
+    let n = m .before .before in
+    let a = n .before .before .before .args in
+    written-laid (λ (f : Form). moveOf f (a .text .now) (a .out .now)) (λ (f : Form). movedOut f (a .text .now) (a .out .now)) _ _
+    (m .move-to .result) _ _ _ (m .move-to .ensures) (n .form-numbered .ensures) (c .before .before .number-index .ensures)
+    (c .before .number-index2 .ensures)
 
 pub laprunto-move-trace-spec : {M : Type 1} → statement M
 laprunto-move-trace-spec =

@@ -1,17 +1,20 @@
 -- The form is the one that the number names, and the answer is laid out. Assumes nothing.
-use mathlib.Core.Path.{ap}
-use Rattle.export.specs.Numbers.{answerNumbers}
+use Rattle.record.specs.declared.form.Form.{Form}
+use Rattle.trace.specs.Writing.{writeOf, outAfter}
 use borrow.Author.Needs.{needs}
+use Rattle.export.specs.Numbers.{starting}
+use Rattle.export.proofs.Laid.{written-laid}
 use Rattle.export.proofs.laprunto_write_trace.Statement.{statement}
 use Rattle.export.proofs.laprunto_write_trace.Tie as tie
 
 returns : tie.Need-returns
 returns c =
     let w = c .before .before .before .before .before in
-    let f = w .before .before .form-numbered .ensures in (
-      rw (c .before .before .number-index .ensures, c .before .number-index2 .ensures, ← f) (ap answerNumbers (w .write .ensures .0)),
-      rw (← f) (w .write .ensures .1),
-    )
+    let a = w .before .before .before .before .before .before .args in
+    let m = starting (a .memory .now) in
+    written-laid (λ (f : Form). writeOf f m (a .room .now) (a .out .now)) (λ (f : Form). outAfter f m (a .room .now) (a .out .now)) _ _
+    (w .write .result) _ _ _ (w .write .ensures) (w .before .before .form-numbered .ensures) (c .before .before .number-index .ensures)
+    (c .before .number-index2 .ensures)
 
 pub laprunto-write-trace-spec : {M : Type 1} → statement M
 laprunto-write-trace-spec =

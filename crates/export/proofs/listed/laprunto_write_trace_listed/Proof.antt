@@ -1,0 +1,28 @@
+-- The form is the one that the number names, and the answer is laid out. Assumes nothing.
+use Rattle.record.specs.declared.form.Form.{Form}
+use Rattle.trace.specs.Listed.{writeListed, outListed}
+use borrow.Author.Needs.{needs}
+use Rattle.export.specs.Numbers.{starting}
+use Rattle.export.proofs.Laid.{written-laid}
+use Rattle.export.proofs.listed.laprunto_write_trace_listed.Statement.{statement}
+use Rattle.export.proofs.listed.laprunto_write_trace_listed.Tie as tie
+
+returns : tie.Need-returns
+returns c =
+    let w = c .before .before .before .before .before in
+    let a = w .before .before .before .before .before .before .before .args in
+    let m = starting (a .memory .now) in
+    written-laid (λ (f : Form). writeListed (a .list .now) f m (a .room .now) (a .out .now))
+    (λ (f : Form). outListed (a .list .now) f m (a .room .now) (a .out .now)) _ _ (w .write-listed .result) _ _ _ (w .write-listed .ensures) (w .before .before .form-numbered .ensures) (c .before .before .number-index .ensures)
+    (c .before .number-index2 .ensures)
+
+pub laprunto-write-trace-listed-spec : {M : Type 1} → statement M
+laprunto-write-trace-listed-spec =
+    tie.close
+    (tie.spec
+    (search needs)
+    (search needs)
+    (search needs)
+    (search needs)
+    (search needs)
+    returns)

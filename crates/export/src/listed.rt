@@ -1,0 +1,165 @@
+// Lists of registers: one read by itself, and reading, writing, moving and checking with the text of one, which is read ahead of everything else.
+ghost use mathlib.Core.Path.{_≡_};
+ghost use Rattle.registers.specs.Reading.{listOf};
+ghost use Rattle.trace.specs.Listed.{readListed, roomListed, writeListed, outListed, moveListed, movedListed};
+ghost use Rattle.checker.specs.Check.{lent};
+ghost use Rattle.export.specs.Numbers.{answerNumbers, traceNumbers, marks, starting, formNumbered, LeavesListed};
+use crate::form_numbered;
+use checker::check_listed;
+use event::Entry;
+use event::Number;
+use event::Word;
+use event::listed::Listed;
+use event::memory::Memory;
+use event::number_index;
+use trace::read_listed;
+use writer::moving::move_listed;
+use writer::write_listed;
+
+// A number for each mark, 1 if it is set, else 0.
+fn marks_of(listed: Listed) -> [u8; 256]
+    ensures { λ r. ⌜ r ≡ marks listed ⌝ }
+{
+    let mut numbers: [u8; 256] = [0; 256];
+    let mut i: usize = 0;
+    while i < 256 {
+        numbers[i] = listed[i] as u8;
+        i += 1;
+    }
+    numbers
+}
+
+// A list text read alone: number, side and place, and a mark for each location.
+#[no_mangle]
+pub extern "C" fn laprunto_read_list(list: &[u8], result: &mut [usize; 3], listed: &mut [u8; 256])
+    ensures { λ _. ⌜ now (result .exit) ≡ answerNumbers (listOf (now (list .entry)) .answer) ⌝ }
+    ensures { λ _. ⌜ now (listed .exit) ≡ marks (listOf (now (list .entry)) .listed) ⌝ }
+{
+    let read = registers::read(list);
+    let found = read.answer;
+    let named = read.listed;
+    *listed = marks_of(named);
+    *result = [
+        number_index(found.number),
+        number_index(found.side),
+        found.place,
+    ];
+}
+
+// `laprunto_read_trace` with a list.
+#[no_mangle]
+pub extern "C" fn laprunto_read_trace_listed(
+    list: &[u8],
+    text: &[u8],
+    room: &mut [Word],
+    memory: &mut [Word; 256],
+    result: &mut [usize; 4],
+)
+    ensures { λ _. ⌜ now (result .exit) ≡ traceNumbers (readListed (now (list .entry)) (now (text .entry)) (now (room .entry))) ⌝ }
+    ensures { λ _. ⌜ now (memory .exit) ≡ readListed (now (list .entry)) (now (text .entry)) (now (room .entry)) .memory .cells ⌝ }
+    ensures { λ _. ⌜ now (room .exit) ≡ roomListed (now (list .entry)) (now (text .entry)) (now (room .entry)) ⌝ }
+{
+    let read = read_listed(list, text, room);
+    let found = read.answer;
+    let start = read.memory;
+    let cells = start.cells;
+    *memory = cells;
+    *result = [
+        number_index(found.number),
+        number_index(found.side),
+        found.place,
+        read.events,
+    ];
+}
+
+// `laprunto_write_trace` with a list.
+#[no_mangle]
+pub extern "C" fn laprunto_write_trace_listed(
+    list: &[u8],
+    form: Number,
+    memory: &[Word; 256],
+    room: &[Word],
+    out: &mut [u8],
+    result: &mut [usize; 3],
+)
+    ensures { λ _. ⌜ now (result .exit) ≡ answerNumbers (writeListed (now (list .entry)) (formNumbered form) (starting (now (memory .entry)))
+        (now (room .entry)) (now (out .entry))) ⌝ }
+    ensures { λ _. ⌜ now (out .exit) ≡ outListed (now (list .entry)) (formNumbered form) (starting (now (memory .entry))) (now (room .entry))
+        (now (out .entry)) ⌝ }
+{
+    let cells = *memory;
+    let written = write_listed(list, form_numbered(form), Memory { cells }, room, out);
+    *result = [
+        number_index(written.number),
+        number_index(written.side),
+        written.place,
+    ];
+}
+
+// `laprunto_move_trace` with a list.
+#[no_mangle]
+pub extern "C" fn laprunto_move_trace_listed(
+    list: &[u8],
+    to_form: Number,
+    text: &[u8],
+    out: &mut [u8],
+    result: &mut [usize; 3],
+)
+    ensures { λ _. ⌜ now (result .exit) ≡ answerNumbers (moveListed (now (list .entry)) (formNumbered «to_form») (now (text .entry)) (now (out .entry))) ⌝ }
+    ensures { λ _. ⌜ now (out .exit) ≡ movedListed (now (list .entry)) (formNumbered «to_form») (now (text .entry)) (now (out .entry)) ⌝ }
+{
+    let moved = move_listed(list, form_numbered(to_form), text, out);
+    *result = [
+        number_index(moved.number),
+        number_index(moved.side),
+        moved.place,
+    ];
+}
+
+// `laprunto_check` with a list.
+#[no_mangle]
+pub extern "C" fn laprunto_check_listed(
+    list: &[u8],
+    source: &[u8],
+    target: &[u8],
+    matching: &[u8],
+    source_room: &mut [Word],
+    target_room: &mut [Word],
+    entry_room: &mut [Entry],
+    source_memory: &mut [Word; 256],
+    target_memory: &mut [Word; 256],
+    result: &mut [usize; 6],
+)
+    ensures { λ _. ⌜ LeavesListed (now (list .entry))
+        (lent (now (source .entry)) (now (target .entry)) (now (matching .entry))
+        (now («source_room» .entry)) (now («target_room» .entry)) (now («entry_room» .entry)))
+        (now (result .exit)) (now («source_memory» .exit)) (now («target_memory» .exit))
+        (now («source_room» .exit)) (now («target_room» .exit)) (now («entry_room» .exit)) ⌝ }
+{
+    let checked = check_listed(
+        list,
+        source,
+        target,
+        matching,
+        source_room,
+        target_room,
+        entry_room,
+    );
+    let found = checked.answer;
+    let source_held = checked.source;
+    let target_held = checked.target;
+    let source_start = source_held.memory;
+    let target_start = target_held.memory;
+    let source_cells = source_start.cells;
+    let target_cells = target_start.cells;
+    *source_memory = source_cells;
+    *target_memory = target_cells;
+    *result = [
+        number_index(found.number),
+        number_index(found.side),
+        found.place,
+        source_held.events,
+        target_held.events,
+        checked.entries,
+    ];
+}
