@@ -2,7 +2,6 @@
 use crate::print::print_answer_line;
 use crate::print::print_line;
 use crate::read::read_file;
-use crate::read::read_named;
 use crate::read::text_buffer;
 use checker::check;
 use checker::check_listed;
@@ -48,26 +47,38 @@ fn print_check_listed<'a>(list: &[u8], source: &'a [u8], target: &'a [u8], match
     print_checked(source, target, checked.answer);
 }
 
-// The files of these names, read and checked; with the list's, if one is named.
-pub fn check_files(list: usize, source_name: &[u8], target_name: &[u8], matching_name: &[u8]) {
+// The files of these names, read and checked.
+pub fn check_files(source_name: &[u8], target_name: &[u8], matching_name: &[u8]) {
     let mut source = text_buffer();
     let mut target = text_buffer();
     let mut matching = text_buffer();
     let source_bytes = read_file(source_name, &mut source);
     let target_bytes = read_file(target_name, &mut target);
     let matching_bytes = read_file(matching_name, &mut matching);
-    if list == 0 {
-        print_check(
-            &source[..source_bytes],
-            &target[..target_bytes],
-            &matching[..matching_bytes],
-        );
-        return;
-    }
-    let mut listed = text_buffer();
-    let list_bytes = read_named(list, &mut listed);
+    print_check(
+        &source[..source_bytes],
+        &target[..target_bytes],
+        &matching[..matching_bytes],
+    );
+}
+
+// The same with the file of a list.
+pub fn check_files_listed(
+    list_name: &[u8],
+    source_name: &[u8],
+    target_name: &[u8],
+    matching_name: &[u8],
+) {
+    let mut list = text_buffer();
+    let mut source = text_buffer();
+    let mut target = text_buffer();
+    let mut matching = text_buffer();
+    let list_bytes = read_file(list_name, &mut list);
+    let source_bytes = read_file(source_name, &mut source);
+    let target_bytes = read_file(target_name, &mut target);
+    let matching_bytes = read_file(matching_name, &mut matching);
     print_check_listed(
-        &listed[..list_bytes],
+        &list[..list_bytes],
         &source[..source_bytes],
         &target[..target_bytes],
         &matching[..matching_bytes],

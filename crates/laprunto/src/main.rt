@@ -2,6 +2,7 @@
 use files::args::options_from;
 use files::args::print_usage;
 use files::check::check_files;
+use files::check::check_files_listed;
 
 fn print_own_usage() {
     print_usage(b"usage: laprunto SOURCE TARGET MATCHING [--list FILE]\n");
@@ -23,8 +24,18 @@ fn main() {
     let source_bytes = os::arg(1, &mut source);
     let target_bytes = os::arg(2, &mut target);
     let matching_bytes = os::arg(3, &mut matching);
-    check_files(
-        options.list,
+    if options.list == 0 {
+        check_files(
+            &source[..source_bytes],
+            &target[..target_bytes],
+            &matching[..matching_bytes],
+        );
+        return;
+    }
+    let mut list = io::buffer();
+    let list_bytes = os::arg(options.list, &mut list);
+    check_files_listed(
+        &list[..list_bytes],
         &source[..source_bytes],
         &target[..target_bytes],
         &matching[..matching_bytes],
