@@ -2,12 +2,12 @@
 use super::check::words_of;
 use super::lent::lent_words;
 use super::vector::between;
+use super::with::move_with;
+use super::with::read_with;
+use super::with::write_with;
 use event::Word;
 use text::word::same_bytes;
 use trace::form::form_of;
-use trace::read;
-use writer::moving::move_to;
-use writer::write;
 
 // Whether there is a text to come back, and whether it comes back as it was.
 pub(crate) struct Back {
@@ -32,16 +32,23 @@ pub(crate) fn count_of(back: Back) -> usize {
 }
 
 // A trace text, written as it was read.
-pub(crate) fn written_back(text: &[u8]) -> Back {
+pub(crate) fn written_back(listed: bool, list: &[u8], text: &[u8]) -> Back {
     let mut room: [Word; 4800] = [0; 4800];
     let mut out: [u8; 57300] = [0; 57300];
-    let got = read(text, &mut room);
+    let got = read_with(listed, list, text, &mut room);
     let answer = got.answer;
     if answer.number != 0 {
         return nothing();
     }
     let words = lent_words(&room, words_of(got.events));
-    let written = write(form_of(text), got.memory, &room[..words], &mut out);
+    let written = write_with(
+        listed,
+        list,
+        form_of(text),
+        got.memory,
+        &room[..words],
+        &mut out,
+    );
     Back {
         there: true,
         right: same_bytes(between(&out, 0, written.place), text),
@@ -49,9 +56,9 @@ pub(crate) fn written_back(text: &[u8]) -> Back {
 }
 
 // A text moved from another, moved to the form of that.
-pub(crate) fn moved_back(moved: &[u8], text: &[u8]) -> Back {
+pub(crate) fn moved_back(listed: bool, list: &[u8], moved: &[u8], text: &[u8]) -> Back {
     let mut out: [u8; 57300] = [0; 57300];
-    let answer = move_to(form_of(text), moved, &mut out);
+    let answer = move_with(listed, list, form_of(text), moved, &mut out);
     Back {
         there: true,
         right: same_bytes(between(&out, 0, answer.place), text),

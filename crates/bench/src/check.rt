@@ -15,8 +15,8 @@ use super::vector::TARGET_WORDS;
 use super::vector::between;
 use super::vector::check_vector;
 use super::vector::number_at;
+use super::with::check_with;
 use checker::Checked;
-use checker::check;
 use checker::line::offending_line;
 use event::Answer;
 use event::Entry;
@@ -84,7 +84,7 @@ fn are_entries_unchanged(room: &[Entry], from: usize) -> bool {
 
 // How many of the events or entries counted a room holds: none if a reading refuses.
 fn held(number: Number, count: usize) -> usize {
-    if is_in(number as Word, &[1, 2, 3, 4, 5, 6, 17, 20, 21]) {
+    if is_in(number as Word, &[1, 2, 3, 4, 5, 6, 17, 20, 21, 22]) {
         return 0;
     }
     count
@@ -109,6 +109,8 @@ fn are_unchanged(
 
 // A check in rooms of the lengths that the header says.
 fn check_in(
+    listed: bool,
+    list: &[u8],
     source: &[u8],
     target: &[u8],
     matching: &[u8],
@@ -120,7 +122,9 @@ fn check_in(
     let source_words = lent_words(source_room, number_at(header, SOURCE_WORDS));
     let target_words = lent_words(target_room, number_at(header, TARGET_WORDS));
     let entry_words = lent_entries(entry_room, number_at(header, ENTRY_WORDS));
-    let checked = check(
+    let checked = check_with(
+        listed,
+        list,
         source,
         target,
         matching,
@@ -138,6 +142,8 @@ fn check_in(
 
 // A vector's texts checked, and all that comes back compared.
 fn outcome_of<'a>(
+    listed: bool,
+    list: &[u8],
     source: &'a [u8],
     target: &'a [u8],
     matching: &[u8],
@@ -148,6 +154,8 @@ fn outcome_of<'a>(
     let mut target_room: [Word; 4800] = [MARK; 4800];
     let mut entry_room: [Entry; 800] = [ENTRY_MARK; 800];
     let ran = check_in(
+        listed,
+        list,
         source,
         target,
         matching,
@@ -159,8 +167,8 @@ fn outcome_of<'a>(
     let answer = ran.answer;
     let answer_right = is_said(header, answer);
     let line_right = same_bytes(offending_line(source, target, answer), line);
-    let source_back = written_back(source);
-    let target_back = written_back(target);
+    let source_back = written_back(listed, list, source);
+    let target_back = written_back(listed, list, target);
     Outcome {
         answer,
         answer_right,
@@ -197,16 +205,18 @@ fn print_outcome(ordinal: usize, header: &[u8], outcome: Outcome) {
     print_unless(outcome.target_back.right, b"another target written\n");
 }
 
-// The check of the data that begins at a place.
-pub(crate) fn run_check(data: &[u8], at: usize, ordinal: usize) -> Ran {
-    let vector = check_vector(data, at);
+// The check of the data that begins at a place, with a list or without.
+pub(crate) fn run_check(listed: bool, data: &[u8], at: usize, ordinal: usize) -> Ran {
+    let vector = check_vector(listed, data, at);
     let header = between(data, at, vector.header_end);
     let outcome = outcome_of(
+        listed,
+        between(data, vector.list, vector.end),
         between(data, vector.source, vector.target),
         between(data, vector.target, vector.matching),
         between(data, vector.matching, vector.given),
         header,
-        between(data, vector.given, vector.end),
+        between(data, vector.given, vector.list),
     );
     let answer = outcome.answer;
     let source_back = outcome.source_back;

@@ -1,11 +1,13 @@
-// Checks the files of the examples as the program does, then runs every vector of seven files and prints which differ.
+// Checks the files of the examples as the program does, then runs every vector of eleven files and prints which differ.
 mod back;
 mod check;
 mod lent;
+mod lists;
 mod moves;
 mod runs;
 mod tell;
 mod vector;
+mod with;
 mod writes;
 mod written;
 
@@ -15,9 +17,11 @@ ghost use Rattle.io.specs.Counts.{Counts};
 use check::run_check;
 use event::number_index;
 use files::check::check_files;
+use files::check::check_files_listed;
 use files::print::print;
 use files::print::print_number;
 use files::read::read_file;
+use lists::run_list;
 use moves::run_move;
 use runs::run_steps;
 use tell::Ran;
@@ -25,8 +29,8 @@ use tell::and_more;
 use vector::forth;
 use writes::run_write;
 
-// The answers that the vectors have are 0 to 21.
-const ANSWERS: usize = 22;
+// The answers that the vectors have are 0 to 22.
+const ANSWERS: usize = 23;
 
 // What the vectors of a file are.
 enum Task {
@@ -34,6 +38,7 @@ enum Task {
     Move,
     Write,
     Run,
+    List,
 }
 
 // How many vectors were run, how many differ, and how many texts came back as they were or steps were followed.
@@ -77,6 +82,18 @@ fn print_examples() {
         b"examples/start/target",
         b"examples/start/matching",
     );
+    check_files_listed(
+        b"examples/sensor/list",
+        b"examples/sensor/source",
+        b"examples/sensor/target",
+        b"examples/sensor/matching",
+    );
+    check_files_listed(
+        b"examples/poll/list",
+        b"examples/poll/source",
+        b"examples/poll/target",
+        b"examples/poll/matching",
+    );
 }
 
 // One more vector that has an answer.
@@ -86,13 +103,14 @@ fn count(counts: &mut [usize; ANSWERS], number: usize) {
     }
 }
 
-// The vector of the data that begins at a place, run.
-fn run_at(task: Task, data: &[u8], at: usize, ordinal: usize) -> Ran {
+// The vector of the data that begins at a place, run; `listed` says whether each has a list.
+fn run_at(task: Task, listed: bool, data: &[u8], at: usize, ordinal: usize) -> Ran {
     match task {
-        Task::Check => run_check(data, at, ordinal),
-        Task::Move => run_move(data, at, ordinal),
-        Task::Write => run_write(data, at, ordinal),
+        Task::Check => run_check(listed, data, at, ordinal),
+        Task::Move => run_move(listed, data, at, ordinal),
+        Task::Write => run_write(listed, data, at, ordinal),
         Task::Run => run_steps(data, at, ordinal),
+        Task::List => run_list(data, at, ordinal),
     }
 }
 
@@ -115,7 +133,7 @@ fn after(totals: Totals, ran: Ran) -> Totals {
 }
 
 // All vectors of the data, one after the other.
-fn run_all(task: Task, data: &[u8], counts: &mut [usize; ANSWERS]) -> Totals {
+fn run_all(task: Task, listed: bool, data: &[u8], counts: &mut [usize; ANSWERS]) -> Totals {
     let mut totals = Totals {
         vectors: 0,
         differing: 0,
@@ -123,7 +141,7 @@ fn run_all(task: Task, data: &[u8], counts: &mut [usize; ANSWERS]) -> Totals {
     };
     let mut at: usize = 0;
     while at < data.len() {
-        let ran = run_at(task, data, at, and_more(totals.vectors, 1));
+        let ran = run_at(task, listed, data, at, and_more(totals.vectors, 1));
         totals = after(totals, ran);
         count(counts, number_index(ran.answer.number));
         let next = forth(data, ran.end, 1);
@@ -155,11 +173,11 @@ fn print_counts(counts: &[usize; ANSWERS]) {
 }
 
 // Every vector of a file run, and the totals printed; `back` says what it is for a text to come back, or that steps were followed.
-fn run_file(task: Task, name: &[u8], back: &[u8]) {
+fn run_file(task: Task, listed: bool, name: &[u8], back: &[u8]) {
     let mut counts: [usize; ANSWERS] = [0; ANSWERS];
     let mut data = vectors_buffer();
     let bytes = read_file(name, &mut data);
-    let totals = run_all(task, &data[..bytes], &mut counts);
+    let totals = run_all(task, listed, &data[..bytes], &mut counts);
     print(name);
     print_number(totals.vectors as u64);
     print(b"\ndiffering");
@@ -173,11 +191,15 @@ fn run_file(task: Task, name: &[u8], back: &[u8]) {
 
 fn main() {
     print_examples();
-    run_file(Task::Check, b"vectors", b"written back");
-    run_file(Task::Check, b"forms", b"written back");
-    run_file(Task::Check, b"counters", b"written back");
-    run_file(Task::Check, b"zeros", b"written back");
-    run_file(Task::Move, b"moves", b"moved back");
-    run_file(Task::Write, b"writes", b"written back");
-    run_file(Task::Run, b"runs", b"steps");
+    run_file(Task::Check, false, b"vectors", b"written back");
+    run_file(Task::Check, false, b"forms", b"written back");
+    run_file(Task::Check, false, b"counters", b"written back");
+    run_file(Task::Check, false, b"zeros", b"written back");
+    run_file(Task::Move, false, b"moves", b"moved back");
+    run_file(Task::Write, false, b"writes", b"written back");
+    run_file(Task::Run, false, b"runs", b"steps");
+    run_file(Task::Check, true, b"lists", b"written back");
+    run_file(Task::List, false, b"list_texts", b"listed");
+    run_file(Task::Move, true, b"list_moves", b"moved back");
+    run_file(Task::Write, true, b"list_writes", b"written back");
 }

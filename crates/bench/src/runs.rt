@@ -170,13 +170,13 @@ fn is_right(header: &[u8], outcome: Outcome) -> bool {
 
 // The run of the data that begins at a place.
 pub(crate) fn run_steps(data: &[u8], at: usize, ordinal: usize) -> Ran {
-    let vector = check_vector(data, at);
+    let vector = check_vector(false, data, at);
     let header = between(data, at, vector.header_end);
     let outcome = outcome_of(
         between(data, vector.source, vector.target),
         between(data, vector.target, vector.matching),
         between(data, vector.matching, vector.given),
-        between(data, vector.given, vector.end),
+        between(data, vector.given, vector.list),
     );
     let answer = outcome.answer;
     let followed = outcome.followed;

@@ -45,15 +45,19 @@ pub(crate) const PLACE: usize = 8;
 
 pub(crate) const GIVEN_BYTES: usize = 9;
 
+// A call with a list has the length of the list there, and the name after it.
+const LIST_BYTES: usize = 10;
+
 const NAME: usize = 10;
 
-// Where the parts of a check or a run begin; each ends where the next begins. What comes back is the offending line, or the lines of the steps.
+// Where the parts of a check or a run begin; each ends where the next begins. What comes back is the offending line, or the lines of the steps; the list is empty if there is none.
 pub(crate) struct CheckVector {
     pub header_end: usize,
     pub source: usize,
     pub target: usize,
     pub matching: usize,
     pub given: usize,
+    pub list: usize,
     pub end: usize,
 }
 
@@ -62,6 +66,7 @@ pub(crate) struct TextVector {
     pub header_end: usize,
     pub text: usize,
     pub written: usize,
+    pub list: usize,
     pub end: usize,
 }
 
@@ -109,42 +114,54 @@ pub(crate) fn number_at(header: &[u8], k: usize) -> usize {
     }
 }
 
-// The name of a vector: all that follows its numbers.
+// The name of a vector: all that follows the numbers that every header has, the length of a list before it.
 pub(crate) fn name_of(header: &[u8]) -> &[u8] {
     let from = field_start(header, NAME);
     between(header, from, header.len())
 }
 
-// The check or the run that begins at a place.
-pub(crate) fn check_vector(data: &[u8], at: usize) -> CheckVector {
+// Where the list that begins at a place ends: there, if there is none.
+fn list_end(listed: bool, data: &[u8], header: &[u8], list: usize) -> usize {
+    if listed {
+        return forth(data, list, number_at(header, LIST_BYTES));
+    }
+    list
+}
+
+// The check or the run that begins at a place, with a list or without.
+pub(crate) fn check_vector(listed: bool, data: &[u8], at: usize) -> CheckVector {
     let header_end = line_end(data, at);
     let header = between(data, at, header_end);
     let source = forth(data, header_end, 1);
     let target = forth(data, source, number_at(header, SOURCE_BYTES));
     let matching = forth(data, target, number_at(header, TARGET_BYTES));
     let given = forth(data, matching, number_at(header, MATCHING_BYTES));
-    let end = forth(data, given, number_at(header, GIVEN_BYTES));
+    let list = forth(data, given, number_at(header, GIVEN_BYTES));
+    let end = list_end(listed, data, header, list);
     CheckVector {
         header_end,
         source,
         target,
         matching,
         given,
+        list,
         end,
     }
 }
 
-// The move or the writing that begins at a place.
-pub(crate) fn text_vector(data: &[u8], at: usize) -> TextVector {
+// The move or the writing that begins at a place, with a list or without.
+pub(crate) fn text_vector(listed: bool, data: &[u8], at: usize) -> TextVector {
     let header_end = line_end(data, at);
     let header = between(data, at, header_end);
     let text = forth(data, header_end, 1);
     let written = forth(data, text, number_at(header, TEXT_BYTES));
-    let end = forth(data, written, number_at(header, GIVEN_BYTES));
+    let list = forth(data, written, number_at(header, GIVEN_BYTES));
+    let end = list_end(listed, data, header, list);
     TextVector {
         header_end,
         text,
         written,
+        list,
         end,
     }
 }

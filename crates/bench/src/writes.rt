@@ -12,6 +12,7 @@ use super::vector::ROOM_WORDS;
 use super::vector::between;
 use super::vector::number_at;
 use super::vector::text_vector;
+use super::with::write_with;
 use super::written::MARK;
 use super::written::form_in;
 use super::written::ran_with;
@@ -19,7 +20,6 @@ use event::Answer;
 use event::Word;
 use event::memory::Memory;
 use trace::read;
-use writer::write;
 
 // The word changed that the header says, if the room has it.
 fn change(room: &mut [Word], header: &[u8]) {
@@ -30,29 +30,44 @@ fn change(room: &mut [Word], header: &[u8]) {
 }
 
 // As much of the room as the header says written in the form that it says, into as many bytes.
-fn write_in(header: &[u8], memory: Memory, room: &[Word], out: &mut [u8]) -> Answer {
+fn write_in(
+    listed: bool,
+    list: &[u8],
+    header: &[u8],
+    memory: Memory,
+    room: &[Word],
+    out: &mut [u8],
+) -> Answer {
     let words = lent_words(room, number_at(header, ROOM_WORDS));
     let bytes = lent_bytes(out, number_at(header, OUT_BYTES));
-    write(form_in(header), memory, &room[..words], &mut out[..bytes])
+    write_with(
+        listed,
+        list,
+        form_in(header),
+        memory,
+        &room[..words],
+        &mut out[..bytes],
+    )
 }
 
-fn back_of(answer: Answer, text: &[u8]) -> Back {
+fn back_of(listed: bool, list: &[u8], answer: Answer, text: &[u8]) -> Back {
     if answer.number != 0 {
         return nothing();
     }
-    written_back(text)
+    written_back(listed, list, text)
 }
 
-// The writing of the data that begins at a place.
-pub(crate) fn run_write(data: &[u8], at: usize, ordinal: usize) -> Ran {
-    let vector = text_vector(data, at);
+// The writing of the data that begins at a place, with a list or without; its trace is read without.
+pub(crate) fn run_write(listed: bool, data: &[u8], at: usize, ordinal: usize) -> Ran {
+    let vector = text_vector(listed, data, at);
     let header = between(data, at, vector.header_end);
-    let written = between(data, vector.written, vector.end);
+    let written = between(data, vector.written, vector.list);
+    let list = between(data, vector.list, vector.end);
     let mut room: [Word; 4806] = [0; 4806];
     let mut out: [u8; 57300] = [MARK; 57300];
     let got = read(between(data, vector.text, vector.written), &mut room);
     change(&mut room, header);
-    let answer = write_in(header, got.memory, &room, &mut out);
-    let back = back_of(answer, written);
+    let answer = write_in(listed, list, header, got.memory, &room, &mut out);
+    let back = back_of(listed, list, answer, written);
     ran_with(ordinal, header, answer, &out, written, back, vector.end)
 }

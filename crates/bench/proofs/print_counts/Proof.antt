@@ -6,10 +6,10 @@ use Rattle.bench.proofs.print_counts.Statement.{statement}
 use Rattle.bench.proofs.print_counts.Tie as tie
 
 abbrev Inv-loop : tie.InvT-loop
-Inv-loop counts number₀ number = number ≤ 22
+Inv-loop counts number₀ number = number ≤ 23
 
 abbrev μ-loop : tie.MeasureT-loop
-μ-loop counts number₀ number = 22 - number
+μ-loop counts number₀ number = 23 - number
 
 pub print-counts-spec : {M : Type 1} → statement M
 print-counts-spec =

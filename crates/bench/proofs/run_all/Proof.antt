@@ -7,10 +7,10 @@ use Rattle.bench.proofs.run_all.Statement.{statement}
 use Rattle.bench.proofs.run_all.Tie as tie
 
 abbrev Inv-loop : tie.InvT-loop
-Inv-loop task «data» counts₀ totals₀ at₀ counts totals at = at₀ ≤ at
+Inv-loop task listed «data» counts₀ totals₀ at₀ counts totals at = at₀ ≤ at
 
 abbrev μ-loop : tie.MeasureT-loop
-μ-loop task «data» counts₀ totals₀ at₀ counts totals at = length «data» - at
+μ-loop task listed «data» counts₀ totals₀ at₀ counts totals at = length «data» - at
 
 returns : tie.Need-returns Inv-loop μ-loop
 returns c = search needs
