@@ -2,12 +2,14 @@
 //! `compare COUNT [SEED]`.
 //!
 //! First all cases known by hand, then COUNT random ones, long and short, valid
-//! and damaged, of traces of either form, with rooms of every size, each filled
-//! with random words before. Both get the same texts and rooms; everything that
-//! comes back is compared: answers, counts, memories, every word of every room,
-//! the offending line, the beginning of a run and how many steps it has; and the same for a reading alone, for writing in either
-//! form, for reading back, and for moves between the forms. The first difference
-//! is printed whole, and ends the program with status 1.
+//! and damaged, of traces of either form, every other with a list of registers, with
+//! rooms of every size, each filled with random words before. Both get the same texts
+//! and rooms; everything that comes back is compared: answers, counts, memories, every
+//! word of every room, the offending line; and the same for a reading alone, for
+//! writing in either form, for reading back, for moves between the forms, and for lists
+//! alone. Where there is no list the run is compared too: its beginning, how many steps
+//! it has, and each of them. The first difference is printed whole, and ends the program
+//! with status 1.
 
 #[allow(dead_code)]
 mod cases;
@@ -17,6 +19,8 @@ mod counters;
 mod forms;
 #[allow(dead_code)]
 mod generate;
+#[allow(dead_code)]
+mod lists;
 #[allow(dead_code)]
 mod ours;
 #[allow(dead_code)]
@@ -32,7 +36,8 @@ mod zeros;
 use cases::Case;
 use forms::{KnownWriting, Move};
 use generate::Lists;
-use peer::{form_of, Answer, Entry, Form, Memory, Word, CELLS, EVENT_WORDS, MAX_EVENTS, MAX_MATCHING};
+use lists::KnownList;
+use peer::{form_of, Answer, Checked, Entry, Form, Memory, Word, CELLS, EVENT_WORDS, MAX_EVENTS, MAX_MATCHING};
 use random::Random;
 use std::collections::BTreeMap;
 use std::fmt::Debug;
@@ -106,9 +111,10 @@ fn lend(random: &mut Random, case: Case) -> Given {
 struct Tally {
     counts: BTreeMap<(&'static str, u32, u32), usize>,
     lines: usize,
-    steps: usize,
     read_back: usize,
     moved_back: usize,
+    counted: usize,
+    followed: usize,
 }
 
 /// One of two, by a form.
@@ -117,6 +123,11 @@ fn by_form<T>(form: Form, one: T, two: T) -> T {
         Form::One => one,
         Form::Two => two,
     }
+}
+
+/// What a call is counted as, without a list or with one.
+fn by_list(list: Option<&[u8]>, plain: &'static str, listed: &'static str) -> &'static str {
+    if list.is_some() { listed } else { plain }
 }
 
 impl Tally {
@@ -130,9 +141,9 @@ fn compare_check(given: &Given, tally: &mut Tally) -> Same {
     let Given { case, rooms, entries } = given;
     let [mut ours_rooms, mut peer_rooms] = [rooms.clone(), rooms.clone()];
     let [mut ours_entries, mut peer_entries] = [entries.clone(), entries.clone()];
-    let ours = ours::check(case.texts(), ours_rooms.each_mut().map(Vec::as_mut_slice), &mut ours_entries);
+    let ours = ours::check(case.list(), case.texts(), ours_rooms.each_mut().map(Vec::as_mut_slice), &mut ours_entries);
     let [source_room, target_room] = &mut peer_rooms;
-    let peer = peer::check(None, &case.source, &case.target, &case.matching, source_room, target_room, &mut peer_entries);
+    let peer = peer::check(case.list(), &case.source, &case.target, &case.matching, source_room, target_room, &mut peer_entries);
     same("check: answer", &ours.answer, &peer.answer)?;
     same("check: all that is handed back", &ours, &peer)?;
     let stored = [ours.source_events, ours.target_events].map(|events| events * EVENT_WORDS);
@@ -142,39 +153,42 @@ fn compare_check(given: &Given, tally: &mut Tally) -> Same {
     }
     same_room("check: entry room", entries, &ours_entries, &peer_entries, ours.entries)?;
     let coded = [&case.source, &case.target].map(|text| form_of(text) == Form::Two);
-    let who = match coded {
-        [false, false] => "check 1 1",
-        [false, true] => "check 1 2",
-        [true, false] => "check 2 1",
-        [true, true] => "check 2 2",
+    let who = match (coded, &case.list) {
+        ([false, false], None) => "check 1 1",
+        ([false, true], None) => "check 1 2",
+        ([true, false], None) => "check 2 1",
+        ([true, true], None) => "check 2 2",
+        (_, Some(_)) => "check listed",
     };
     tally.add(who, ours.answer);
-    let stored = stored.map(|words| words / EVENT_WORDS);
-    let kept: Vec<usize> = peer_entries[..peer.entries].iter().map(|&entry| entry as usize).collect();
-    let accepted = peer.answer.number == 0;
-    let cost = if accepted { steps::cost(&kept, peer.target_events) } else { 0 };
-    let numbers = [peer.answer.number, peer.answer.side, peer.answer.place].map(|number| number as usize);
-    let numbers = [&numbers[..], &stored, &[peer.entries, cost]].concat();
-    compare_start(given, &numbers, accepted.then_some(peer.source_events), [&peer_rooms[0], &peer_rooms[1]], &peer_entries)?;
-    tally.steps += cost;
+    if case.list.is_none() {
+        tally.counted += compare_start(given, &peer, &peer_rooms, &peer_entries)?;
+    }
     compare_line(case, ours.answer, tally)
 }
 
-/// The beginning of a run: these numbers, the check's rooms, and the tags of the
-/// events that stand, if it has begun.
-fn compare_start(given: &Given, numbers: &[usize], standing: Option<usize>, rooms: [&[Word]; 2], entries: &[Entry]) -> Same {
+/// The beginning of a run, beside a check with its rooms: the same numbers and rooms,
+/// how many steps there are, and the tags of the events that stand, if it has begun.
+/// Hands back the number of steps.
+fn compare_start(given: &Given, peer: &Checked, rooms: &[Vec<Word>; 2], entries: &[Entry]) -> Result<usize, Difference> {
     let mut ours_rooms = given.rooms.clone();
     let mut ours_entries = given.entries.clone();
     let before: [usize; MAX_EVENTS] = std::array::from_fn(|at| at * 7 + 3);
     let mut tags = before;
     let (result, run) = ours::start_to(given.case.texts(), ours_rooms.each_mut().map(Vec::as_mut_slice), &mut ours_entries, &mut tags);
-    same("start: its numbers", &&result[..], &numbers)?;
-    same("start: the run", &run, &standing.map_or([0, 0], |events| [1, events]))?;
-    let stand = standing.unwrap_or(0);
+    let kept: Vec<usize> = entries[..peer.entries].iter().map(|&entry| entry as usize).collect();
+    let (cost, begun, stand) = match peer.answer.number {
+        0 => (steps::cost(&kept, peer.target_events), 1, peer.source_events),
+        _ => (0, 0, 0),
+    };
+    let [number, side, place] = [peer.answer.number, peer.answer.side, peer.answer.place].map(|number| number as usize);
+    same("start: its numbers", &result, &[number, side, place, peer.source_events, peer.target_events, peer.entries, cost])?;
+    same("start: the run", &run, &[begun, stand])?;
     same("start: the tags", &&tags[..stand], &&(0..stand).collect::<Vec<_>>()[..])?;
     same("start: the other tags", &&tags[stand..], &&before[stand..])?;
-    same("start: the rooms", &ours_rooms.each_ref().map(Vec::as_slice), &rooms)?;
-    same("start: the entry room", &ours_entries.as_slice(), &entries)
+    same("start: the rooms", &ours_rooms, rooms)?;
+    same("start: the entry room", &ours_entries.as_slice(), &entries)?;
+    Ok(cost)
 }
 
 /// The offending line, as the same part of the same text.
@@ -195,7 +209,7 @@ fn compare_line(case: &Case, answer: Answer, tally: &mut Tally) -> Same {
 
 /// Any three numbers get a part of a text.
 fn try_any_answer(random: &mut Random, case: &Case) -> Same {
-    let [number, side] = [23, 5].map(|limit| random.below(limit) as u32);
+    let [number, side] = [24, 6].map(|limit| random.below(limit) as u32);
     let place = match random.below(8) {
         0 => random.next() as u32,
         _ => random.below(30) as u32,
@@ -209,15 +223,15 @@ fn try_any_answer(random: &mut Random, case: &Case) -> Same {
 }
 
 /// A trace read alone. Hands back its words and memory if it is lawful.
-fn compare_trace(text: &[u8], room: &[Word], tally: &mut Tally) -> Result<Option<(Memory, Vec<Word>)>, Difference> {
+fn compare_trace(list: Option<&[u8]>, text: &[u8], room: &[Word], tally: &mut Tally) -> Result<Option<(Memory, Vec<Word>)>, Difference> {
     let [mut ours_room, mut peer_room] = [room.to_vec(), room.to_vec()];
-    let ours = ours::read_trace(text, &mut ours_room);
-    let peer = peer::read_trace(None, text, &mut peer_room);
+    let ours = ours::read_trace(list, text, &mut ours_room);
+    let peer = peer::read_trace(list, text, &mut peer_room);
     same("reading a trace", &ours, &peer)?;
     same("form of a trace", &ours::trace_form(text), &by_form(form_of(text), 1, 2))?;
     let stored = ours.events * EVENT_WORDS;
     same_room("reading a trace: room", room, &ours_room, &peer_room, stored)?;
-    tally.add(by_form(form_of(text), "trace 1", "trace 2"), ours.answer);
+    tally.add(by_list(list, by_form(form_of(text), "trace 1", "trace 2"), "trace listed"), ours.answer);
     ours_room.truncate(stored);
     Ok((ours.answer.number == 0).then_some((ours.memory, ours_room)))
 }
@@ -252,14 +266,22 @@ fn compare_bytes(
 }
 
 /// A trace written into so many bytes, and read back.
-fn compare_writing(random: &mut Random, form: Form, memory: &Memory, words: &[Word], bytes: usize, tally: &mut Tally) -> Same {
-    let ours = |out: &mut [u8]| ours::write_trace(form, memory, words, out);
-    let peer = |out: &mut [u8]| peer::write_trace(None, form, memory, words, out);
+fn compare_writing(
+    random: &mut Random,
+    list: Option<&[u8]>,
+    form: Form,
+    memory: &Memory,
+    words: &[Word],
+    bytes: usize,
+    tally: &mut Tally,
+) -> Same {
+    let ours = |out: &mut [u8]| ours::write_trace(list, form, memory, words, out);
+    let peer = |out: &mut [u8]| peer::write_trace(list, form, memory, words, out);
     let (answer, written) = compare_bytes(random, "writing", bytes, ours, peer)?;
-    tally.add(by_form(form, "writer 1", "writer 2"), answer);
+    tally.add(by_list(list, by_form(form, "writer 1", "writer 2"), "writer listed"), answer);
     if let Some(text) = written {
         let mut room = random_words(random, words.len());
-        let read = ours::read_trace(&text, &mut room);
+        let read = ours::read_trace(list, &text, &mut room);
         same("reading back: answer", &read.answer, &Answer { number: 0, side: 0, place: 0 })?;
         same("reading back: memory", &read.memory, memory)?;
         same("reading back: words", &room.as_slice(), &words)?;
@@ -269,19 +291,44 @@ fn compare_writing(random: &mut Random, form: Form, memory: &Memory, words: &[Wo
 }
 
 /// A text moved to a form, and back.
-fn compare_move(random: &mut Random, Move { to, text, bytes, .. }: &Move, tally: &mut Tally) -> Same {
-    let ours = |out: &mut [u8]| ours::move_to(*to, text, out);
-    let peer = |out: &mut [u8]| peer::move_to(None, *to, text, out);
+fn compare_move(random: &mut Random, Move { list, to, text, bytes }: &Move, tally: &mut Tally) -> Same {
+    let list = list.as_deref();
+    let ours = |out: &mut [u8]| ours::move_to(list, *to, text, out);
+    let peer = |out: &mut [u8]| peer::move_to(list, *to, text, out);
     let (answer, moved) = compare_bytes(random, "move", *bytes, ours, peer)?;
-    tally.add(by_form(*to, "move to 1", "move to 2"), answer);
+    tally.add(by_list(list, by_form(*to, "move to 1", "move to 2"), "move listed"), answer);
     if let Some(moved) = moved {
         let mut back = vec![0; text.len()];
-        let answer = ours::move_to(form_of(text), &moved, &mut back);
+        let answer = ours::move_to(list, form_of(text), &moved, &mut back);
         same("moving back: answer", &answer, &Answer { number: 0, side: 0, place: text.len() as u32 })?;
         same("moving back: bytes", &back, text)?;
         tally.moved_back += 1;
     }
     Ok(())
+}
+
+fn compare_list(list: &[u8], tally: &mut Tally) -> Same {
+    let peer = peer::read_list(list);
+    same("reading a list", &ours::read_list(list), &Some(peer.clone()))?;
+    tally.add("list", peer.answer);
+    Ok(())
+}
+
+/// The steps of a run without a list, asked for and applied one by one.
+fn compare_run(case: &Case, tally: &mut Tally) -> Same {
+    let told = |told: String| Difference(format!("run: {told}"));
+    let peer = steps::run(None, case.texts()).map_err(told)?;
+    let ours = ours::run(case.texts()).map_err(told)?;
+    same("run: answer", &ours.answer, &peer.answer)?;
+    same("run: how many steps", &ours.cost, &peer.cost)?;
+    same("run: steps", &ours.steps, &peer.steps)?;
+    tally.followed += ours.steps.len();
+    Ok(())
+}
+
+/// The list that the writer is handed: that of the trace, or any other.
+fn changed_list(random: &mut Random, list: &[u8]) -> Vec<u8> {
+    if random.once_in(8) { generate::any_list(random) } else { list.to_vec() }
 }
 
 /// The memory that the writer is handed: that of the trace, or another.
@@ -322,35 +369,44 @@ fn changed_words(random: &mut Random, words: &[Word]) -> Vec<Word> {
     words
 }
 
-fn try_writing(random: &mut Random, memory: &Memory, words: &[Word], tally: &mut Tally) -> Same {
+fn try_writing(random: &mut Random, list: Option<&[u8]>, memory: &Memory, words: &[Word], tally: &mut Tally) -> Same {
+    let list = list.map(|list| changed_list(random, list));
+    let list = list.as_deref();
     let memory = changed_memory(random, memory);
     let words = changed_words(random, words);
     let form = random.pick(&[Form::One, Form::Two]);
-    let needed = generate::bytes_needed(peer::write_trace(None, form, &memory, &words, &mut []));
+    let needed = generate::bytes_needed(peer::write_trace(list, form, &memory, &words, &mut []));
     let bytes = generate::bytes_for(random, needed);
-    compare_writing(random, form, &memory, &words, bytes, tally)
+    compare_writing(random, list, form, &memory, &words, bytes, tally)
 }
 
 fn compare(random: &mut Random, given: &Given, tally: &mut Tally) -> Same {
+    let list = given.case.list();
     compare_check(given, tally)?;
+    if list.is_none() {
+        compare_run(&given.case, tally)?;
+    }
     try_any_answer(random, &given.case)?;
     for (text, room) in [(&given.case.source, &given.rooms[0]), (&given.case.target, &given.rooms[1])] {
-        if let Some((memory, words)) = compare_trace(text, room, tally)? {
-            try_writing(random, &memory, &words, tally)?;
+        if let Some((memory, words)) = compare_trace(list, text, room, tally)? {
+            try_writing(random, list, &memory, &words, tally)?;
         }
-        let handed = generate::move_of(random, None, text);
+        let handed = generate::move_of(random, list, text);
         compare_move(random, &handed, tally)?;
+    }
+    if let Some(list) = list {
+        compare_list(list, tally)?;
     }
     compare_matching(&given.case.matching, &given.entries, tally)
 }
 
 /// A lawful triple of up to 800 events, some of them with damaged bytes.
-fn long_case(random: &mut Random) -> Case {
+fn long_case(random: &mut Random, lists: Lists) -> Case {
     let events = match random.below(4) {
         0 => MAX_EVENTS - random.below(3),
         _ => 20 + random.below(MAX_EVENTS - 20),
     };
-    let mut case = generate::lawful_case(random, Lists::Without, events);
+    let mut case = generate::lawful_case(random, lists, events);
     for text in [&mut case.source, &mut case.target] {
         if random.once_in(2) {
             generate::add_codes(random, text);
@@ -387,19 +443,22 @@ fn noise(random: &mut Random) -> Vec<u8> {
     head.iter().copied().chain((0..random.below(60)).map(|_| random.pick(&ALPHABET))).collect()
 }
 
-fn random_case(random: &mut Random) -> Case {
+fn random_case(random: &mut Random, lists: Lists) -> Case {
     match random.below(64) {
-        0 => long_case(random),
-        1 => Case { source: noise(random), ..generate::mixed_case(random, Lists::Without) },
-        2 => Case { target: noise(random), ..generate::mixed_case(random, Lists::Without) },
-        3 => Case { matching: noise(random), ..generate::mixed_case(random, Lists::Without) },
-        _ => generate::mixed_case(random, Lists::Without),
+        0 => long_case(random, lists),
+        1 => Case { source: noise(random), ..generate::mixed_case(random, lists) },
+        2 => Case { target: noise(random), ..generate::mixed_case(random, lists) },
+        3 => Case { matching: noise(random), ..generate::mixed_case(random, lists) },
+        _ => generate::mixed_case(random, lists),
     }
 }
 
 /// All of a case in which the two differ.
 fn tell(given: &Given, difference: &Difference) {
     println!("DIFFERENCE in {}", difference.0);
+    if let Some(list) = given.case.list() {
+        println!("list, {} bytes:\n{}", list.len(), list.escape_ascii());
+    }
     for (name, text) in ["source", "target", "matching"].iter().zip(given.case.texts()) {
         println!("{name}, {} bytes:\n{}", text.len(), text.escape_ascii());
     }
@@ -411,20 +470,24 @@ fn tell(given: &Given, difference: &Difference) {
 
 fn print_tally(tally: &Tally) {
     for ((who, number, side), count) in &tally.counts {
-        println!("{who:9} answer {number:2} side {side}: {count:8}");
+        println!("{who:13} answer {number:2} side {side}: {count:8}");
     }
-    println!("{} offending lines, {} steps counted, {} texts read back, {} moved back", tally.lines, tally.steps, tally.read_back, tally.moved_back);
+    let Tally { lines, read_back, moved_back, counted, followed, .. } = tally;
+    println!("{lines} offending lines, {read_back} texts read back, {moved_back} moved back, {counted} steps counted, {followed} followed");
 }
 
-/// The moves and the writings that are known by hand.
+/// The moves, the writings and the lists that are known by hand.
 fn compare_known(random: &mut Random, tally: &mut Tally) -> Same {
     let told = |name: &str, same: Same| same.map_err(|Difference(told)| Difference(format!("{name}: {told}")));
-    for known in [forms::moves(), counters::moves(), zeros::moves()].concat() {
+    for known in [forms::moves(), counters::moves(), zeros::moves(), lists::moves()].concat() {
         told(&known.name, compare_move(random, &known.handed, tally))?;
     }
-    for KnownWriting { name, handed, .. } in [forms::writings(), counters::writings(), zeros::writings()].concat() {
+    for KnownWriting { name, handed, .. } in [forms::writings(), counters::writings(), zeros::writings(), lists::writings()].concat() {
         let (memory, words) = handed.read();
-        told(&name, compare_writing(random, handed.form, &memory, &words, handed.bytes, tally))?;
+        told(&name, compare_writing(random, handed.list.as_deref(), handed.form, &memory, &words, handed.bytes, tally))?;
+    }
+    for KnownList { name, text, .. } in lists::texts() {
+        told(&name, compare_list(&text, tally))?;
     }
     Ok(())
 }
@@ -433,7 +496,7 @@ fn main() {
     let mut arguments = std::env::args().skip(1).map(|word| word.parse::<u64>().expect("a number"));
     let count = arguments.next().expect("compare COUNT [SEED]");
     let seed = arguments.next().unwrap_or(1);
-    let known = [cases::all(), forms::checks(), counters::checks(), zeros::checks()].concat();
+    let known = [cases::all(), forms::checks(), counters::checks(), zeros::checks(), lists::checks(), lists::examples()].concat();
     let known: Vec<Case> = known.into_iter().map(|known| known.case).collect();
     let by_hand = known.len();
     println!("seed {seed}, {count} cases, after {by_hand} known by hand");
@@ -446,7 +509,8 @@ fn main() {
     let known = known.into_iter().map(Some);
     for (index, known) in known.chain((0..count).map(|_| None)).enumerate() {
         let mut random = Random::new(seeds.next());
-        let case = known.unwrap_or_else(|| random_case(&mut random));
+        let lists = [Lists::Without, Lists::With][index % 2];
+        let case = known.unwrap_or_else(|| random_case(&mut random, lists));
         let given = lend(&mut random, case);
         if let Err(difference) = compare(&mut random, &given, &mut tally) {
             println!("case {index}");

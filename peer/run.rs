@@ -1,9 +1,10 @@
 //! The run of a matching by the ordinary Rust implementation.
 //!
-//! `run SOURCE TARGET MATCHING` prints what `laprunto_run` prints.
+//! `run SOURCE TARGET MATCHING [--list FILE]` prints it, without a list as
+//! `laprunto_run` does.
 //! `run --beside PROGRAM COUNT [SEED]` runs PROGRAM on the known cases and on
-//! COUNT random ones, compares every byte, and replays the steps by the rules.
-//! The first difference is printed, and ends the program with status 1.
+//! COUNT random ones, none with a list, compares every byte, and replays the steps by
+//! the rules. The first difference is printed, and ends the program with status 1.
 
 #[allow(dead_code)]
 mod cases;
@@ -27,9 +28,9 @@ use random::Random;
 use std::io::Write;
 use std::process::{exit, Command};
 
-/// What is printed of three texts, and how many steps it has.
-fn printed(texts: [&[u8]; 3]) -> Result<(Vec<u8>, usize), String> {
-    let run = steps::run(None, texts)?;
+/// What is printed of three texts under a list or none, and how many steps it has.
+fn printed(list: Option<&[u8]>, texts: [&[u8]; 3]) -> Result<(Vec<u8>, usize), String> {
+    let run = steps::run(list, texts)?;
     let answer = run.answer;
     let word = if answer.number == 0 { "accepted" } else { "refused" };
     let mut out = format!("{word}\t{}\t{}\t{}\n", answer.number, answer.side, answer.place).into_bytes();
@@ -71,7 +72,7 @@ fn compared(program: &str, texts: [&[u8]; 3]) -> Result<usize, String> {
         std::fs::write(name, text).map_err(|error| error.to_string())?;
     }
     let ours = Command::new(program).args(&names).output().map_err(|error| error.to_string())?.stdout;
-    let (peers, count) = printed(texts)?;
+    let (peers, count) = printed(None, texts)?;
     if ours != peers {
         return Err(format!("ours\n{}\npeer\n{}", String::from_utf8_lossy(&ours), String::from_utf8_lossy(&peers)));
     }
@@ -97,17 +98,22 @@ fn beside(program: &str, count: usize, seed: u64) -> Result<(), String> {
     Ok(())
 }
 
+/// The run of named files; one that cannot be opened is an empty text.
+fn print(list: Option<&str>, names: [&str; 3]) -> Result<(), String> {
+    let read = |name: &str| std::fs::read(name).unwrap_or_default();
+    let (list, texts) = (list.map(read), names.map(read));
+    let (out, _) = printed(list.as_deref(), [&texts[0], &texts[1], &texts[2]])?;
+    std::io::stdout().write_all(&out).map_err(|error| error.to_string())
+}
+
 fn main() {
     let words: Vec<String> = std::env::args().skip(1).collect();
     let done = match words.iter().map(String::as_str).collect::<Vec<_>>()[..] {
         ["--beside", program, count] => beside(program, count.parse().expect("a count"), 1),
         ["--beside", program, count, seed] => beside(program, count.parse().expect("a count"), seed.parse().expect("a seed")),
-        [source, target, matching] => {
-            let texts = [source, target, matching].map(|name| std::fs::read(name).unwrap_or_default());
-            printed([&texts[0], &texts[1], &texts[2]])
-                .and_then(|(out, _)| std::io::stdout().write_all(&out).map_err(|error| error.to_string()))
-        }
-        _ => Err(String::from("usage: run SOURCE TARGET MATCHING, or run --beside PROGRAM COUNT [SEED]")),
+        [source, target, matching] => print(None, [source, target, matching]),
+        [source, target, matching, "--list", list] => print(Some(list), [source, target, matching]),
+        _ => Err(String::from("usage: run SOURCE TARGET MATCHING [--list FILE], or run --beside PROGRAM COUNT [SEED]")),
     };
     if let Err(difference) = done {
         eprintln!("{difference}");

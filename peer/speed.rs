@@ -16,6 +16,8 @@ mod peer;
 #[allow(dead_code)]
 mod random;
 mod rules;
+#[allow(dead_code)]
+mod steps;
 mod texts;
 
 use cases::Case;
@@ -132,7 +134,7 @@ struct Work {
 const READ_TRACE: Work = Work {
     name: "reading a trace",
     ours: |input, rooms| {
-        let result = ours::read_trace_to(black_box(&input.case.source), &mut rooms.source, &mut rooms.memories[0]);
+        let result = ours::read_trace_to(None, black_box(&input.case.source), &mut rooms.source, &mut rooms.memories[0]);
         black_box(result)[0] as u32
     },
     peer: |input, rooms| black_box(peer::read_trace(None, black_box(&input.case.source), &mut rooms.source)).answer.number,
@@ -146,13 +148,13 @@ const READ_MATCHING: Work = Work {
 
 const WRITE: Work = Work {
     name: "writing a trace",
-    ours: |input, rooms| black_box(ours::write_trace(input.form, &input.memory, black_box(&input.words), &mut rooms.bytes)).number,
+    ours: |input, rooms| black_box(ours::write_trace(None, input.form, &input.memory, black_box(&input.words), &mut rooms.bytes)).number,
     peer: |input, rooms| black_box(peer::write_trace(None, input.form, &input.memory, black_box(&input.words), &mut rooms.bytes)).number,
 };
 
 const MOVE: Work = Work {
     name: "moving a trace to the other form",
-    ours: |input, rooms| black_box(ours::move_to(input.other(), black_box(&input.case.source), &mut rooms.bytes)).number,
+    ours: |input, rooms| black_box(ours::move_to(None, input.other(), black_box(&input.case.source), &mut rooms.bytes)).number,
     peer: |input, rooms| black_box(peer::move_to(None, input.other(), black_box(&input.case.source), &mut rooms.bytes)).number,
 };
 
@@ -160,7 +162,7 @@ const CHECK: Work = Work {
     name: "the whole check",
     ours: |input, rooms| {
         let lent: [&mut [Word]; 2] = [&mut rooms.source, &mut rooms.target];
-        black_box(ours::check_to(input.case.texts().map(black_box), lent, &mut rooms.entries, &mut rooms.memories))[0] as u32
+        black_box(ours::check_to(None, input.case.texts().map(black_box), lent, &mut rooms.entries, &mut rooms.memories))[0] as u32
     },
     peer: |input, rooms| {
         let [a, b, c] = input.case.texts().map(black_box);
