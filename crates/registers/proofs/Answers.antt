@@ -8,6 +8,7 @@ use native.Mathlib.Omega.{arith}
 use lib.Dec.{eqb, leb, ltb}
 use lib.ListN.{length}
 use borrow.Author.Tests.{lt-ltb, le-ltb}
+use Rattle.event.specs.Listed.{noneListed}
 use Rattle.laws.proofs.Cases.{by-cond, cases, either}
 use Rattle.event.specs.Kind.{has}
 use Rattle.event.specs.Answer.{answer, done, first, InTable}
@@ -17,7 +18,7 @@ use Rattle.text.specs.Line.{split, body}
 use Rattle.frame.specs.Reading.{headed, headFault, linesFault, textFault}
 use Rattle.frame.proofs.Answers.{lines-given, head-among, head-in}
 use Rattle.registers.specs.Reg.{header, regOf}
-use Rattle.registers.specs.Reading.{SoFar, nothing, listLimit, regLimit, regsFault, regsLayout, regsOf, unmarked, refused, listOf}
+use Rattle.registers.specs.Reading.{SoFar, nothing, listLimit, regLimit, regsFault, regsLayout, regsOf, refused, listOf}
 use Rattle.registers.specs.Lines.{linesRead}
 use Rattle.registers.specs.declared.reg.RegRead.{RegRead}
 use Rattle.registers.specs.declared.reg.RegRead.the-variants.{Reg, Refused}
@@ -62,12 +63,12 @@ module _ (t : List ℕ) where
   unfolding listOf textFault headFault
   bad-head h k = rw (le-ltb listLimit (length t) h, k)
 
-  pub then-lines : length t ≤ listLimit → headed header (split t) ≡ true → listOf t ≡ linesRead nothing unmarked (body (split t))
+  pub then-lines : length t ≤ listLimit → headed header (split t) ≡ true → listOf t ≡ linesRead nothing noneListed (body (split t))
   unfolding listOf textFault headFault regsOf linesRead
   then-lines h k = rw (le-ltb listLimit (length t) h, k)
 
   -- a refusal lists nothing
-  pub refused-lists-none : (listOf t .answer .number ≡ 0 → ⊥) → listOf t .listed ≡ unmarked
+  pub refused-lists-none : (listOf t .answer .number ≡ 0 → ⊥) → listOf t .listed ≡ noneListed
   unfolding listOf
   refused-lists-none h =
       cases (either (eqb (textFault regsLayout 4 t .number) 0)) (λ e. absurd (h (rw e))) (λ e. rw e)

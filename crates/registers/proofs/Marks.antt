@@ -8,9 +8,10 @@ use lib.Dec.{eqb}
 use lib.ListN.{length, getD, set, length-set, getD-replicate}
 use lib.Seq.{getD-set-same, getD-set-other}
 use borrow.Author.Tests.{eqb-true, eqb-false, eq-eqb, ne-eqb}
+use Rattle.event.specs.Listed.{noneListed}
 use Rattle.laws.proofs.Cases.{cases, either, side}
 use Rattle.event.specs.Kind.{has, places}
-use Rattle.registers.specs.Reading.{unmarked, marked, marksOf}
+use Rattle.registers.specs.Reading.{marked, marksOf}
 use Rattle.registers.specs.Text.{Ascending}
 
 marked-at : (ps : List ℕ) (marks : List Bool) (l : ℕ) → l < length marks → getD (marked marks ps) l false ≡ (has l ps || getD marks l false)
@@ -30,7 +31,7 @@ marked-at (p ∷ ps) marks l h =
 -- Document 02, C-16: what a list lists is what its lines name.
 pub listed-named : (ps : List ℕ) (l : ℕ) → l < places → getD (marksOf ps) l false ≡ has l ps
 listed-named ps l h =
-    marked-at ps unmarked l (omega (arith, h)) ∙ rw (getD-replicate {A = Bool} places l false false h) (or-false (has l ps))
+    marked-at ps noneListed l (omega (arith, h)) ∙ rw (getD-replicate {A = Bool} places l false false h) (or-false (has l ps))
 
 -- no location stands below the lowest
 not-below : (low : ℕ) (ps : List ℕ) (l : ℕ) → Ascending low ps → l < low → has l ps ≡ false

@@ -8,6 +8,7 @@ use native.Mathlib.Omega.{arith}
 use lib.Dec.{leb, ltb}
 use lib.ListN.{length, length-append}
 use borrow.Author.Tests.{leb-false, ltb-false, le-ltb, lt-leb}
+use Rattle.event.specs.Listed.{noneListed}
 use Rattle.laws.specs.Each.{Each}
 use Rattle.laws.proofs.Cases.{not-first}
 use Rattle.laws.proofs.Lists.{Free}
@@ -24,7 +25,7 @@ use Rattle.frame.proofs.Lines.{lines-pass}
 use Rattle.frame.proofs.Settled.{settled}
 use Rattle.registers.specs.Reg.{header, regOf, regLine}
 use Rattle.registers.specs.Reading.{SoFar, nothing, listLimit, regLimit, regsFault, afterReg, regsLayout, regsIn, regsOf}
-use Rattle.registers.specs.Reading.{marked, marksOf, unmarked, refused, readAs, listOf}
+use Rattle.registers.specs.Reading.{marked, marksOf, refused, readAs, listOf}
 use Rattle.registers.specs.Lines.{linesRead}
 use Rattle.registers.specs.Text.{listText, Ascending, Fits}
 use Rattle.registers.specs.declared.ListRead.{ListRead}
@@ -136,5 +137,5 @@ unfolding listOf regsOf linesRead
 text-read ps f =
     let short : length (listText ps) ≤ listLimit = omega (arith, tail-length header 0 ps (f .rising), f .few) in
     let q : split (listText ps) ≡ header ∷ tail ps = cut-glue 10 header (tail ps) (header-free, tail-free ps) in
-    let l = tail-lines 0 0 unmarked ps (omega (arith, f .few)) (f .rising) in
+    let l = tail-lines 0 0 noneListed ps (omega (arith, f .few)) (f .rising) in
     (rw (by-lines regsLayout 4 (listText ps) (tail ps) short q (some-end ps), q) l, rw q (tail-regs 0 ps (f .rising)))

@@ -1,11 +1,11 @@
 -- Document 02, C-16: a list text "is read before a trace is read or written, answering 1, then line by line 2 and 22, side 4". Assumes nothing.
 use Prim.Native.Nat.{ℕ, _+_}
-use mathlib.Core.Bool.{Bool, true, false, cond, _||_}
+use mathlib.Core.Bool.{Bool, true, cond, _||_}
 use mathlib.Core.List.{List, [], _∷_}
 use lib.Dec.{leb, ltb}
-use lib.ListN.{replicate, set}
+use lib.ListN.{set}
 use Rattle.event.specs.Answer.{done}
-use Rattle.event.specs.Kind.{places}
+use Rattle.event.specs.Listed.{noneListed}
 use Rattle.event.specs.declared.Answer.{Answer}
 use Rattle.text.specs.Line.{split, body, saidIn}
 use Rattle.frame.specs.Reading.{Layout, textFault, settle}
@@ -55,20 +55,17 @@ regsIn ls = saidIn (λ l. regsOn (regOf l)) ls
 unfoldable pub regsOf : List ℕ → List ℕ
 regsOf t = regsIn (body (split t))
 
--- A mark for each location: none is set; those of some locations set besides; and those of a list's.
-abbrev pub unmarked : List Bool
-unmarked = replicate places false
-
+-- A mark for each location: those of some locations set besides, and those of a list's.
 unfoldable pub marked : List Bool → List ℕ → List Bool
 marked marks [] = marks
 marked marks (p ∷ ps) = marked (set marks p true) ps
 
 abbrev pub marksOf : List ℕ → List Bool
-marksOf ps = marked unmarked ps
+marksOf ps = marked noneListed ps
 
 -- What a refusal hands back, and what a reading does.
 abbrev pub refused : Answer → ListRead
-refused a = record { answer = a; listed = unmarked }
+refused a = record { answer = a; listed = noneListed }
 
 abbrev pub readAs : List Bool → ListRead
 readAs marks = record { answer = done; listed = marks }

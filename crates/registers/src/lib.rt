@@ -6,8 +6,9 @@ ghost use mathlib.Core.Path.{_≡_};
 ghost use Prim.Native.Nat.{_≤_};
 ghost use lib.Dec.{leb, ltb};
 ghost use lib.ListN.{length};
+ghost use Rattle.event.specs.Listed.{noneListed};
 ghost use Rattle.text.specs.Line.{splitFrom};
-ghost use Rattle.registers.specs.Reading.{regLimit, nothing, unmarked, refused, listOf};
+ghost use Rattle.registers.specs.Reading.{regLimit, nothing, refused, listOf};
 ghost use Rattle.registers.specs.Lines.{linesRead};
 use event::Answer;
 use event::Word;
@@ -54,7 +55,7 @@ fn is_refused(location: Word, low: Word, n: usize) -> bool
 fn read_lines(text: &[u8], from: usize) -> ListRead
     requires { ⌜ from ≤ length (now text) ⌝ }
     requires { ⌜ 2 ≤ from ⌝ }
-    ensures { λ r. ⌜ r ≡ linesRead nothing unmarked (splitFrom (now (text .entry)) from) ⌝ }
+    ensures { λ r. ⌜ r ≡ linesRead nothing noneListed (splitFrom (now (text .entry)) from) ⌝ }
 {
     let mut listed: [bool; 256] = [false; 256];
     let mut at = from;

@@ -13,7 +13,7 @@ use Rattle.laws.proofs.Cases.{not-first}
 use Rattle.laws.proofs.Lists.{each-imp}
 use Rattle.laws.specs.Each.{Each}
 use Rattle.event.specs.Answer.{answer, done}
-use Rattle.event.specs.Kind.{lawful}
+use Rattle.event.specs.Kind.{lawful, places}
 use Rattle.event.specs.Memory.{stepped}
 use Rattle.event.specs.Room.{flat}
 use Rattle.event.specs.declared.Answer.{Answer}
@@ -27,7 +27,7 @@ use Rattle.record.specs.declared.form.Form.{Form}
 use Rattle.trace.specs.Fault.{eventFaultIn}
 use Rattle.trace.specs.Reading.{formOf, eventLimit, readAs, surveyIn, eventsOf, roomAfterIn}
 use Rattle.trace.specs.Writing.{countOf, roomEvents, layoutFault, lost, traceText, roomFaultIn, inOut, writeFaultIn, writeIn, outAfterIn}
-use Rattle.trace.specs.Text.{places, Valued, Fits}
+use Rattle.trace.specs.Text.{Valued, Fits}
 use Rattle.trace.proofs.OneText.{text-whole, written-read}
 use Rattle.trace.proofs.Range.{onward-length, room-fits}
 use Rattle.trace.proofs.ReadBack.{read-written}

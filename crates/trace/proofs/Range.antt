@@ -9,7 +9,7 @@ use native.Mathlib.Omega.{arith}
 use lib.ListN.{length, getD, length-append}
 use borrow.Author.Tests.{not-false}
 use Rattle.laws.specs.Each.{Each}
-use Rattle.event.specs.Kind.{lawful}
+use Rattle.event.specs.Kind.{lawful, places}
 use Rattle.event.specs.Room.{inRoom, eventAt, onward}
 use Rattle.event.specs.declared.Event.{Event}
 use Rattle.event.specs.declared.memory.Memory.{Memory}
@@ -22,7 +22,7 @@ use Rattle.record.specs.declared.form.Form.the-variants.{One, Two}
 use Rattle.trace.specs.Cover.{Start, starts}
 use Rattle.trace.specs.Reading.{eventLimit}
 use Rattle.trace.specs.Writing.{layoutFault, lost, textOf, hasLine, startLine, textBy}
-use Rattle.trace.specs.Text.{places, Valued, Fits, longestText}
+use Rattle.trace.specs.Text.{Valued, Fits, longestText}
 use Rattle.trace.proofs.Covered.{Heard, each-heard}
 use Rattle.trace.proofs.Judged.{bad-none}
 use Rattle.trace.proofs.Starts.{Rising, rising-starts}

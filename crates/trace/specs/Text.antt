@@ -5,17 +5,13 @@ use mathlib.Core.List.{List}
 use mathlib.Core.Path.{_≡_}
 use lib.ListN.{length}
 use Rattle.laws.specs.Each.{Each}
-use Rattle.event.specs.Kind.{lastPlace, lastValue}
+use Rattle.event.specs.Kind.{places, lastValue}
 use Rattle.event.specs.declared.Event.{Event}
 use Rattle.event.specs.declared.memory.Memory.{Memory}
 use Rattle.record.specs.Form.{header}
 use Rattle.record.specs.Record.{Fit, longestEvent, longestInit}
 use Rattle.record.specs.declared.form.Form.{Form}
 use Rattle.trace.specs.Reading.{eventLimit}
-
--- How many locations there are, each with its cell.
-abbrev pub places : ℕ
-places = suc lastPlace
 
 -- Values in range, as the cells of a memory.
 abbrev pub Valued : List ℕ → Type 0

@@ -29,7 +29,8 @@ pub fn write_in(
     room: &[Word],
     out: &mut [u8],
 ) -> Answer
-    ensures { λ r. ⌜ (r ≡ writeIn (now (listed .entry)) form memory (now (room .entry)) (now (out .entry))) × (now (out .exit) ≡ outAfterIn (now (listed .entry)) form memory (now (room .entry)) (now (out .entry))) ⌝ }
+    ensures { λ r. ⌜ (r ≡ writeIn (now (listed .entry)) form memory (now (room .entry)) (now (out .entry)))
+        × (now (out .exit) ≡ outAfterIn (now (listed .entry)) form memory (now (room .entry)) (now (out .entry))) ⌝ }
 {
     let fault = write_fault(listed, form, memory, room);
     if fault.number != 0 {
@@ -62,7 +63,8 @@ pub fn write_listed(
     room: &[Word],
     out: &mut [u8],
 ) -> Answer
-    ensures { λ r. ⌜ (r ≡ writeListed (now (list .entry)) form memory (now (room .entry)) (now (out .entry))) × (now (out .exit) ≡ outListed (now (list .entry)) form memory (now (room .entry)) (now (out .entry))) ⌝ }
+    ensures { λ r. ⌜ (r ≡ writeListed (now (list .entry)) form memory (now (room .entry)) (now (out .entry)))
+        × (now (out .exit) ≡ outListed (now (list .entry)) form memory (now (room .entry)) (now (out .entry))) ⌝ }
 {
     let read = registers::read(list);
     let found = read.answer;

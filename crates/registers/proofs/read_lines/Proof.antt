@@ -8,12 +8,13 @@ use native.Mathlib.Omega.{arith}
 use borrow.Author.Needs.{needs}
 use lib.Dec.{leb, ltb}
 use lib.ListN.{length, take, drop, drop-of-length-le, length-set}
+use Rattle.event.specs.Listed.{noneListed}
 use Rattle.event.specs.Kind.{places, lastPlace}
 use Rattle.event.specs.declared.Answer.{Answer}
 use Rattle.text.specs.Line.{splitFrom}
 use Rattle.text.proofs.Walk.{Next, next, last, rest-some, rest-none}
 use Rattle.registers.specs.Reg.{regOf}
-use Rattle.registers.specs.Reading.{nothing, unmarked, refused, regLimit}
+use Rattle.registers.specs.Reading.{nothing, refused, regLimit}
 use Rattle.registers.specs.Lines.{linesRead}
 use Rattle.registers.specs.declared.reg.RegRead.{RegRead}
 use Rattle.registers.specs.declared.reg.RegRead.the-variants.{Reg}
@@ -27,7 +28,7 @@ record Inv (text : List ℕ) (from : ℕ) (listed : List Bool) (at low n : ℕ) 
   within : at ≤ length text
   counted : n + 2 ≤ at
   size : length listed ≡ places
-  same : linesRead nothing unmarked (splitFrom text from) ≡ linesRead (record { low = low; regs = n }) listed (splitFrom text at)
+  same : linesRead nothing noneListed (splitFrom text from) ≡ linesRead (record { low = low; regs = n }) listed (splitFrom text at)
 
 abbrev Inv-loop : tie.InvT-loop
 Inv-loop text from listed₀ at₀ low₀ n₀ listed at low n = Inv text from listed at low n
@@ -59,7 +60,7 @@ module _ (c : tie.After-next-line Inv-loop μ-loop) where
   marks = c .before .loop .listed
 
   abbrev whole : ListRead
-  whole = linesRead nothing unmarked (splitFrom text (begin .args .from))
+  whole = linesRead nothing noneListed (splitFrom text (begin .args .from))
 
   inv : Inv text (begin .args .from) marks at low n
   inv = c .before .loop .inv

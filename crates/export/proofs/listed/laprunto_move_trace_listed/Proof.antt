@@ -12,8 +12,8 @@ returns c =
     let n = m .before .before in
     let a = n .before .before .before .before .args in
     written-laid (λ (f : Form). moveListed (a .list .now) f (a .text .now) (a .out .now))
-    (λ (f : Form). movedListed (a .list .now) f (a .text .now) (a .out .now)) _ _ (m .move-listed .result) _ _ _ (m .move-listed .ensures) (n .form-numbered .ensures) (c .before .before .number-index .ensures)
-    (c .before .number-index2 .ensures)
+    (λ (f : Form). movedListed (a .list .now) f (a .text .now) (a .out .now)) _ _ (m .move-listed .result) _ _ _ (m .move-listed .ensures) (n .form-numbered .ensures)
+    (c .before .before .number-index .ensures) (c .before .number-index2 .ensures)
 
 pub laprunto-move-trace-listed-spec : {M : Type 1} → statement M
 laprunto-move-trace-listed-spec =

@@ -12,9 +12,10 @@ returns c =
     let w = c .before .before .before .before .before in
     let a = w .before .before .before .before .before .before .before .args in
     let m = starting (a .memory .now) in
+    let form = w .before .before .form-numbered in
     written-laid (λ (f : Form). writeListed (a .list .now) f m (a .room .now) (a .out .now))
-    (λ (f : Form). outListed (a .list .now) f m (a .room .now) (a .out .now)) _ _ (w .write-listed .result) _ _ _ (w .write-listed .ensures) (w .before .before .form-numbered .ensures) (c .before .before .number-index .ensures)
-    (c .before .number-index2 .ensures)
+    (λ (f : Form). outListed (a .list .now) f m (a .room .now) (a .out .now)) _ _ (w .write-listed .result) _ _ _ (w .write-listed .ensures) (form .ensures)
+    (c .before .before .number-index .ensures) (c .before .number-index2 .ensures)
 
 pub laprunto-write-trace-listed-spec : {M : Type 1} → statement M
 laprunto-write-trace-listed-spec =
