@@ -71,9 +71,9 @@ module _ (regs : List Bool) (f : Form) (side k low : ℕ) (has : List Bool) (m :
       let at : List Start → Memory = λ is. record { cells = filled (m .cells) is } in
       rw h
       (settle-same (linesFault (traceLayout f) side k (closed 0) ls)
-      (λ is. first (coverFault f side (soFar has m ++ is) (eventsIn f ls)) (eventFaultIn regs side 1 (at is) [] (eventsIn f ls)))
+      (λ is. first (coverFault f side (soFar has (m .cells) ++ is) (eventsIn f ls)) (eventFaultIn regs side 1 (at is) [] (eventsIn f ls)))
       (λ is. readAs (length (eventsIn f ls)) (at is)) (initsIn f ls) (quiet f side k ls o)
-      ∙ rw (append-nil (soFar has m)))
+      ∙ rw (append-nil (soFar has (m .cells))))
 
   -- no starting value comes first: what stands after the last LF, or another line
   pub inits-last : (l : List ℕ) → surveyInits regs f side k low has m (l ∷ []) ≡ surveyEvents regs f side k has m (l ∷ [])
@@ -98,7 +98,7 @@ module _ (regs : List Bool) (f : Form) (side k low : ℕ) (has : List Bool) (m :
         → surveyInits regs f side k low has m (l ∷ ps) ≡ surveyInits regs f side (k + 1) (p + 1) (set has p true) (record { cells = set (m .cells) p v }) ps
     unfolding surveyInits saidIn startIn
     inits-go p v h o i j none =
-        let more : soFar (set has p true) (record { cells = set (m .cells) p v }) ≡ soFar has m ++ (p, v) ∷ [] =
+        let more : soFar (set has p true) (set (m .cells) p v) ≡ soFar has (m .cells) ++ (p, v) ∷ [] =
         starts-more (marked has) (marked (set has p true)) p v (m .cells) i (λ n z. none n (omega arith)) (getD-set-same has p true false j)
         (λ n z. getD-set-other has p n true false z) in
-        rw (lines-go (traceLayout f) side k opened l ps s (rw (h, le-ltb p low o)), h, more, append-assoc (soFar has m) ((p, v) ∷ []) (initsIn f ps))
+        rw (lines-go (traceLayout f) side k opened l ps s (rw (h, le-ltb p low o)), h, more, append-assoc (soFar has (m .cells)) ((p, v) ∷ []) (initsIn f ps))

@@ -39,7 +39,7 @@ unfoldable pub surveyOn : List Bool → Form → ℕ → ℕ → ℕ → Memory 
 surveyOn regs f side k n m before bare found has start ls =
     settle refused
     (first (linesFault (traceLayout f) side k (closed n) ls)
-    (first (coverOn f side (soFar has start) n before bare (eventsIn f ls)) (first found (eventFaultIn regs side (n + 1) m before (eventsIn f ls)))))
+    (first (coverOn f side (soFar has (start .cells)) n before bare (eventsIn f ls)) (first found (eventFaultIn regs side (n + 1) m before (eventsIn f ls)))))
     (readAs (n + length (eventsIn f ls)) start)
 
 pub on-start : (regs : List Bool) (f : Form) (side k : ℕ) (has : List Bool) (m : Memory) (ls : List (List ℕ)) → surveyEvents regs f side k has m ls ≡ surveyOn regs f side k 0 m [] done done has m ls
@@ -61,7 +61,7 @@ module _ (regs : List Bool) (f : Form) (side k n : ℕ) (m : Memory) (before : L
 
   module _ (h : isEmpty l ≡ true) (e : l ≡ []) where
     abbrev idle : Answer
-    idle = firstBad (isIdle f (touched before)) 21 side 2 (soFar has start)
+    idle = firstBad (isIdle f (touched before)) 21 side 2 (soFar has (start .cells))
 
     at-end : here (l ∷ []) ≡ settle refused (first (first (first bare done) idle) (first found done)) (readAs (n + 0) start)
     unfolding surveyOn saidIn uses firstBad
@@ -97,7 +97,7 @@ module _ (regs : List Bool) (f : Form) (side k n : ℕ) (m : Memory) (before : L
       -- an event, whether it clashes and whether its value is the latest being asked only where nothing was found before
       pub on-go : n < eventLimit → (clash : Bool) → (found .number ≡ 0 → clash ≡ clashesIn regs before e)
           → here (l ∷ ps)
-          ≡ surveyOn regs f side (k + 1) (n + 1) (stepped m e .memory) (e ∷ before) (cond (lacksLine f (lined (soFar has start)) e) (first bare (answer 20 side (n + 1))) bare)
+          ≡ surveyOn regs f side (k + 1) (n + 1) (stepped m e .memory) (e ∷ before) (cond (lacksLine f (lined (soFar has (start .cells))) e) (first bare (answer 20 side (n + 1))) bare)
           (first found (faultAt side (n + 1) clash (steppedIn regs m e .right))) has start ps
       unfolding surveyOn saidIn uses
       on-go b clash q =
@@ -115,7 +115,7 @@ module _ (regs : List Bool) (f : Form) (side k n : ℕ) (m : Memory) (before : L
             h,
             c,
             t,
-            bad-found (lacksLine f (lined (soFar has start))) 20 side refl (n + 1) e (eventsIn f ps) bare,
+            bad-found (lacksLine f (lined (soFar has (start .cells)))) 20 side refl (n + 1) e (eventsIn f ps) bare,
             fault-next regs side (n + 1) m before e (eventsIn f ps),
             first-assoc found d o,
             w,

@@ -16,15 +16,15 @@ use Rattle.trace.specs.declared.reading.TraceRead.{TraceRead}
 abbrev pub marked : List Bool → ℕ → Bool
 marked has l = getD has l false
 
-abbrev pub soFar : List Bool → Memory → List Start
-soFar has m = starts (λ l v. marked has l) 0 (m .cells)
+abbrev pub soFar : List Bool → List ℕ → List Start
+soFar has cells = starts (λ l v. marked has l) 0 cells
 
 -- Lines from line k on, before any event, where an `init` line may have the location `low` or above, and those before made the memory m.
 unfoldable pub surveyInits : List Bool → Form → ℕ → ℕ → ℕ → List Bool → Memory → List (List ℕ) → TraceRead
 surveyInits regs f side k low has m ls =
     settle refused
     (first (linesFault (traceLayout f) side k (record { low = low; events = 0 }) ls)
-    (first (coverFault f side (soFar has m ++ initsIn f ls) (eventsIn f ls)) (eventFaultIn regs side 1 (startFrom f m ls) [] (eventsIn f ls))))
+    (first (coverFault f side (soFar has (m .cells) ++ initsIn f ls) (eventsIn f ls)) (eventFaultIn regs side 1 (startFrom f m ls) [] (eventsIn f ls))))
     (readAs (length (eventsIn f ls)) (startFrom f m ls))
 
 -- Where no `init` line may come after n events.
@@ -36,5 +36,5 @@ unfoldable pub surveyEvents : List Bool → Form → ℕ → ℕ → List Bool �
 surveyEvents regs f side k has m ls =
     settle refused
     (first (linesFault (traceLayout f) side k (closed 0) ls)
-    (first (coverFault f side (soFar has m) (eventsIn f ls)) (eventFaultIn regs side 1 m [] (eventsIn f ls))))
+    (first (coverFault f side (soFar has (m .cells)) (eventsIn f ls)) (eventFaultIn regs side 1 m [] (eventsIn f ls))))
     (readAs (length (eventsIn f ls)) m)

@@ -2,6 +2,7 @@
 // which are touched.
 ghost use mathlib.Core.Bool.{_&&_};
 ghost use lib.Dec.{eqb};
+ghost use lib.ListN.{length};
 ghost use mathlib.Core.Path.{_≡_};
 ghost use Prim.Native.Nat.{_<_};
 ghost use Rattle.trace.specs.Cover.{lacksLine, isIdle};
@@ -17,7 +18,6 @@ use event::Event;
 use event::Number;
 use event::Word;
 use event::index_of;
-use event::memory::Memory;
 use record::form::Form;
 use record::form::is_silent;
 
@@ -50,10 +50,11 @@ pub(crate) fn idle_fault(
     form: Form,
     side: Number,
     has: &[bool; 256],
-    start: Memory,
+    cells: &[Word; 256],
     ways: &[Way; 256],
 ) -> Answer
-    ensures { λ r. ⌜ r ≡ firstBad (isIdle form (isUsed (now (ways .entry)))) 21 side 2 (soFar (now (has .entry)) start) ⌝ }
+    requires { ⌜ length (now cells) ≡ 256 ⌝ }
+    ensures { λ r. ⌜ r ≡ firstBad (isIdle form (isUsed (now (ways .entry)))) 21 side 2 (soFar (now (has .entry)) (now (cells .entry))) ⌝ }
 {
     if is_silent(form, 0) {
         return Answer::new(0, 0, 0);
@@ -62,7 +63,7 @@ pub(crate) fn idle_fault(
     let mut l: usize = 0;
     while l < 256 {
         if has[l] {
-            if is_idle(start.cells[l], ways[l]) {
+            if is_idle(cells[l], ways[l]) {
                 return Answer::new(21, side, line);
             }
             line += 1;

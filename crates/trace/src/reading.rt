@@ -120,7 +120,7 @@ fn survey_events(
     if bare.number != 0 {
         return refusal(bare);
     }
-    let idle = idle_fault(form, side, has, start, &ways);
+    let idle = idle_fault(form, side, has, &start.cells, &ways);
     if idle.number != 0 {
         return refusal(idle);
     }

@@ -6,12 +6,11 @@ use mathlib.Core.Path.{_≡_, refl, sym, _∙_, ap}
 use native.Mathlib.Omega.{arith}
 use borrow.Author.Needs.{needs}
 use lib.Dec.{eqb}
-use lib.ListN.{length, getD, drop, length-map}
+use lib.ListN.{length, getD, drop}
 use Rattle.laws.proofs.Cases.{cases}
 use Rattle.laws.proofs.Lists.{each-all}
 use Rattle.event.specs.Answer.{answer}
 use Rattle.event.specs.declared.Answer.{Answer}
-use Rattle.event.specs.declared.memory.Memory.{Memory}
 use Rattle.record.specs.Form.{silent}
 use Rattle.record.specs.declared.form.Form.{Form}
 use Rattle.trace.specs.Cover.{Start, isIdle, starts}
@@ -36,10 +35,10 @@ record Inv (ways : List ℕ) (side : ℕ) (has : List Bool) (cells : List ℕ) (
   same : firstBad (idles ways) 21 side 2 (starts (λ j v. marked has j) 0 cells) ≡ onward ways side has cells line l
 
 abbrev Inv-loop : tie.InvT-loop
-Inv-loop side has ways start line₀ l₀ line l = Inv ways side has (start .cells) line l
+Inv-loop side has cells ways line₀ l₀ line l = Inv ways side has cells line l
 
 abbrev μ-loop : tie.MeasureT-loop
-μ-loop side has ways start line₀ l₀ line l = 256 - l
+μ-loop side has cells ways line₀ l₀ line l = 256 - l
 
 -- by the location at hand
 module _ (ways : List ℕ) (side : ℕ) (has : List Bool) (cells : List ℕ) (line l : ℕ) (inside : l < length cells) where
@@ -65,8 +64,8 @@ loudly : (f : Form) → silent f 0 ≡ false → (ways : List ℕ) (side : ℕ) 
 loudly f z ways side is q = q ∙ ap (λ (s : Bool). firstBad (λ i. not s && idles ways i) 21 side 2 is) (sym z)
 
 -- there is a cell for each location
-size : (s : tie.Start Inv-loop μ-loop) → length (s .args .t4 .cells) ≡ 256
-size s = simp length-map at (s .good .1 .1 .1 .0 .1 .1 .0 .1 .0 .1)
+size : (s : tie.Start Inv-loop μ-loop) → length (s .args .cells .now) ≡ 256
+size s = s .pre
 
 -- what is known in the loop
 module _ (p : tie.At-loop Inv-loop μ-loop) where
@@ -80,13 +79,13 @@ module _ (p : tie.At-loop Inv-loop μ-loop) where
   has = begin .args .has .now
 
   abbrev cells : List ℕ
-  cells = begin .args .t4 .cells
+  cells = begin .args .cells .now
 
   told : {a : Answer} → a ≡ onward ways (begin .args .side) has cells (p .loop .line) (p .loop .l)
-      → a ≡ firstBad (isIdle (begin .args .form) (isUsed ways)) 21 (begin .args .side) 2 (soFar has (begin .args .t4))
+      → a ≡ firstBad (isIdle (begin .args .form) (isUsed ways)) 21 (begin .args .side) 2 (soFar has cells)
   told q =
       let z : silent (begin .args .form) 0 ≡ false = sym (p .before .before .is-silent .ensures) ∙ p .before .if1 .left in
-      loudly (begin .args .form) z ways (begin .args .side) (soFar has (begin .args .t4)) (q ∙ sym (p .loop .inv .same))
+      loudly (begin .args .form) z ways (begin .args .side) (soFar has cells) (q ∙ sym (p .loop .inv .same))
 
   module _ (h : p .loop .l < 256) where
     inside : p .loop .l < length cells
@@ -113,7 +112,7 @@ returns : tie.Need-returns Inv-loop μ-loop
 returns c =
     let s = c .before .before .before in
     let z : silent (s .args .form) 0 ≡ true = sym (c .before .before .is-silent .ensures) ∙ c .before .if1 .taken in
-    let is : List Start = soFar (s .args .has .now) (s .args .t4) in
+    let is : List Start = soFar (s .args .has .now) (s .args .cells .now) in
     let bad : Start → Bool = isIdle (s .args .form) (isUsed (s .args .ways .now)) in
     c .new .ensures ∙ sym (bad-done bad 21 (s .args .side) 2 is (each-all (λ i. bad i ≡ false) (λ i. rw z) is))
 

@@ -87,17 +87,21 @@ module _ (c : tie.After-next-line Inv-loop μ-loop) where
   memory = c .before .loop .last .memory
 
   abbrev whole : TraceRead
-  whole = surveyEvents regs (begin .args .form) (begin .args .side) (begin .args .line) has (begin .args .start) (splitFrom text (begin .args .from))
+  whole = surveyEvents regs (begin .args .form) (begin .args .side) (begin .args .line) has (begin .args .t8) (splitFrom text (begin .args .from))
 
-  inv : Inv regs (begin .args .form) text (begin .args .from) (begin .args .line) (begin .args .side) has (begin .args .start) memory (c .before .loop .ways)
+  inv : Inv regs (begin .args .form) text (begin .args .from) (begin .args .line) (begin .args .side) has (begin .args .t8) memory (c .before .loop .ways)
       (c .before .loop .bare) (c .before .loop .found) at (c .before .loop .k) (c .before .loop .n)
   inv = c .before .loop .inv
+
+  -- there is a cell for each location
+  size : length (begin .args .t8 .cells) ≡ 256
+  size = simp length-map at (begin .good .1 .1 .1 .1 .1 .1 .1 .0 .1 .1 .0 .1 .0 .1)
 
   -- the reading from there on
   abbrev on : List (List ℕ) → TraceRead
   on ls =
       surveyOn regs (begin .args .form) (begin .args .side) (c .before .loop .k) (c .before .loop .n) memory (inv .before) (c .before .loop .bare) (c .before .loop .found)
-      has (begin .args .start) ls
+      has (begin .args .t8) ls
 
 -- its line has a LF
 module _ (c : tie.After-to Inv-loop μ-loop) where
@@ -152,17 +156,13 @@ module _ (c : tie.Joined2 Inv-loop μ-loop) where
   abbrev d : tie.After-next-line Inv-loop μ-loop
   d = l (t (r y))
 
-  -- there is a cell for each location
-  size : length (begin d .args .start .cells) ≡ 256
-  size = simp length-map at (begin d .good .1 .1 .1 .1 .1 .1 .1 .0 .1 .1 .0 .1 .0 .1)
-
   abbrev lacking : Bool
-  lacking = lacksLine (begin d .args .form) (lined (soFar (has d) (begin d .args .start))) (event y)
+  lacking = lacksLine (begin d .args .form) (lined (soFar (has d) (begin d .args .t8 .cells))) (event y)
 
   lacks-is : asked .lacks-line .result ≡ lacking
   lacks-is =
       asked .lacks-line .ensures
-      ∙ rw (lined-starts (λ j v. marked (has d) j) (begin d .args .start .cells) (event y .place) (omega (arith, inside y, size)))
+      ∙ rw (lined-starts (λ j v. marked (has d) j) (begin d .args .t8 .cells) (event y .place) (omega (arith, inside y, size d)))
 
   bare-told : c .if2 .bare ≡ cond lacking (first (d .before .loop .bare) (answer 20 (begin d .args .side) (d .before .loop .n + 1))) (d .before .loop .bare)
   bare-told =
@@ -219,7 +219,7 @@ module _ (c : tie.Joined3 Inv-loop μ-loop) where
       (sym (c .before .is-at-fault .ensures) ∙ e .0 .left))
 
   goes-on : whole p ≡ surveyOn (regs p) (begin p .args .form) (begin p .args .side) (p .before .loop .k + 1) (p .before .loop .n + 1) (stepped-on .step .result .memory)
-      (event v ∷ inv p .before) (b .if2 .bare) after (has p) (begin p .args .start) (others (r v))
+      (event v ∷ inv p .before) (b .if2 .bare) after (has p) (begin p .args .t8) (others (r v))
   goes-on =
       by-line (r v)
       (on-go _ _ _ _ _ _ _ _ _ _ _ _ _ (line (t (r v)) .some) (event v) (its v) (asked b .before .if1 .left) (u .use-listed .result) clash-is
@@ -319,24 +319,24 @@ returns-5 c =
 -- each event has its line, and 21 is asked
 module _ (c : tie.After-idle-fault Inv-loop μ-loop) where
   abbrev h : tie.Else4 Inv-loop μ-loop
-  h = c .before .before .before .before
+  h = c .before .before .before .before .before .before
 
   idle-is : c .idle-fault .result
-      ≡ firstBad (isIdle (begin (a h) .args .form) (touched (inv (a h) .before))) 21 (begin (a h) .args .side) 2 (soFar (has (a h)) (begin (a h) .args .start))
+      ≡ firstBad (isIdle (begin (a h) .args .form) (touched (inv (a h) .before))) 21 (begin (a h) .args .side) 2 (soFar (has (a h)) (begin (a h) .args .t8 .cells))
   idle-is =
       c .idle-fault .ensures
-      ∙ ap (λ (t : ℕ → Bool). firstBad (isIdle (begin (a h) .args .form) t) 21 (begin (a h) .args .side) 2 (soFar (has (a h)) (begin (a h) .args .start)))
+      ∙ ap (λ (t : ℕ → Bool). firstBad (isIdle (begin (a h) .args .form) t) 21 (begin (a h) .args .side) 2 (soFar (has (a h)) (begin (a h) .args .t8 .cells)))
       (fun-ext (inv (a h) .touch))
 
   number-is : {m : ℕ} → c .idle-fault .result .number ≡ m
-      → firstBad (isIdle (begin (a h) .args .form) (touched (inv (a h) .before))) 21 (begin (a h) .args .side) 2 (soFar (has (a h)) (begin (a h) .args .start)) .number ≡ m
+      → firstBad (isIdle (begin (a h) .args .form) (touched (inv (a h) .before))) 21 (begin (a h) .args .side) 2 (soFar (has (a h)) (begin (a h) .args .t8 .cells)) .number ≡ m
   number-is e = ap (λ (x : Answer). x .number) (sym idle-is) ∙ e
 
 returns-6 : tie.Need-returns-6 Inv-loop μ-loop
 returns-6 c =
     let i = c .before .before .before in
     refuses (c .refusal6 .ensures) (idle-is i)
-    (rest (h i .before) (on-idle _ _ _ _ _ _ _ _ _ _ _ _ (ends (h i)) (nothing (h i)) (i .before .before .if5 .left)
+    (rest (h i .before) (on-idle _ _ _ _ _ _ _ _ _ _ _ _ (ends (h i)) (nothing (h i)) (i .before .before .before .before .if5 .left)
     (ne-eqb _ _ (λ z. c .before .if6 .taken (ap (λ (x : Answer). x .number) (idle-is i) ∙ z)))))
 
 returns-7 : tie.Need-returns-7 Inv-loop μ-loop
@@ -344,7 +344,7 @@ returns-7 c =
     let e = c .before .before .before in
     let i = e .before .before in
     refuses (c .refusal7 .ensures) refl
-    (rest (h i .before) (on-found _ _ _ _ _ _ _ _ _ _ _ _ (ends (h i)) (nothing (h i)) (i .before .before .if5 .left) (number-is i (e .if6 .left))
+    (rest (h i .before) (on-found _ _ _ _ _ _ _ _ _ _ _ _ (ends (h i)) (nothing (h i)) (i .before .before .before .before .if5 .left) (number-is i (e .if6 .left))
     (ne-eqb _ _ (c .before .if7 .taken))))
 
 returns-8 : tie.Need-returns-8 Inv-loop μ-loop
@@ -352,7 +352,7 @@ returns-8 c =
     let e = c .before .before .before in
     let i = e .before .before in
     rw (c .new8 .ensures)
-    (sym (rest (h i .before) (on-end _ _ _ _ _ _ _ _ _ _ _ _ (ends (h i)) (nothing (h i)) (i .before .before .if5 .left) (number-is i (e .if6 .left)) (c .before .if7 .left))))
+    (sym (rest (h i .before) (on-end _ _ _ _ _ _ _ _ _ _ _ _ (ends (h i)) (nothing (h i)) (i .before .before .before .before .if5 .left) (number-is i (e .if6 .left)) (c .before .if7 .left))))
 
 pub survey-events-spec : {M : Type 1} → statement M
 survey-events-spec =
@@ -400,7 +400,7 @@ survey-events-spec =
     returns-4
     (search needs)
     returns-5
-    (search needs)
+    (λ c κs. size (a (c .before .before .before .before .before)))
     (search needs)
     returns-6
     (search needs)
