@@ -4,8 +4,12 @@ use Rattle.laws.specs.Unique.{OneAnswer, OneOf}
 use Rattle.checker.proofs.check.Reads as check
 use Rattle.checker.proofs.check_in.Reads as check-in
 use Rattle.checker.proofs.check_listed.Reads as check-listed
+use Rattle.checker.proofs.refusal.Reads as refusal
 use Rattle.checker.proofs.line.offending_span.Reads as offending-span
 use Rattle.checker.proofs.line.offending_line.Reads as offending-line
+
+refusal-one : OneAnswer refusal.Post
+refusal-one κ a x y s t h k = h ∙ sym k
 
 check-one : OneAnswer check.Post
 check-one κ a x y s t h k = h .result ∙ sym (k .result)

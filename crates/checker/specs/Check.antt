@@ -136,8 +136,17 @@ Checks = ChecksIn noneListed
 unfoldable pub checkListed : List ℕ → Lent → Checked
 checkListed list l = settle refused (listOf list .answer) (checkIn (listOf list .listed) l)
 
+abbrev pub sourceRoomListed : List ℕ → Lent → List ℕ
+sourceRoomListed list l = unlessListed list (l .sourceRoom) (sourceRoomIn (listOf list .listed) l)
+
+abbrev pub targetRoomListed : List ℕ → Lent → List ℕ
+targetRoomListed list l = unlessListed list (l .targetRoom) (targetRoomIn (listOf list .listed) l)
+
+abbrev pub entryRoomListed : List ℕ → Lent → List ℕ
+entryRoomListed list l = unlessListed list (l .entryRoom) (entryRoomIn (listOf list .listed) l)
+
 pub record ChecksListed (list : List ℕ) (l : Lent) (r : Checked) (sourceRoom targetRoom entryRoom : List ℕ) : Type 0 where
   pub result : r ≡ checkListed list l
-  pub source : sourceRoom ≡ unlessListed list (l .sourceRoom) (sourceRoomIn (listOf list .listed) l)
-  pub target : targetRoom ≡ unlessListed list (l .targetRoom) (targetRoomIn (listOf list .listed) l)
-  pub entries : entryRoom ≡ unlessListed list (l .entryRoom) (entryRoomIn (listOf list .listed) l)
+  pub source : sourceRoom ≡ sourceRoomListed list l
+  pub target : targetRoom ≡ targetRoomListed list l
+  pub entries : entryRoom ≡ entryRoomListed list l

@@ -31,7 +31,8 @@ pub struct Checked {
     pub entries: usize,
 }
 
-fn refusal(answer: Answer) -> Checked
+// What a refused reading hands back: its answer, and zeros.
+pub fn refusal(answer: Answer) -> Checked
     ensures { λ r. ⌜ r ≡ refused answer ⌝ }
 {
     let memory = Memory::empty();

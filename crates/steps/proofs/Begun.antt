@@ -11,15 +11,17 @@ use Rattle.trace.specs.Reading.{eventLimit, eventsOf, readIn, surveyIn}
 use Rattle.trace.proofs.OneText.{text-whole}
 use Rattle.trace.proofs.Readings.{counts, read-passed}
 use Rattle.rules.proofs.Entries.{entries}
-use Rattle.checker.specs.Check.{ChecksIn, Lent, checkIn, entriesRead, entryRoomIn}
+use Rattle.registers.specs.Reading.{listOf}
+use Rattle.checker.specs.Check.{ChecksIn, Lent, checkIn, entriesRead, entryRoomIn, refused}
 use Rattle.checker.specs.Demand.{AdmittedIn, entriesFor, premise, sourceOf, targetOf}
 use Rattle.checker.specs.declared.Checked.{Checked}
 use Rattle.checker.proofs.Admitted.{admitted-exactly-in}
 use Rattle.checker.proofs.Demand3.{read-all}
 use Rattle.checker.proofs.Filled.{Entered, entered}
 use Rattle.steps.specs.Cost.{cost}
-use Rattle.steps.specs.Play.{StartsIn, front}
+use Rattle.steps.specs.Play.{StartsIn, StartsListed, front, notBegun, startedIn, startedListed}
 use Rattle.steps.specs.Tags.{counted}
+use Rattle.steps.specs.declared.Started.{Started}
 
 -- ---- what was read
 
@@ -114,8 +116,35 @@ module _ (regs : List Bool) (l : Lent) (c : Checked) {sr tr er : List ℕ} (h : 
         left = f ∙ rw (e, ← h .result);
       }
 
-pub refuses : (regs : List Bool) (l : Lent) (c : Checked) (tags : List ℕ) {sr tr er : List ℕ} → ChecksIn regs l c sr tr er → (c .answer .number ≡ 0 → ⊥)
-    → StartsIn regs l tags (record { checked = c; run = record { begun = false; standing = 0 }; cost = 0 }) sr tr er tags
-refuses regs l c tags h z =
-    let e = ne-eqb (checkIn regs l .answer .number) 0 (λ q. z (ap (λ (x : Checked). x .answer .number) (h .result) ∙ q)) in
-    record { result = rw (e, ← h .result); source = h .source; target = h .target; entries = h .entries; left = rw e }
+pub refuses : (regs : List Bool) (l : Lent) (c : Checked) (tags : List ℕ) (r : Started) {sr tr er : List ℕ} → ChecksIn regs l c sr tr er
+    → (c .answer .number ≡ 0 → ⊥) → r ≡ notBegun c → StartsIn regs l tags r sr tr er tags
+refuses regs l c tags r h z q =
+    let e = ne-eqb (checkIn regs l .answer .number) 0 (λ k. z (ap (λ (x : Checked). x .answer .number) (h .result) ∙ k)) in
+    record { result = q ∙ rw (e, ← h .result); source = h .source; target = h .target; entries = h .entries; left = rw e }
+
+-- ---- with the text of a list: it refuses, or the beginning is the one under what it lists
+
+module _ (list : List ℕ) (l : Lent) where
+  pub by-list : listOf list .answer .number ≡ 0 → startedListed list l ≡ startedIn (listOf list .listed) l
+  unfolding startedListed
+  by-list z = rw z
+
+  pub by-refused : (listOf list .answer .number ≡ 0 → ⊥) → startedListed list l ≡ notBegun (refused (listOf list .answer))
+  unfolding startedListed
+  by-refused h = rw (ne-eqb _ _ h)
+
+  pub listed-refused : (tags : List ℕ) (r : Started) → (listOf list .answer .number ≡ 0 → ⊥) → r ≡ notBegun (refused (listOf list .answer))
+      → StartsListed list l tags r (l .sourceRoom) (l .targetRoom) (l .entryRoom) tags
+  listed-refused tags r h e =
+      let z = ne-eqb (listOf list .answer .number) 0 h in
+      record { result = e ∙ sym (by-refused h); source = rw z; target = rw z; entries = rw z; left = rw z }
+
+  pub listed-starts : (tags : List ℕ) (r : Started) (s t e after : List ℕ) → listOf list .answer .number ≡ 0
+      → StartsIn (listOf list .listed) l tags r s t e after → StartsListed list l tags r s t e after
+  listed-starts tags r s t e after z c = record {
+    result = c .result ∙ sym (by-list z);
+    source = rw z (c .source);
+    target = rw z (c .target);
+    entries = rw z (c .entries);
+    left = rw z (c .left);
+  }

@@ -5,15 +5,17 @@ use mathlib.Core.Option.{none, some, Option·none-ne-some}
 use mathlib.Core.List.{List}
 use Prim.Native.Nat.{ℕ, zero, suc, _≤_, _<_}
 use native.Mathlib.Omega.{arith}
-use lib.Dec.{ltb}
+use lib.Dec.{eqb, ltb}
 use lib.ListN.{length, drop}
 use lib.Seq.{take-at}
-use borrow.Author.Tests.{le-leb, ltb-false, ltb-true, ne-eqb}
+use borrow.Author.Tests.{eqb-false, eqb-true, le-leb, ltb-false, ltb-true, ne-eqb}
+use Rattle.laws.proofs.Cases.{cases, either}
 use Rattle.event.specs.Answer.{done}
 use Rattle.event.specs.Listed.{noneListed}
 use Rattle.event.specs.declared.Answer.{Answer}
 use Rattle.event.specs.declared.Event.{Event}
 use Rattle.trace.specs.Reading.{eventLimit}
+use Rattle.registers.specs.Reading.{listOf}
 use Rattle.rules.specs.View.{View, viewIn}
 use Rattle.rules.specs.Moves.{Run as RunOf}
 use Rattle.rules.specs.Run.{Ends, Traced, changes, number}
@@ -22,17 +24,22 @@ use Rattle.rules.proofs.Latest.{all-lawful-in}
 use Rattle.rules.proofs.Unlisted.{view-none}
 use Rattle.checker.specs.Check.{Lent, checkIn, sourceReadIn, targetReadIn, verdictFor}
 use Rattle.checker.specs.Demand.{entriesFor, sourceOf, targetOf}
+use Rattle.checker.proofs.Answers.{by-list as check-by-list, by-refused as check-by-refused}
 use Rattle.checker.proofs.Demand3.{judged, passes}
 use Rattle.steps.specs.Cost.{cost}
 use Rattle.steps.specs.Play.{Played, beginning, costIn, front, isDone, isOpen, nextBy, outcomeBy, playBy, stands, tagsBegun}
-use Rattle.steps.specs.Promise.{AsManyBy, AsManyTexts, NoFewerBy, NoFewerTexts, NoStepBy, PrintedBy, PrintedTexts, Resumed, replayBy}
+use Rattle.steps.specs.Play.{startedIn, startedListed, startedOf, tagsIn, tagsOf}
+use Rattle.steps.specs.Promise.{AsManyBy, AsManyIn, AsManyListed, AsManyTexts, CheckedListed}
+use Rattle.steps.specs.Promise.{NoFewerBy, NoFewerIn, NoFewerListed, NoFewerTexts, NoStepBy, NoStepListed}
+use Rattle.steps.specs.Promise.{PrintedBy, PrintedIn, PrintedListed, PrintedTexts, Resumed, replayBy}
 use Rattle.steps.specs.Step.{Replays, applied, ended, nextStep, stepped}
 use Rattle.steps.specs.Tags.{codes, counted, trace}
 use Rattle.steps.specs.declared.Run.{Run}
+use Rattle.steps.specs.declared.Started.{Started}
 use Rattle.steps.specs.declared.Step.{Step}
 use Rattle.steps.specs.declared.Step.the-variants.{Remove, Swap, Insert, Done, Stuck}
 use Rattle.steps.proofs.Allow.{replays-run}
-use Rattle.steps.proofs.Begun.{admitted, source-few, standing, target-few}
+use Rattle.steps.proofs.Begun.{admitted, by-list, by-refused, source-few, standing, target-few}
 use Rattle.steps.proofs.Kept.{running}
 use Rattle.steps.proofs.Plays.{next-open, open-after, play-off, play-on, stands-after}
 use Rattle.steps.proofs.Printed.{as-many, no-fewer, printed}
@@ -114,7 +121,7 @@ module _ (regs : List Bool) (l : Lent) (h : checkIn regs l .answer ≡ done) whe
   costs = rw zero-number
 
 module _ (regs : List Bool) where
-  pub printed-in : PrintedBy regs (viewIn regs)
+  pub printed-in : PrintedIn regs
   unfolding verdictFor
   printed-in l tags h budget b =
       let look = viewIn regs in
@@ -144,7 +151,7 @@ by-size m n f = go (ltb n m) refl
     go false e = ltb-false n m e
 
 module _ (regs : List Bool) where
-  pub as-many-in : AsManyBy regs (viewIn regs)
+  pub as-many-in : AsManyIn regs
   unfolding verdictFor
   as-many-in l tags h budget =
       let look = viewIn regs in
@@ -152,7 +159,7 @@ module _ (regs : List Bool) where
       let t = targetOf l in
       let ns = entriesFor l in
       let r = as-many regs (sourceReadIn regs l .memory) (targetReadIn regs l .memory) s t ns (ready regs l h) (few-targets regs l h) (accepted regs l h) in
-      let p = replayBy regs look l tags budget in
+      let p = replayBy (startedIn regs) (tagsIn regs) look l tags budget in
       let e = costs regs l h in
       let begun = beginning (checkIn regs l) in
       let first = tagsBegun (checkIn regs l) tags in
@@ -168,7 +175,7 @@ module _ (regs : List Bool) where
         λ b. goes b .count,
       )
 
-  pub no-fewer-in : NoFewerBy regs (viewIn regs)
+  pub no-fewer-in : NoFewerIn regs
   no-fewer-in l h u r e =
       rw (costs regs l h)
       (no-fewer regs (sourceReadIn regs l .memory) (targetReadIn regs l .memory) (sourceOf l) (targetOf l) (entriesFor l) (ready regs l h) u r e)
@@ -176,18 +183,59 @@ module _ (regs : List Bool) where
 -- ---- without a list
 
 pub printed-texts : PrintedTexts
-printed-texts = subst (PrintedBy noneListed) view-none (printed-in noneListed)
+printed-texts = subst (PrintedBy startedOf tagsOf) view-none (printed-in noneListed)
 
 pub as-many-texts : AsManyTexts
-as-many-texts = subst (AsManyBy noneListed) view-none (as-many-in noneListed)
+as-many-texts = subst (AsManyBy startedOf tagsOf) view-none (as-many-in noneListed)
 
 pub no-fewer-texts : NoFewerTexts
-no-fewer-texts = subst (NoFewerBy noneListed) view-none (no-fewer-in noneListed)
+no-fewer-texts = subst (NoFewerBy startedOf tagsOf) view-none (no-fewer-in noneListed)
 
 -- ---- a refused one
 
-pub no-step : (regs : List Bool) (look : Event → View) → NoStepBy regs look
+pub no-step : (regs : List Bool) (look : Event → View) → NoStepBy (startedIn regs) (tagsIn regs) look
 no-step regs look l tags z s t ns swapped st = let e = ne-eqb (checkIn regs l .answer .number) 0 z in (rw e, rw e, rw e)
+
+-- ---- with the text of a list: one that refuses is the answer, and accepts nothing
+
+module _ (list : List ℕ) where
+  pub checked-listed : CheckedListed list
+  checked-listed l =
+      cases (either (eqb (listOf list .answer .number) 0))
+      (λ e. let z = eqb-true _ _ e in
+      ap (λ (s : Started). s .checked) (by-list list l z) ∙ sym (check-by-list list l z))
+      (λ e. let z = eqb-false _ _ e in
+      ap (λ (s : Started). s .checked) (by-refused list l z) ∙ sym (check-by-refused list l z))
+
+  accepted-list : (l : Lent) → startedListed list l .checked .answer ≡ done → listOf list .answer .number ≡ 0
+  accepted-list l h =
+      cases (either (eqb (listOf list .answer .number) 0)) (λ e. eqb-true _ _ e)
+      (λ e. ap (λ (a : Answer). a .number) (rw (by-refused list l (eqb-false _ _ e)) at h))
+
+  pub printed-listed : PrintedListed list
+  printed-listed l tags h budget b =
+      let z = accepted-list l h in
+      let e = by-list list l z in
+      rw (e, z) (printed-in (listOf list .listed) l tags (rw e at h) budget b)
+
+  pub as-many-listed : AsManyListed list
+  as-many-listed l tags h budget =
+      let z = accepted-list l h in
+      let e = by-list list l z in
+      rw (e, z) (as-many-in (listOf list .listed) l tags (rw e at h) budget)
+
+  pub no-fewer-listed : NoFewerListed list
+  no-fewer-listed l h u r k =
+      let e = by-list list l (accepted-list l h) in
+      rw e (no-fewer-in (listOf list .listed) l (rw e at h) u r k)
+
+  pub no-step-listed : NoStepListed list
+  no-step-listed l tags h s t ns swapped st =
+      cases (either (eqb (listOf list .answer .number) 0))
+      (λ q. let z = eqb-true _ _ q in
+      let e = by-list list l z in
+      rw (e, z) (no-step (listOf list .listed) (viewIn (listOf list .listed)) l tags (rw e at h) s t ns swapped st))
+      (λ q. rw (by-refused list l (eqb-false _ _ q), q) (refl, refl, refl))
 
 -- ---- asking from the last swap's place on
 

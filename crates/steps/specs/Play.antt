@@ -1,4 +1,4 @@
--- Request C-12: what each function hands back, and what it leaves in the lent array of 800 numbers, which holds what stands at its front. Assumes
+-- Requests C-12, C-18 and C-16: what each function hands back, and what it leaves in the lent array of 800 numbers, which holds what stands at its front. Assumes
 -- nothing.
 use mathlib.Core.Path.{_≡_}
 use mathlib.Core.Bool.{Bool, true, false, cond, _&&_}
@@ -12,7 +12,10 @@ use Rattle.trace.specs.Reading.{eventLimit}
 use Rattle.event.specs.Listed.{noneListed}
 use Rattle.rules.specs.View.{View, view}
 use Rattle.rules.specs.Run.{Traced}
-use Rattle.checker.specs.Check.{Lent, checkIn, entryRoomIn, sourceRoomIn, targetRoomIn}
+use Rattle.frame.specs.Reading.{settle}
+use Rattle.registers.specs.Reading.{listOf}
+use Rattle.trace.specs.Listed.{unlessListed}
+use Rattle.checker.specs.Check.{Lent, checkIn, entryRoomIn, entryRoomListed, refused, sourceRoomIn, sourceRoomListed, targetRoomIn, targetRoomListed}
 use Rattle.checker.specs.Demand.{entriesFor, targetOf}
 use Rattle.checker.specs.declared.Checked.{Checked}
 use Rattle.steps.specs.Cost.{cost}
@@ -46,19 +49,49 @@ abbrev pub costIn : List Bool → Lent → ℕ
 costIn regs l = cond (eqb (checkIn regs l .answer .number) 0) (cost (length (targetOf l)) (entriesFor l)) 0
 
 -- What a beginning hands back, and what it leaves in the rooms and in the array.
+abbrev pub startedIn : List Bool → Lent → Started
+startedIn regs l = record { checked = checkIn regs l; run = beginning (checkIn regs l); cost = costIn regs l }
+
+abbrev pub tagsIn : List Bool → Lent → List ℕ → List ℕ
+tagsIn regs l tags = tagsBegun (checkIn regs l) tags
+
 pub record StartsIn (regs : List Bool) (l : Lent) (tags : List ℕ) (r : Started) (sourceRoom targetRoom entryRoom after : List ℕ) : Type 0 where
-  pub result : r ≡ record { checked = checkIn regs l; run = beginning (checkIn regs l); cost = costIn regs l }
+  pub result : r ≡ startedIn regs l
   pub source : sourceRoom ≡ sourceRoomIn regs l
   pub target : targetRoom ≡ targetRoomIn regs l
   pub entries : entryRoom ≡ entryRoomIn regs l
-  pub left : after ≡ tagsBegun (checkIn regs l) tags
+  pub left : after ≡ tagsIn regs l tags
 
 -- The same without a list.
+abbrev pub startedOf : Lent → Started
+startedOf = startedIn noneListed
+
+abbrev pub tagsOf : Lent → List ℕ → List ℕ
+tagsOf = tagsIn noneListed
+
 abbrev pub costOf : Lent → ℕ
 costOf = costIn noneListed
 
 abbrev pub Starts : Lent → List ℕ → Started → List ℕ → List ℕ → List ℕ → List ℕ → Type 0
 Starts = StartsIn noneListed
+
+-- Where no run begins.
+abbrev pub notBegun : Checked → Started
+notBegun c = record { checked = c; run = record { begun = false; standing = 0 }; cost = 0 }
+
+-- With the text of a list: its answer comes ahead of the source's, and its refusal begins no run and stores nothing.
+unfoldable pub startedListed : List ℕ → Lent → Started
+startedListed list l = settle (λ a. notBegun (refused a)) (listOf list .answer) (startedIn (listOf list .listed) l)
+
+abbrev pub tagsListed : List ℕ → Lent → List ℕ → List ℕ
+tagsListed list l tags = unlessListed list tags (tagsIn (listOf list .listed) l tags)
+
+pub record StartsListed (list : List ℕ) (l : Lent) (tags : List ℕ) (r : Started) (sourceRoom targetRoom entryRoom after : List ℕ) : Type 0 where
+  pub result : r ≡ startedListed list l
+  pub source : sourceRoom ≡ sourceRoomListed list l
+  pub target : targetRoom ≡ targetRoomListed list l
+  pub entries : entryRoom ≡ entryRoomListed list l
+  pub left : after ≡ tagsListed list l tags
 
 -- The trace as it stands.
 abbrev pub stands : List Event → List Event → Run → List ℕ → List Traced

@@ -12,7 +12,6 @@ use lib.ListN.{length}
 use Rattle.laws.specs.Each.{Each}
 use Rattle.event.specs.Answer.{done}
 use Rattle.event.specs.Kind.{lawful}
-use Rattle.event.specs.Listed.{noneListed}
 use Rattle.event.specs.declared.Event.{Event}
 use Rattle.event.specs.declared.memory.Memory.{Memory}
 use Rattle.trace.specs.Reading.{eventLimit}
@@ -21,11 +20,13 @@ use Rattle.rules.specs.Moves.{Move, Run}
 use Rattle.rules.specs.Run.{Traced, number, changes, Ends}
 use Rattle.rules.specs.Verdict.{verdictIn}
 use Rattle.rules.specs.Demand.{PassedIn}
-use Rattle.checker.specs.Check.{Lent, checkIn}
+use Rattle.registers.specs.Reading.{listOf}
+use Rattle.checker.specs.Check.{Lent, checkListed}
 use Rattle.checker.specs.Demand.{entriesFor, sourceOf, targetOf}
 use Rattle.steps.specs.Cost.{cost, stepsOf}
-use Rattle.steps.specs.Play.{Played, beginning, costIn, nextBy, nextFromBy, outcomeBy, playBy, stands, swapPlace, tagsBegun}
+use Rattle.steps.specs.Play.{Played, nextBy, nextFromBy, outcomeBy, playBy, stands, startedIn, startedListed, startedOf, swapPlace, tagsIn, tagsListed, tagsOf}
 use Rattle.steps.specs.Step.{Replays, applied, nextStep, phase}
+use Rattle.steps.specs.declared.Started.{Started}
 use Rattle.steps.specs.declared.Step.{Step}
 use Rattle.steps.specs.declared.Step.the-variants.{Done}
 
@@ -79,11 +80,11 @@ OneReplay =
 
 -- ---- on texts, and on the array that a caller lends
 
-module _ (regs : List Bool) (look : Event → View) where
+-- What a beginning hands back, and what it leaves in the array; from there on the rules see an event by its look.
+module _ (begun : Lent → Started) (left : Lent → List ℕ → List ℕ) (look : Event → View) where
   -- How the run of three texts goes, by next steps that are applied, with a budget.
   abbrev pub replayBy : Lent → List ℕ → ℕ → Played
-  replayBy l tags budget =
-      playBy look (sourceOf l) (targetOf l) (entriesFor l) budget (beginning (checkIn regs l)) (tagsBegun (checkIn regs l) tags)
+  replayBy l tags budget = playBy look (sourceOf l) (targetOf l) (entriesFor l) budget (begun l .run) (left l tags)
 
   -- The trace that it ends with.
   abbrev pub lastBy : Lent → List ℕ → ℕ → List Traced
@@ -93,7 +94,7 @@ module _ (regs : List Bool) (look : Event → View) where
   -- demand 3's sense, and the last trace is the target.
   abbrev pub PrintedBy : Type 0
   PrintedBy =
-      (l : Lent) (tags : List ℕ) → checkIn regs l .answer ≡ done → (budget : ℕ) → bound (sourceOf l) (targetOf l) ≤ budget
+      (l : Lent) (tags : List ℕ) → begun l .checked .answer ≡ done → (budget : ℕ) → bound (sourceOf l) (targetOf l) ≤ budget
       → (replayBy l tags budget .ended ≡ true)
       × (replayBy l tags budget .steps ≤ bound (sourceOf l) (targetOf l))
       × Run (changes look) (number 1 (sourceOf l)) (lastBy l tags budget)
@@ -102,36 +103,65 @@ module _ (regs : List Bool) (look : Event → View) where
   -- It ends exactly with the budgets that are no less than the count that the beginning hands back, and then it has so many steps.
   abbrev pub AsManyBy : Type 0
   AsManyBy =
-      (l : Lent) (tags : List ℕ) → checkIn regs l .answer ≡ done → (budget : ℕ)
-      → ((replayBy l tags budget .ended ≡ true) ↔ (costIn regs l ≤ budget))
-      × (costIn regs l ≤ budget → replayBy l tags budget .steps ≡ costIn regs l)
+      (l : Lent) (tags : List ℕ) → begun l .checked .answer ≡ done → (budget : ℕ)
+      → ((replayBy l tags budget .ended ≡ true) ↔ (begun l .cost ≤ budget))
+      × (begun l .cost ≤ budget → replayBy l tags budget .steps ≡ begun l .cost)
 
   -- No run that realises the matching of three texts has fewer.
   abbrev pub NoFewerBy : Type 0
   NoFewerBy =
-      (l : Lent) → checkIn regs l .answer ≡ done → (u : List Traced) (r : Run (changes look) (number 1 (sourceOf l)) u)
-      → Ends (entriesFor l) 1 u (targetOf l) → costIn regs l ≤ stepsOf r
+      (l : Lent) → begun l .checked .answer ≡ done → (u : List Traced) (r : Run (changes look) (number 1 (sourceOf l)) u)
+      → Ends (entriesFor l) 1 u (targetOf l) → begun l .cost ≤ stepsOf r
 
   -- A matching that is not accepted has no step: none is next, none is applied, and the array stays as it is.
   abbrev pub NoStepBy : Type 0
   NoStepBy =
-      (l : Lent) (tags : List ℕ) → checkIn regs l .answer .number ≢ 0 → (s t : List Event) (ns : List ℕ) (swapped : ℕ) (st : Step)
-      → (nextBy look s t ns swapped (beginning (checkIn regs l)) tags ≡ Done)
-      × (outcomeBy look s t (beginning (checkIn regs l)) tags st ≡ none)
-      × (tagsBegun (checkIn regs l) tags ≡ tags)
+      (l : Lent) (tags : List ℕ) → begun l .checked .answer .number ≢ 0 → (s t : List Event) (ns : List ℕ) (swapped : ℕ) (st : Step)
+      → (nextBy look s t ns swapped (begun l .run) tags ≡ Done)
+      × (outcomeBy look s t (begun l .run) tags st ≡ none)
+      × (left l tags ≡ tags)
 
--- The same without a list.
+-- Under a list of registers, by its marks.
+module _ (regs : List Bool) where
+  abbrev pub PrintedIn : Type 0
+  PrintedIn = PrintedBy (startedIn regs) (tagsIn regs) (viewIn regs)
+
+  abbrev pub AsManyIn : Type 0
+  AsManyIn = AsManyBy (startedIn regs) (tagsIn regs) (viewIn regs)
+
+  abbrev pub NoFewerIn : Type 0
+  NoFewerIn = NoFewerBy (startedIn regs) (tagsIn regs) (viewIn regs)
+
+-- Without a list.
 abbrev pub PrintedTexts : Type 0
-PrintedTexts = PrintedBy noneListed view
+PrintedTexts = PrintedBy startedOf tagsOf view
 
 abbrev pub AsManyTexts : Type 0
-AsManyTexts = AsManyBy noneListed view
+AsManyTexts = AsManyBy startedOf tagsOf view
 
 abbrev pub NoFewerTexts : Type 0
-NoFewerTexts = NoFewerBy noneListed view
+NoFewerTexts = NoFewerBy startedOf tagsOf view
 
 abbrev pub NoStep : Type 0
-NoStep = NoStepBy noneListed view
+NoStep = NoStepBy startedOf tagsOf view
+
+-- With the text of a list.
+module _ (list : List ℕ) where
+  abbrev pub PrintedListed : Type 0
+  PrintedListed = PrintedBy (startedListed list) (tagsListed list) (viewIn (listOf list .listed))
+
+  abbrev pub AsManyListed : Type 0
+  AsManyListed = AsManyBy (startedListed list) (tagsListed list) (viewIn (listOf list .listed))
+
+  abbrev pub NoFewerListed : Type 0
+  NoFewerListed = NoFewerBy (startedListed list) (tagsListed list) (viewIn (listOf list .listed))
+
+  abbrev pub NoStepListed : Type 0
+  NoStepListed = NoStepBy (startedListed list) (tagsListed list) (viewIn (listOf list .listed))
+
+  -- It checks as a check with the list does.
+  abbrev pub CheckedListed : Type 0
+  CheckedListed = (l : Lent) → startedListed list l .checked ≡ checkListed list l
 
 -- Asked for from the place of the swap before it, the next step is the next step.
 abbrev pub Resumed : Type 0

@@ -41,11 +41,12 @@ returns c =
 
 returns-2 : tie.Need-returns-2
 returns-2 c =
-    let k = checked (c .before) .check-in in
-    refuses _ _ (k .result) _ (k .ensures) (c .if1 .left)
+    let d = c .before in
+    let k = checked (d .before) .check-in in
+    refuses _ _ (k .result) _ (c .not-begun .result) (k .ensures) (d .if1 .left) (c .not-begun .ensures)
 
 pub start-in-spec : {M : Type 1} → statement M
 start-in-spec =
     tie.close
     (tie.spec (search needs) fill-requires (search needs) (search needs) part-cost-of-end cost-of-requires (search needs) (search needs) (search needs) returns
-    (search needs) (search needs) (search needs) returns-2)
+    (search needs) (search needs) (search needs) (search needs) returns-2)
