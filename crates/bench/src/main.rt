@@ -16,10 +16,12 @@ ghost use lib.ListN.{length};
 ghost use Rattle.io.specs.Counts.{Counts};
 use check::run_check;
 use event::number_index;
-use files::check::check_files;
-use files::check::check_files_listed;
+use files::list::list_of;
+use files::list::no_list;
 use files::print::print;
 use files::print::print_number;
+use files::program::Wanted;
+use files::program::judge_files;
 use files::read::read_file;
 use lists::run_list;
 use moves::run_move;
@@ -57,39 +59,51 @@ fn vectors_buffer() -> [u8; 2400000]
 
 // The examples, as the program checks them.
 fn print_examples() {
-    check_files(
+    judge_files(
+        Wanted::Answer,
+        no_list(),
         b"examples/lock/source",
         b"examples/lock/target",
         b"examples/lock/matching",
     );
-    check_files(
+    judge_files(
+        Wanted::Answer,
+        no_list(),
         b"examples/task/source",
         b"examples/task/target",
         b"examples/task/matching",
     );
-    check_files(
+    judge_files(
+        Wanted::Answer,
+        no_list(),
         b"examples/code/source",
         b"examples/code/target",
         b"examples/code/matching",
     );
-    check_files(
+    judge_files(
+        Wanted::Answer,
+        no_list(),
         b"examples/count/source",
         b"examples/count/target",
         b"examples/count/matching",
     );
-    check_files(
+    judge_files(
+        Wanted::Answer,
+        no_list(),
         b"examples/start/source",
         b"examples/start/target",
         b"examples/start/matching",
     );
-    check_files_listed(
-        b"examples/sensor/list",
+    judge_files(
+        Wanted::Answer,
+        list_of(b"examples/sensor/list"),
         b"examples/sensor/source",
         b"examples/sensor/target",
         b"examples/sensor/matching",
     );
-    check_files_listed(
-        b"examples/poll/list",
+    judge_files(
+        Wanted::Answer,
+        list_of(b"examples/poll/list"),
         b"examples/poll/source",
         b"examples/poll/target",
         b"examples/poll/matching",
@@ -109,7 +123,7 @@ fn run_at(task: Task, listed: bool, data: &[u8], at: usize, ordinal: usize) -> R
         Task::Check => run_check(listed, data, at, ordinal),
         Task::Move => run_move(listed, data, at, ordinal),
         Task::Write => run_write(listed, data, at, ordinal),
-        Task::Run => run_steps(data, at, ordinal),
+        Task::Run => run_steps(listed, data, at, ordinal),
         Task::List => run_list(data, at, ordinal),
     }
 }

@@ -7,19 +7,24 @@ use super::tell::print_unless;
 use super::vector::between;
 use super::vector::check_vector;
 use super::vector::forth;
+use super::with::list_with;
 use event::Answer;
 use event::Entry;
 use event::Word;
+use event::listed::Listed;
 use files::run::LINE;
+use files::run::begin;
 use files::run::entries_of;
-use files::run::events_of;
 use files::run::put_count;
 use files::run::put_step;
+use files::run::source_of;
+use files::run::target_of;
+use registers::ListRead;
 use steps::Run;
+use steps::Started;
 use steps::Step;
-use steps::apply;
-use steps::next;
-use steps::start;
+use steps::apply_listed;
+use steps::next_listed;
 use steps::swap_place;
 use text::word::same_bytes;
 use trace::reading::EVENT_LIMIT;
@@ -71,6 +76,7 @@ fn after_count(lines: &[u8], steps: usize) -> usize {
 
 // The steps, as long as each is allowed and its line stands in the text, from a place on; after the last line there is none.
 fn follow(
+    listed: &Listed,
     begun: Run,
     tags: [usize; EVENT_LIMIT],
     source: &[Word],
@@ -85,8 +91,8 @@ fn follow(
     let mut swapped: usize = 0;
     let mut steps: usize = 0;
     while at < lines.len() {
-        let step = next(run, &standing, source, target, entries, swapped);
-        let applied = apply(run, &mut standing, source, target, step);
+        let step = next_listed(listed, run, &standing, source, target, entries, swapped);
+        let applied = apply_listed(listed, run, &mut standing, source, target, step);
         if !applied.allowed {
             return Followed {
                 steps,
@@ -106,7 +112,7 @@ fn follow(
         steps = and_more(steps, 1);
         at = next_line;
     }
-    let last = next(run, &standing, source, target, entries, swapped);
+    let last = next_listed(listed, run, &standing, source, target, entries, swapped);
     Followed {
         steps,
         whole: is_done(last),
@@ -121,32 +127,26 @@ fn is_counted(answer: Answer, steps: usize, from: usize) -> bool {
     steps == 0
 }
 
-// A vector's texts checked in rooms that hold the most, and the run followed.
-fn outcome_of(source: &[u8], target: &[u8], matching: &[u8], lines: &[u8]) -> Outcome {
-    let mut source_room: [Word; 4800] = [0; 4800];
-    let mut target_room: [Word; 4800] = [0; 4800];
-    let mut entry_room: [Entry; 800] = [0; 800];
-    let mut tags: [usize; EVENT_LIMIT] = [0; EVENT_LIMIT];
-    let started = start(
-        source,
-        target,
-        matching,
-        &mut source_room,
-        &mut target_room,
-        &mut entry_room,
-        &mut tags,
-    );
+// The run that has begun followed, with the rooms that the check filled.
+fn outcome_in<'a>(
+    listed: &Listed,
+    started: Started,
+    tags: [usize; EVENT_LIMIT],
+    source_room: &'a [Word],
+    target_room: &'a [Word],
+    entry_room: &'a [Entry],
+    lines: &[u8],
+) -> Outcome {
     let checked = started.checked;
     let answer = checked.answer;
-    let source_held = checked.source;
-    let target_held = checked.target;
     let from = after_count(lines, started.cost);
     let followed = follow(
+        listed,
         started.run,
         tags,
-        events_of(&source_room, source_held.events),
-        events_of(&target_room, target_held.events),
-        entries_of(&entry_room, checked.entries),
+        source_of(started, source_room),
+        target_of(started, target_room),
+        entries_of(started, entry_room),
         lines,
         from,
     );
@@ -155,6 +155,38 @@ fn outcome_of(source: &[u8], target: &[u8], matching: &[u8], lines: &[u8]) -> Ou
         counted: is_counted(answer, started.cost, from),
         followed,
     }
+}
+
+// A vector's texts checked under its list, and the run followed. A refused list has no run, and so no line.
+fn outcome_of(
+    list: ListRead,
+    source: &[u8],
+    target: &[u8],
+    matching: &[u8],
+    lines: &[u8],
+) -> Outcome {
+    let found = list.answer;
+    if found.number != 0 {
+        return Outcome {
+            answer: found,
+            counted: true,
+            followed: Followed {
+                steps: 0,
+                whole: lines.len() == 0,
+            },
+        };
+    }
+    let listed = list.listed;
+    let begun = begin(&listed, source, target, matching);
+    outcome_in(
+        &listed,
+        begun.started,
+        begun.tags,
+        &begun.source,
+        &begun.target,
+        &begun.entries,
+        lines,
+    )
 }
 
 // Whether all that a run gives is what its vector says.
@@ -168,11 +200,12 @@ fn is_right(header: &[u8], outcome: Outcome) -> bool {
     outcome.followed.whole
 }
 
-// The run of the data that begins at a place.
-pub(crate) fn run_steps(data: &[u8], at: usize, ordinal: usize) -> Ran {
-    let vector = check_vector(false, data, at);
+// The run of the data that begins at a place, with a list or without.
+pub(crate) fn run_steps(listed: bool, data: &[u8], at: usize, ordinal: usize) -> Ran {
+    let vector = check_vector(listed, data, at);
     let header = between(data, at, vector.header_end);
     let outcome = outcome_of(
+        list_with(listed, between(data, vector.list, vector.end)),
         between(data, vector.source, vector.target),
         between(data, vector.target, vector.matching),
         between(data, vector.matching, vector.given),

@@ -6,7 +6,9 @@ use event::Answer;
 use event::Entry;
 use event::Word;
 use event::memory::Memory;
+use files::list::no_list;
 use record::form::Form;
+use registers::ListRead;
 use trace::read;
 use trace::read_listed;
 use trace::reading::TraceRead;
@@ -14,6 +16,13 @@ use writer::moving::move_listed;
 use writer::moving::move_to;
 use writer::write;
 use writer::write_listed;
+
+pub(crate) fn list_with(listed: bool, list: &[u8]) -> ListRead {
+    if listed {
+        return registers::read(list);
+    }
+    no_list()
+}
 
 pub(crate) fn check_with(
     listed: bool,

@@ -1,8 +1,11 @@
-// What the programs share: the words of a call, files by name, the lines that they print, the check of three files, its run, and the move of one.
+// What the programs share: the words of a call, the list that they name, files by name, the lines that are printed, the check of three texts, its run, and the
+// move of one.
 pub mod args;
-pub mod check;
+mod check;
+pub mod list;
 pub mod moving;
 pub mod print;
+pub mod program;
 pub mod read;
 pub mod run;
 pub mod write;

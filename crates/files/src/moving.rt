@@ -1,34 +1,26 @@
 // What the program `laprunto_move` does: the trace of a file moved to a form, the moved text written to another, the answer printed.
+use crate::print::front;
 use crate::print::print_answer_line;
 use crate::read::read_file;
-use crate::read::read_named;
 use crate::read::text_buffer;
 use crate::write::write_file;
 use event::Answer;
 use record::form::Form;
-use writer::moving::move_listed;
-use writer::moving::move_to;
+use registers::ListRead;
+use writer::moving::move_in;
 
-// The bytes at the front, of as many as there are.
-fn front(bytes: &[u8], count: usize) -> &[u8] {
-    if bytes.len() < count {
-        return bytes;
+// A text moved under a list, whose answer comes first.
+fn moved(list: ListRead, to: Form, text: &[u8], out: &mut [u8]) -> Answer {
+    let found = list.answer;
+    if found.number != 0 {
+        return found;
     }
-    &bytes[0..count]
-}
-
-// A text moved, with the list's file if one is named.
-fn moved(list: usize, to: Form, text: &[u8], out: &mut [u8]) -> Answer {
-    if list == 0 {
-        return move_to(to, text, out);
-    }
-    let mut listed = text_buffer();
-    let list_bytes = read_named(list, &mut listed);
-    move_listed(&listed[..list_bytes], to, text, out)
+    let listed = list.listed;
+    move_in(&listed, to, text, out)
 }
 
 // The file of this name, moved. The other file is written only if the move is done, and `done` is printed only if it is written.
-pub fn move_file(list: usize, to: Form, name: &[u8], out_name: &[u8]) {
+pub fn move_file(list: ListRead, to: Form, name: &[u8], out_name: &[u8]) {
     let mut text = text_buffer();
     let mut out = text_buffer();
     let bytes = read_file(name, &mut text);

@@ -6,6 +6,14 @@ pub fn print(text: &[u8]) {
     io::write_all(STDOUT_FILENO, text);
 }
 
+// The bytes at the front, of as many as there are.
+pub(crate) fn front(bytes: &[u8], count: usize) -> &[u8] {
+    if bytes.len() < count {
+        return bytes;
+    }
+    &bytes[0..count]
+}
+
 // A number, with the tab before it.
 pub fn print_number(n: u64) {
     print(b"\t");

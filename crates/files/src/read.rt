@@ -22,12 +22,3 @@ pub fn read_file(name: &[u8], buf: &mut [u8]) -> usize
     libc::close(fd);
     got
 }
-
-// The bytes of the file that a word of the call names.
-pub fn read_named(place: usize, buf: &mut [u8]) -> usize
-    ensures { λ r. ⌜ Counts r (now (buf .exit)) ⌝ }
-{
-    let mut name = io::buffer();
-    let bytes = os::arg(place, &mut name);
-    read_file(&name[..bytes], buf)
-}

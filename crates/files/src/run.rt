@@ -1,21 +1,18 @@
-// What the program `laprunto_run` does: three files checked, what is found printed, and of an accepted matching how many steps there are and every
-// one of them. The lines of the steps are gathered and written in blocks.
-ghost use Prim.Native.Nat.{_≤_};
-ghost use lib.ListN.{length};
+// What the program `laprunto_run` prints of three texts under a list of registers: what `laprunto` prints, and of an accepted matching how many steps there
+// are and every one of them. The lines of the steps are gathered and written in blocks.
+use crate::check::print_found;
+use crate::print::front;
 use crate::print::print;
-use crate::print::print_answer_line;
-use crate::print::print_line;
-use crate::read::read_file;
-use crate::read::text_buffer;
-use checker::line::offending_line;
 use event::Entry;
 use event::WORDS;
 use event::Word;
+use event::listed::Listed;
 use steps::Run;
+use steps::Started;
 use steps::Step;
-use steps::apply;
-use steps::next;
-use steps::start;
+use steps::apply_listed;
+use steps::next_listed;
+use steps::start_in;
 use steps::swap_place;
 use trace::reading::EVENT_LIMIT;
 use writer::put::write_event;
@@ -44,14 +41,6 @@ fn put_field(out: &mut [u8], at: usize, n: usize) -> usize {
     let size = io::decimal(n as u64, &mut digits);
     let after = put(out, at, b"\t");
     put(out, after, &digits[..size])
-}
-
-// The bytes at the front, of as many as there are.
-fn front(bytes: &[u8], count: usize) -> &[u8] {
-    if bytes.len() < count {
-        return bytes;
-    }
-    &bytes[0..count]
 }
 
 // A tab and the line of the event of a number, with its LF.
@@ -109,6 +98,7 @@ fn with_room(out: &[u8], at: usize) -> usize {
 
 // How many steps there are, and every step, as it is applied: none of so many is refused.
 fn print_steps(
+    listed: &Listed,
     begun: Run,
     steps: usize,
     tags: [usize; EVENT_LIMIT],
@@ -124,8 +114,8 @@ fn print_steps(
     let mut left = steps;
     while 0 < left {
         left -= 1;
-        let step = next(run, &standing, source, target, entries, swapped);
-        let applied = apply(run, &mut standing, source, target, step);
+        let step = next_listed(listed, run, &standing, source, target, entries, swapped);
+        let applied = apply_listed(listed, run, &mut standing, source, target, step);
         if !applied.allowed {
             left = 0;
             continue;
@@ -139,8 +129,8 @@ fn print_steps(
     print(front(out, at));
 }
 
-// The part of a room that holds its events.
-pub fn events_of(room: &[Word], events: usize) -> &[Word] {
+// The front of a room that holds so many events.
+fn events_of(room: &[Word], events: usize) -> &[Word] {
     if room.len() / WORDS < events {
         return room;
     }
@@ -148,20 +138,22 @@ pub fn events_of(room: &[Word], events: usize) -> &[Word] {
     &room[0..end]
 }
 
-// The part of a room that holds its entries.
-pub fn entries_of(room: &[Entry], entries: usize) -> &[Entry] {
-    if room.len() < entries {
-        return room;
-    }
-    &room[0..entries]
+// A run in rooms that hold the most: how it begins, what the check stored, and which events stand.
+pub struct Begun {
+    pub started: Started,
+    pub source: [Word; 4800],
+    pub target: [Word; 4800],
+    pub entries: [Entry; 800],
+    pub tags: [usize; EVENT_LIMIT],
 }
 
-fn print_run<'a>(source: &'a [u8], target: &'a [u8], matching: &[u8]) {
+pub fn begin(listed: &Listed, source: &[u8], target: &[u8], matching: &[u8]) -> Begun {
     let mut source_room: [Word; 4800] = [0; 4800];
     let mut target_room: [Word; 4800] = [0; 4800];
     let mut entry_room: [Entry; 800] = [0; 800];
     let mut tags: [usize; EVENT_LIMIT] = [0; EVENT_LIMIT];
-    let started = start(
+    let started = start_in(
+        listed,
         source,
         target,
         matching,
@@ -170,37 +162,75 @@ fn print_run<'a>(source: &'a [u8], target: &'a [u8], matching: &[u8]) {
         &mut entry_room,
         &mut tags,
     );
-    let checked = started.checked;
-    let answer = checked.answer;
-    let source_held = checked.source;
-    let target_held = checked.target;
-    print_answer_line(b"accepted", answer);
-    print_line(offending_line(source, target, answer));
-    if answer.number == 0 {
-        let mut out = io::large_buffer();
-        print_steps(
-            started.run,
-            started.cost,
-            tags,
-            events_of(&source_room, source_held.events),
-            events_of(&target_room, target_held.events),
-            entries_of(&entry_room, checked.entries),
-            &mut out,
-        );
+    Begun {
+        started,
+        source: source_room,
+        target: target_room,
+        entries: entry_room,
+        tags,
     }
 }
 
-// The files of these names, read, checked and run.
-pub fn run_files(source_name: &[u8], target_name: &[u8], matching_name: &[u8]) {
-    let mut source = text_buffer();
-    let mut target = text_buffer();
-    let mut matching = text_buffer();
-    let source_bytes = read_file(source_name, &mut source);
-    let target_bytes = read_file(target_name, &mut target);
-    let matching_bytes = read_file(matching_name, &mut matching);
-    print_run(
-        &source[..source_bytes],
-        &target[..target_bytes],
-        &matching[..matching_bytes],
+// The part of the source's room that holds its events.
+pub fn source_of(started: Started, room: &[Word]) -> &[Word] {
+    let checked = started.checked;
+    let held = checked.source;
+    events_of(room, held.events)
+}
+
+// The part of the target's room that does.
+pub fn target_of(started: Started, room: &[Word]) -> &[Word] {
+    let checked = started.checked;
+    let held = checked.target;
+    events_of(room, held.events)
+}
+
+// The part of the room of entries that holds them.
+pub fn entries_of(started: Started, room: &[Entry]) -> &[Entry] {
+    let checked = started.checked;
+    let entries = checked.entries;
+    if room.len() < entries {
+        return room;
+    }
+    &room[0..entries]
+}
+
+// The steps of a run that has begun, with the rooms that the check filled.
+fn print_begun<'a>(
+    listed: &Listed,
+    started: Started,
+    tags: [usize; EVENT_LIMIT],
+    source_room: &'a [Word],
+    target_room: &'a [Word],
+    entry_room: &'a [Entry],
+) {
+    let mut out = io::large_buffer();
+    print_steps(
+        listed,
+        started.run,
+        started.cost,
+        tags,
+        source_of(started, source_room),
+        target_of(started, target_room),
+        entries_of(started, entry_room),
+        &mut out,
     );
+}
+
+pub(crate) fn print_run<'a>(listed: &Listed, source: &'a [u8], target: &'a [u8], matching: &[u8]) {
+    let begun = begin(listed, source, target, matching);
+    let started = begun.started;
+    let checked = started.checked;
+    let answer = checked.answer;
+    print_found(source, target, answer);
+    if answer.number == 0 {
+        print_begun(
+            listed,
+            started,
+            begun.tags,
+            &begun.source,
+            &begun.target,
+            &begun.entries,
+        );
+    }
 }

@@ -1,6 +1,8 @@
 // The program: a form, 1 or 2, the name of a trace and the name of a file to write, and the option `--list` with the name of a list. It moves the trace to the form and prints the answer.
-use files::args::options_from;
+use files::args::is_short;
+use files::args::options_of;
 use files::args::print_usage;
+use files::list::list_at;
 use files::moving::move_file;
 use record::form::Form;
 use text::word::same_bytes;
@@ -21,19 +23,14 @@ fn form_named(word: &[u8]) -> Named {
     Named::Nothing
 }
 
-fn print_own_usage() {
-    print_usage(b"usage: laprunto_move FORM TRACE OUT [--list FILE] (FORM is 1 or 2)\n");
-}
-
 // A word too few or too many, or another form, is no move.
 fn main() {
-    let options = options_from(4);
+    let usage = b"usage: laprunto_move FORM TRACE OUT [--list FILE] (FORM is 1 or 2)\n";
+    let options = options_of(usage);
     if !options.right {
-        print_own_usage();
         return;
     }
-    if os::arg_count() < 4 {
-        print_own_usage();
+    if is_short() {
         return;
     }
     let mut form = io::buffer();
@@ -43,11 +40,11 @@ fn main() {
     let name_bytes = os::arg(2, &mut name);
     let out_bytes = os::arg(3, &mut out_name);
     let Named::Form(to) = form_named(&form[..form_bytes]) else {
-        print_own_usage();
+        print_usage(usage);
         return;
     };
     move_file(
-        options.list,
+        list_at(options.list),
         to,
         &name[..name_bytes],
         &out_name[..out_bytes],

@@ -7,10 +7,10 @@ use Rattle.bench.proofs.runs.follow.Statement.{statement}
 use Rattle.bench.proofs.runs.follow.Tie as tie
 
 abbrev Inv-loop : tie.InvT-loop
-Inv-loop source target entries lines from standing₀ run₀ at₀ swapped₀ steps₀ standing run at swapped steps = at₀ ≤ at
+Inv-loop listed source target entries lines from standing₀ run₀ at₀ swapped₀ steps₀ standing run at swapped steps = at₀ ≤ at
 
 abbrev μ-loop : tie.MeasureT-loop
-μ-loop source target entries lines from standing₀ run₀ at₀ swapped₀ steps₀ standing run at swapped steps = length lines - at
+μ-loop listed source target entries lines from standing₀ run₀ at₀ swapped₀ steps₀ standing run at swapped steps = length lines - at
 
 pub follow-spec : {M : Type 1} → statement M
 follow-spec =

@@ -7,10 +7,10 @@ use Rattle.files.proofs.run.print_steps.Statement.{statement}
 use Rattle.files.proofs.run.print_steps.Tie as tie
 
 abbrev Inv-loop : tie.InvT-loop
-Inv-loop steps source target entries out₀ standing₀ run₀ at₀ swapped₀ left₀ out standing run at swapped left = length out ≡ length out₀
+Inv-loop listed steps source target entries out₀ standing₀ run₀ at₀ swapped₀ left₀ out standing run at swapped left = length out ≡ length out₀
 
 abbrev μ-loop : tie.MeasureT-loop
-μ-loop steps source target entries out₀ standing₀ run₀ at₀ swapped₀ left₀ out standing run at swapped left = left
+μ-loop listed steps source target entries out₀ standing₀ run₀ at₀ swapped₀ left₀ out standing run at swapped left = left
 
 loop-again-2 : tie.Need-loop-again-2 Inv-loop μ-loop
 loop-again-2 c =
