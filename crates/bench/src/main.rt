@@ -1,4 +1,4 @@
-// Checks the files of the examples as the program does, then runs every vector of eleven files and prints which differ.
+// Checks the files of the examples as the program does, then runs every vector of twelve files and prints which differ.
 mod back;
 mod check;
 mod lent;
@@ -216,4 +216,5 @@ fn main() {
     run_file(Task::List, false, b"list_texts", b"listed");
     run_file(Task::Move, true, b"list_moves", b"moved back");
     run_file(Task::Write, true, b"list_writes", b"written back");
+    run_file(Task::Run, true, b"list_runs", b"steps");
 }
