@@ -1,10 +1,10 @@
 //! The run of a matching by the ordinary Rust implementation.
 //!
-//! `run SOURCE TARGET MATCHING [--list FILE]` prints it, without a list as
-//! `laprunto_run` does.
+//! `run SOURCE TARGET MATCHING [--list FILE]` prints it, as `laprunto_run` does.
 //! `run --beside PROGRAM COUNT [SEED]` runs PROGRAM on the known cases and on
-//! COUNT random ones, none with a list, compares every byte, and replays the steps by
-//! the rules. The first difference is printed, and ends the program with status 1.
+//! COUNT random ones, every other with a list, compares every byte, and replays the
+//! steps by the rules. The first difference is printed, and ends the program with
+//! status 1.
 
 #[allow(dead_code)]
 mod cases;
@@ -12,6 +12,8 @@ mod cases;
 mod forms;
 #[allow(dead_code)]
 mod generate;
+#[allow(dead_code)]
+mod lists;
 #[allow(dead_code)]
 mod peer;
 mod random;
@@ -22,6 +24,7 @@ mod texts;
 #[allow(dead_code)]
 mod zeros;
 
+use cases::Case;
 use generate::Lists;
 use peer::{offending_line, EVENT_WORDS, MAX_EVENTS};
 use random::Random;
@@ -44,11 +47,11 @@ fn printed(list: Option<&[u8]>, texts: [&[u8]; 3]) -> Result<(Vec<u8>, usize), S
 }
 
 /// The replay of the steps that another program printed.
-fn replayed(source: &[u8], target: &[u8], lines: &[u8]) -> Result<(), String> {
+fn replayed(list: Option<&[u8]>, source: &[u8], target: &[u8], lines: &[u8]) -> Result<(), String> {
     let mut room = vec![0; MAX_EVENTS * EVENT_WORDS];
-    let count = peer::read_trace(None, source, &mut room).events;
+    let count = peer::read_trace(list, source, &mut room).events;
     let source = steps::events(&room, count);
-    let count = peer::read_trace(None, target, &mut room).events;
+    let count = peer::read_trace(list, target, &mut room).events;
     let target = steps::events(&room, count);
     let number = |field: &str| field.parse::<usize>().map_err(|_| format!("no number: {field}"));
     let mut steps = Vec::new();
@@ -61,40 +64,51 @@ fn replayed(source: &[u8], target: &[u8], lines: &[u8]) -> Result<(), String> {
             word => return Err(format!("no step: {word}")),
         });
     }
-    steps::replay(&peer::NO_LOCATIONS, &source, &target, &steps)
+    steps::replay(&steps::listed(list), &source, &target, &steps)
 }
 
 /// One case, beside the other program.
-fn compared(program: &str, texts: [&[u8]; 3]) -> Result<usize, String> {
+fn compared(program: &str, case: &Case) -> Result<usize, String> {
+    let (list, texts) = (case.list(), case.texts());
     let folder = std::env::temp_dir();
-    let names = ["source", "target", "matching"].map(|name| folder.join(format!("run-{}-{name}", std::process::id())));
+    let name_of = |name: &str| folder.join(format!("run-{}-{name}", std::process::id()));
+    let names = ["source", "target", "matching"].map(name_of);
     for (name, text) in names.iter().zip(texts) {
         std::fs::write(name, text).map_err(|error| error.to_string())?;
     }
-    let ours = Command::new(program).args(&names).output().map_err(|error| error.to_string())?.stdout;
-    let (peers, count) = printed(None, texts)?;
+    let mut call = Command::new(program);
+    call.args(&names);
+    if let Some(list) = list {
+        std::fs::write(name_of("list"), list).map_err(|error| error.to_string())?;
+        call.arg("--list").arg(name_of("list"));
+    }
+    let ours = call.output().map_err(|error| error.to_string())?.stdout;
+    let (peers, count) = printed(list, texts)?;
     if ours != peers {
         return Err(format!("ours\n{}\npeer\n{}", String::from_utf8_lossy(&ours), String::from_utf8_lossy(&peers)));
     }
     if ours.starts_with(b"accepted") {
-        replayed(texts[0], texts[1], &ours)?;
+        replayed(list, texts[0], texts[1], &ours)?;
     }
     Ok(count)
 }
 
 fn beside(program: &str, count: usize, seed: u64) -> Result<(), String> {
     let mut random = Random::new(seed);
-    let known = [cases::all(), forms::checks(), zeros::checks()].concat();
-    let mut steps = 0;
+    let known = [cases::all(), forms::checks(), zeros::checks(), lists::checks(), lists::examples()].concat();
+    let (mut steps, mut listed) = (0, 0);
     for known in &known {
-        steps += compared(program, known.case.texts()).map_err(|difference| format!("{}\n{difference}", known.name))?;
+        steps += compared(program, &known.case).map_err(|difference| format!("{}\n{difference}", known.name))?;
+        listed += usize::from(known.case.list.is_some());
     }
     for index in 0..count {
-        let events = 1 + random.below(if index % 16 == 0 { MAX_EVENTS } else { 40 });
-        let case = if index % 4 == 3 { generate::faulty_case(&mut random, Lists::Without) } else { generate::lawful_case(&mut random, Lists::Without, events) };
-        steps += compared(program, case.texts())?;
+        let events = 1 + random.below(if index % 16 < 2 { MAX_EVENTS } else { 40 });
+        let lists = [Lists::Without, Lists::With][index % 2];
+        let case = if index % 8 < 6 { generate::lawful_case(&mut random, lists, events) } else { generate::faulty_case(&mut random, lists) };
+        steps += compared(program, &case)?;
+        listed += usize::from(case.list.is_some());
     }
-    println!("{} known and {count} random cases, {steps} steps: the same", known.len());
+    println!("{} known and {count} random cases, {listed} with a list, {steps} steps: the same", known.len());
     Ok(())
 }
 
