@@ -20,12 +20,13 @@ ghost use Rattle.export.specs.Numbers.{
   formNumbered,
   Leaves,
 };
-use checker::check;
+use checker::check_in;
 use checker::line::offending_span;
 use event::Answer;
 use event::Entry;
 use event::Number;
 use event::Word;
+use event::listed::Listed;
 use event::memory::Memory;
 use event::number_index;
 use record::form::Form;
@@ -154,7 +155,9 @@ pub extern "C" fn laprunto_check(
         (now (result .exit)) (now («source_memory» .exit)) (now («target_memory» .exit))
         (now («source_room» .exit)) (now («target_room» .exit)) (now («entry_room» .exit)) ⌝ }
 {
-    let checked = check(
+    let listed: Listed = [false; 256];
+    let checked = check_in(
+        &listed,
         source,
         target,
         matching,

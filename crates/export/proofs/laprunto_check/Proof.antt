@@ -6,7 +6,7 @@ use Rattle.export.proofs.laprunto_check.Tie as tie
 
 returns : tie.Need-returns
 returns c =
-    let k = c .before .before .before .before .before .before .before .before .before .before .before .before .before .before .before .before .check in
+    let k = c .before .before .before .before .before .before .before .before .before .before .before .before .before .before .before .before .check-in in
     let e = k .ensures in
     check-laid _ (k .result) _ _ _ _ _ _ _ _ (e .result) (e .source) (e .target) (e .entries) (c .before .before .number-index .ensures)
     (c .before .number-index2 .ensures)
