@@ -1,6 +1,6 @@
 /* Checks three files, source, target and matching, with a list of registers if there is a fourth, and prints what the program laprunto
- * prints, and the locations that are listed. Then both traces that were read are written again, what was written is read back, and both
- * texts are moved to the other form and back: status 1 if anything came back otherwise. */
+ * prints, and the locations that are listed. Then the run goes to its end, both traces that were read are written again, what was written
+ * is read back, and both texts are moved to the other form and back: status 1 if anything came back otherwise. */
 #include "laprunto.h"
 
 #include <stdio.h>
@@ -40,13 +40,12 @@ static void print_line(const struct text *text, size_t from, size_t to) {
     }
 }
 
-/* The locations that the list names, none under a refusal. */
+/* The list's marks, none under a refusal. */
+static uint8_t marks[LAPRUNTO_CELLS];
+
 static void print_listed(void) {
-    uint8_t listed[LAPRUNTO_CELLS];
-    size_t result[LAPRUNTO_ANSWER];
-    laprunto_read_list(list->bytes, list->size, result, listed);
     for (size_t i = 0; i < LAPRUNTO_CELLS; i++) {
-        if (listed[i] == 1) {
+        if (marks[i] == 1) {
             printf("listed\t%zu\n", i);
         }
     }
@@ -140,23 +139,58 @@ static int same_entries(const struct text *text, const laprunto_entry *entries, 
            memcmp(again, entries, count * sizeof(laprunto_entry)) == 0;
 }
 
+/* A run, and what its steps are asked for and applied with. */
+struct run {
+    struct trace source, target;
+    laprunto_entry entries[LAPRUNTO_ENTRY_WORDS];
+    size_t tags[LAPRUNTO_TAGS], run[LAPRUNTO_RUN], result[LAPRUNTO_STARTED];
+};
+
+static void start(const struct text texts[3], struct run *r) {
+    if (list != NULL) {
+        laprunto_start_listed(list->bytes, list->size, texts[0].bytes, texts[0].size, texts[1].bytes, texts[1].size, texts[2].bytes,
+                              texts[2].size, r->source.words, LAPRUNTO_TRACE_WORDS, r->target.words, LAPRUNTO_TRACE_WORDS, r->entries,
+                              LAPRUNTO_ENTRY_WORDS, r->tags, r->run, r->result);
+    } else {
+        laprunto_start(texts[0].bytes, texts[0].size, texts[1].bytes, texts[1].size, texts[2].bytes, texts[2].size, r->source.words,
+                       LAPRUNTO_TRACE_WORDS, r->target.words, LAPRUNTO_TRACE_WORDS, r->entries, LAPRUNTO_ENTRY_WORDS, r->tags, r->run,
+                       r->result);
+    }
+    r->source.events = r->result[LAPRUNTO_SOURCE_EVENTS];
+    r->target.events = r->result[LAPRUNTO_TARGET_EVENTS];
+}
+
+static void next(const struct run *r, size_t swapped, size_t *step) {
+    if (list != NULL) {
+        laprunto_next_listed(marks, r->run, r->tags, r->source.words, r->source.events * 6, r->target.words, r->target.events * 6,
+                             r->entries, r->result[LAPRUNTO_ENTRIES], swapped, step);
+    } else {
+        laprunto_next(r->run, r->tags, r->source.words, r->source.events * 6, r->target.words, r->target.events * 6, r->entries,
+                      r->result[LAPRUNTO_ENTRIES], swapped, step);
+    }
+}
+
+static size_t apply(struct run *r, const size_t *step) {
+    if (list != NULL) {
+        return laprunto_apply_listed(marks, r->run, r->tags, r->source.words, r->source.events * 6, r->target.words, r->target.events * 6,
+                                     step[LAPRUNTO_KIND], step[LAPRUNTO_STEP_PLACE], step[LAPRUNTO_STEP_NUMBER]);
+    }
+    return laprunto_apply(r->run, r->tags, r->source.words, r->source.events * 6, r->target.words, r->target.events * 6,
+                          step[LAPRUNTO_KIND], step[LAPRUNTO_STEP_PLACE], step[LAPRUNTO_STEP_NUMBER]);
+}
+
 /* Whether the run of an accepted matching goes to its end in as many steps as were counted, and a refused one has none. */
 static int runs(const struct text texts[3], int accepted) {
-    static laprunto_word source[LAPRUNTO_TRACE_WORDS], target[LAPRUNTO_TRACE_WORDS];
-    static laprunto_entry entries[LAPRUNTO_ENTRY_WORDS];
-    static size_t tags[LAPRUNTO_TAGS];
-    size_t run[LAPRUNTO_RUN], step[LAPRUNTO_STEP], result[LAPRUNTO_STARTED], steps = 0, swapped = 0;
-    laprunto_start(texts[0].bytes, texts[0].size, texts[1].bytes, texts[1].size, texts[2].bytes, texts[2].size, source,
-                   LAPRUNTO_TRACE_WORDS, target, LAPRUNTO_TRACE_WORDS, entries, LAPRUNTO_ENTRY_WORDS, tags, run, result);
-    size_t source_words = result[LAPRUNTO_SOURCE_EVENTS] * 6, target_words = result[LAPRUNTO_TARGET_EVENTS] * 6;
+    static struct run r;
+    size_t step[LAPRUNTO_STEP], steps = 0, swapped = 0;
+    start(texts, &r);
     for (;;) {
-        laprunto_next(run, tags, source, source_words, target, target_words, entries, result[LAPRUNTO_ENTRIES], swapped, step);
+        next(&r, swapped, step);
         if (step[LAPRUNTO_KIND] == LAPRUNTO_DONE) {
-            int ended = accepted ? run[LAPRUNTO_STANDING] == result[LAPRUNTO_TARGET_EVENTS] : steps == 0;
-            return ended && steps == result[LAPRUNTO_COST];
+            int ended = accepted ? r.run[LAPRUNTO_STANDING] == r.target.events : steps == 0;
+            return ended && steps == r.result[LAPRUNTO_COST];
         }
-        if (!laprunto_apply(run, tags, source, source_words, target, target_words, step[LAPRUNTO_KIND], step[LAPRUNTO_STEP_PLACE],
-                            step[LAPRUNTO_STEP_NUMBER])) {
+        if (!apply(&r, step)) {
             return 0;
         }
         swapped = step[LAPRUNTO_KIND] == LAPRUNTO_SWAP ? step[LAPRUNTO_STEP_PLACE] : 0;
@@ -174,8 +208,10 @@ int main(int count, char **names) {
         read_file(i + 1 < count ? names[i + 1] : "", &texts[i]);
     }
     if (4 < count) {
+        size_t read[LAPRUNTO_ANSWER];
         read_file(names[4], &listed);
         list = &listed;
+        laprunto_read_list(list->bytes, list->size, read, marks);
     }
     check(texts, &source, &target, entries, result);
     printf("%s\t%zu\t%zu\t%zu\n", result[LAPRUNTO_NUMBER] == 0 ? "accepted" : "refused", result[LAPRUNTO_NUMBER],
@@ -184,9 +220,8 @@ int main(int count, char **names) {
                             (laprunto_number)result[LAPRUNTO_SIDE], result[LAPRUNTO_PLACE], &from, &to);
     print_line(&texts[result[LAPRUNTO_SIDE] == 2], from, to);
 
-    if (list != NULL) {
-        print_listed();
-    } else if (!runs(texts, result[LAPRUNTO_NUMBER] == 0)) {
+    print_listed();
+    if (!runs(texts, result[LAPRUNTO_NUMBER] == 0)) {
         fprintf(stderr, "the run does not go to its end\n");
         return 1;
     }

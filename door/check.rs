@@ -1,13 +1,14 @@
 //! Checks three files, source, target and matching, with a list of registers if
 //! there is a fourth, and prints what the program `laprunto` prints, and the
-//! locations that are listed. Then both traces that were read are written again,
-//! what was written is read back, and both texts are moved to the other form and
-//! back: status 1 if anything came back otherwise.
+//! locations that are listed. Then the run goes to its end, both traces that were
+//! read are written again, what was written is read back, and both texts are moved
+//! to the other form and back: status 1 if anything came back otherwise.
 
 mod laprunto;
 
 use laprunto::{laprunto_apply, laprunto_next, laprunto_start};
 use laprunto::{laprunto_check, laprunto_move_trace, laprunto_offending_line, laprunto_read_matching};
+use laprunto::{laprunto_apply_listed, laprunto_next_listed, laprunto_start_listed};
 use laprunto::{laprunto_check_listed, laprunto_move_trace_listed, laprunto_read_list, laprunto_read_trace_listed, laprunto_write_trace_listed};
 use laprunto::{laprunto_read_trace, laprunto_trace_form, laprunto_write_trace};
 use laprunto::{Entry, Listed, Memory, Number, Word};
@@ -36,11 +37,11 @@ struct Checked {
 /// The text of a list of registers, or none.
 type List<'a> = Option<&'a [u8]>;
 
-/// The locations that a list names, none under a refusal.
-fn listed(list: &[u8]) -> Vec<usize> {
+/// The marks of a list, none set under a refusal.
+fn marks(list: &[u8]) -> Listed {
     let (mut result, mut listed): ([usize; 3], Listed) = ([0; 3], [0; 256]);
     unsafe { laprunto_read_list(list.as_ptr(), list.len(), &mut result, &mut listed) };
-    (0..256).filter(|&i| listed[i] == 1).collect()
+    listed
 }
 
 fn check(list: List, source: &[u8], target: &[u8], matching: &[u8]) -> Checked {
@@ -175,32 +176,53 @@ fn moves_back(list: List, text: &[u8]) -> bool {
 }
 
 /// Whether the run of an accepted matching goes to its end in as many steps as were counted, and a refused one has none.
-fn runs(source: &[u8], target: &[u8], matching: &[u8], accepted: bool) -> bool {
+fn runs(list: List, source: &[u8], target: &[u8], matching: &[u8], accepted: bool) -> bool {
     let [mut source_room, mut target_room] = [(); 2].map(|()| vec![0; EVENTS * WORDS]);
     let mut entry_room = vec![0; EVENTS];
     let (mut tags, mut run, mut result) = ([0; EVENTS], [0; 2], [0; 7]);
     unsafe {
-        laprunto_start(
-            source.as_ptr(), source.len(), target.as_ptr(), target.len(), matching.as_ptr(), matching.len(),
-            source_room.as_mut_ptr(), source_room.len(), target_room.as_mut_ptr(), target_room.len(),
-            entry_room.as_mut_ptr(), entry_room.len(), &mut tags, &mut run, &mut result,
-        );
+        match list {
+            Some(list) => laprunto_start_listed(
+                list.as_ptr(), list.len(),
+                source.as_ptr(), source.len(), target.as_ptr(), target.len(), matching.as_ptr(), matching.len(),
+                source_room.as_mut_ptr(), source_room.len(), target_room.as_mut_ptr(), target_room.len(),
+                entry_room.as_mut_ptr(), entry_room.len(), &mut tags, &mut run, &mut result,
+            ),
+            None => laprunto_start(
+                source.as_ptr(), source.len(), target.as_ptr(), target.len(), matching.as_ptr(), matching.len(),
+                source_room.as_mut_ptr(), source_room.len(), target_room.as_mut_ptr(), target_room.len(),
+                entry_room.as_mut_ptr(), entry_room.len(), &mut tags, &mut run, &mut result,
+            ),
+        }
     }
     let [_, _, _, source_events, target_events, entries, cost] = result;
-    let (source, target) = (&source_room[..source_events * WORDS], &target_room[..target_events * WORDS]);
+    let (source, source_words) = (source_room.as_ptr(), source_events * WORDS);
+    let (target, target_words) = (target_room.as_ptr(), target_events * WORDS);
+    let entry_room = entry_room.as_ptr();
+    let marks = list.map(marks);
     let (mut steps, mut swapped) = (0, 0);
     loop {
         let mut step = [0; 3];
+        unsafe {
+            match &marks {
+                Some(marks) => laprunto_next_listed(
+                    marks, &run, &tags, source, source_words, target, target_words, entry_room, entries, swapped, &mut step,
+                ),
+                None => laprunto_next(&run, &tags, source, source_words, target, target_words, entry_room, entries, swapped, &mut step),
+            }
+        }
+        let [kind, place, number] = step;
         let allowed = unsafe {
-            laprunto_next(
-                &run, &tags, source.as_ptr(), source.len(), target.as_ptr(), target.len(), entry_room.as_ptr(), entries, swapped, &mut step,
-            );
-            let [kind, place, number] = step;
-            laprunto_apply(&mut run, &mut tags, source.as_ptr(), source.len(), target.as_ptr(), target.len(), kind, place, number)
+            match &marks {
+                Some(marks) => laprunto_apply_listed(
+                    marks, &mut run, &mut tags, source, source_words, target, target_words, kind, place, number,
+                ),
+                None => laprunto_apply(&mut run, &mut tags, source, source_words, target, target_words, kind, place, number),
+            }
         };
-        match step {
-            [0, ..] => return allowed == 0 && steps == cost && if accepted { run[1] == target_events } else { steps == 0 },
-            [kind, place, _] if allowed == 1 => swapped = if kind == 2 { place } else { 0 },
+        match kind {
+            0 => return allowed == 0 && steps == cost && if accepted { run[1] == target_events } else { steps == 0 },
+            _ if allowed == 1 => swapped = if kind == 2 { place } else { 0 },
             _ => return false,
         }
         steps += 1;
@@ -228,10 +250,12 @@ fn main() {
     if !line.is_empty() {
         std::io::stdout().write_all(&[line, b"\n"].concat()).expect("the line can be printed");
     }
-    for location in list.map(listed).unwrap_or_default() {
-        println!("listed\t{location}");
+    for (location, mark) in list.map(marks).iter().flatten().enumerate() {
+        if *mark == 1 {
+            println!("listed\t{location}");
+        }
     }
-    if list.is_none() && !runs(&source, &target, &matching, checked.number == 0) {
+    if !runs(list, &source, &target, &matching, checked.number == 0) {
         eprintln!("the run does not go to its end");
         std::process::exit(1);
     }

@@ -19,7 +19,8 @@
  * form 2 and any other number is form 1.
  *
  * Lists. A function whose name ends in _listed is the one without that ending, and takes the text of a list of registers first. The list is
- * read ahead of everything else: where it refuses, with 1, 2 or 22 and side 4, that is the answer and nothing is stored.
+ * read ahead of everything else: where it refuses, with 1, 2 or 22 and side 4, that is the answer and nothing is stored. The two that go on
+ * with a run take the list's marks first, as laprunto_read_list leaves them: a location is listed where its byte is not 0.
  *
  * Results. Each begins with the answer, the number, side and place of the table in README.md; number 0 is done. Counts come
  * after it. Counts and memories are 0 where nothing is stored. */
@@ -158,6 +159,21 @@ void laprunto_next(const size_t run[LAPRUNTO_RUN], const size_t tags[LAPRUNTO_TA
 /* Applies any step by the rules alone: 1 and the run after it if it is allowed, else 0 and the run unchanged. */
 size_t laprunto_apply(size_t run[LAPRUNTO_RUN], size_t tags[LAPRUNTO_TAGS], const laprunto_word *source, size_t source_words,
                       const laprunto_word *target, size_t target_words, size_t kind, size_t place, size_t number);
+
+/* The same three with a list: its text, and then its marks. */
+void laprunto_start_listed(const uint8_t *list, size_t list_bytes, const uint8_t *source, size_t source_bytes, const uint8_t *target,
+                           size_t target_bytes, const uint8_t *matching, size_t matching_bytes, laprunto_word *source_room,
+                           size_t source_room_words, laprunto_word *target_room, size_t target_room_words,
+                           laprunto_entry *entry_room, size_t entry_room_entries, size_t tags[LAPRUNTO_TAGS],
+                           size_t run[LAPRUNTO_RUN], size_t result[LAPRUNTO_STARTED]);
+
+void laprunto_next_listed(const uint8_t listed[LAPRUNTO_CELLS], const size_t run[LAPRUNTO_RUN], const size_t tags[LAPRUNTO_TAGS],
+                          const laprunto_word *source, size_t source_words, const laprunto_word *target, size_t target_words,
+                          const laprunto_entry *entries, size_t entry_count, size_t swapped, size_t step[LAPRUNTO_STEP]);
+
+size_t laprunto_apply_listed(const uint8_t listed[LAPRUNTO_CELLS], size_t run[LAPRUNTO_RUN], size_t tags[LAPRUNTO_TAGS],
+                             const laprunto_word *source, size_t source_words, const laprunto_word *target, size_t target_words,
+                             size_t kind, size_t place, size_t number);
 
 #ifdef __cplusplus
 }

@@ -63,4 +63,20 @@ extern "C" {
         source_room: *mut Word, source_words: usize, target_room: *mut Word, target_words: usize, entry_room: *mut Entry, entries: usize,
         source_memory: *mut Memory, target_memory: *mut Memory, result: *mut [usize; 6],
     );
+    pub fn laprunto_start_listed(
+        list: *const u8, list_bytes: usize,
+        source: *const u8, source_bytes: usize, target: *const u8, target_bytes: usize, matching: *const u8, matching_bytes: usize,
+        source_room: *mut Word, source_words: usize, target_room: *mut Word, target_words: usize, entry_room: *mut Entry, entries: usize,
+        tags: *mut [usize; 800], run: *mut [usize; 2], result: *mut [usize; 7],
+    );
+    pub fn laprunto_next_listed(
+        listed: *const Listed,
+        run: *const [usize; 2], tags: *const [usize; 800], source: *const Word, source_words: usize, target: *const Word, target_words: usize,
+        entries: *const Entry, entry_count: usize, swapped: usize, step: *mut [usize; 3],
+    );
+    pub fn laprunto_apply_listed(
+        listed: *const Listed,
+        run: *mut [usize; 2], tags: *mut [usize; 800], source: *const Word, source_words: usize, target: *const Word, target_words: usize,
+        kind: usize, place: usize, number: usize,
+    ) -> usize;
 }

@@ -14,6 +14,9 @@ use Rattle.export.proofs.listed.laprunto_read_trace_listed.Reads as rea
 use Rattle.export.proofs.listed.laprunto_write_trace_listed.Reads as write-trace-listed
 use Rattle.export.proofs.listed.laprunto_move_trace_listed.Reads as move-trace-listed
 use Rattle.export.proofs.listed.laprunto_check_listed.Reads as check-listed
+use Rattle.export.proofs.listed.laprunto_start_listed.Reads as start-listed
+use Rattle.export.proofs.listed.laprunto_next_listed.Reads as next-listed
+use Rattle.export.proofs.listed.laprunto_apply_listed.Reads as apply-listed
 use Rattle.export.proofs.run.laprunto_start.Reads as start
 use Rattle.export.proofs.run.laprunto_next.Reads as next
 use Rattle.export.proofs.run.laprunto_apply.Reads as apply
@@ -146,3 +149,33 @@ apply-run κ a x y s t h k = h .standing ∙ sym (k .standing)
 
 apply-tags : OneOf apply.Post (λ κ r s. s .1 .0 .now)
 apply-tags κ a x y s t h k = h .left ∙ sym (k .left)
+
+start-listed-result : OneOf start-listed.Post (λ κ r s. s .1 .1 .1 .1 .1 .1 .1 .1 .1 .0 .now)
+start-listed-result κ a x y s t h k = h .numbers ∙ sym (k .numbers)
+
+start-listed-run : OneOf start-listed.Post (λ κ r s. s .1 .1 .1 .1 .1 .1 .1 .1 .0 .now)
+start-listed-run κ a x y s t h k = h .begun ∙ sym (k .begun)
+
+start-listed-source-room : OneOf start-listed.Post (λ κ r s. s .1 .1 .1 .1 .0 .now)
+start-listed-source-room κ a x y s t h k = h .sourceEvents ∙ sym (k .sourceEvents)
+
+start-listed-target-room : OneOf start-listed.Post (λ κ r s. s .1 .1 .1 .1 .1 .0 .now)
+start-listed-target-room κ a x y s t h k = h .targetEvents ∙ sym (k .targetEvents)
+
+start-listed-entry-room : OneOf start-listed.Post (λ κ r s. s .1 .1 .1 .1 .1 .1 .0 .now)
+start-listed-entry-room κ a x y s t h k = h .entries ∙ sym (k .entries)
+
+start-listed-tags : OneOf start-listed.Post (λ κ r s. s .1 .1 .1 .1 .1 .1 .1 .0 .now)
+start-listed-tags κ a x y s t h k = h .left ∙ sym (k .left)
+
+next-listed-step : OneOf next-listed.Post (λ κ r s. s .1 .1 .1 .1 .1 .1 .1 .0 .now)
+next-listed-step κ a x y s t h k = h ∙ sym k
+
+apply-listed-one : OneAnswer apply-listed.Post
+apply-listed-one κ a x y s t h k = h .answer ∙ sym (k .answer)
+
+apply-listed-run : OneOf apply-listed.Post (λ κ r s. s .1 .0 .now)
+apply-listed-run κ a x y s t h k = h .standing ∙ sym (k .standing)
+
+apply-listed-tags : OneOf apply-listed.Post (λ κ r s. s .1 .1 .0 .now)
+apply-listed-tags κ a x y s t h k = h .left ∙ sym (k .left)

@@ -1,20 +1,18 @@
 -- Document 01, "Numbers that come back": how what a call hands back lies in the arrays that C and Rust lend. Assumes nothing.
 use Prim.Native.Nat.{ℕ}
-use mathlib.Core.Bool.{Bool, cond}
+use mathlib.Core.Bool.{Bool, cond, not}
 use mathlib.Core.List.{List, [], _∷_, _++_, map}
 use mathlib.Core.Path.{_≡_}
 use lib.Dec.{eqb}
 use Rattle.event.specs.declared.Answer.{Answer}
 use Rattle.event.specs.declared.memory.Memory.{Memory}
-use Rattle.registers.specs.Reading.{listOf}
-use Rattle.trace.specs.Listed.{unlessListed}
 use Rattle.trace.specs.declared.reading.TraceRead.{TraceRead}
 use Rattle.record.specs.declared.form.Form.{Form}
 use Rattle.record.specs.declared.form.Form.the-variants.{One, Two}
 use Rattle.matching.specs.declared.MatchingRead.{MatchingRead}
 use Rattle.checker.specs.declared.Checked.{Checked}
 use Rattle.checker.specs.Check.{Lent, checkOf, sourceRoomAfter, targetRoomAfter, entryRoomAfter}
-use Rattle.checker.specs.Check.{checkListed, sourceRoomIn, targetRoomIn, entryRoomIn}
+use Rattle.checker.specs.Check.{checkListed, sourceRoomListed, targetRoomListed, entryRoomListed}
 
 -- An answer: number, side, place.
 abbrev pub answerNumbers : Answer → List ℕ
@@ -32,12 +30,19 @@ matchingNumbers r = answerNumbers (r .answer) ++ r .entries ∷ []
 abbrev pub checkNumbers : Checked → List ℕ
 checkNumbers c = answerNumbers (c .answer) ++ c .source .events ∷ c .target .events ∷ c .entries ∷ []
 
--- 1 for yes, 0 for no; and a list's marks.
+-- 1 for yes, 0 for no; and back, any number but 0 for yes.
 abbrev pub flag : Bool → ℕ
 flag b = cond b 1 0
 
+abbrev pub flagged : ℕ → Bool
+flagged n = not (eqb n 0)
+
+-- A list's marks; and back.
 abbrev pub marks : List Bool → List ℕ
 marks listed = map flag listed
+
+abbrev pub listing : List ℕ → List Bool
+listing numbers = map flagged numbers
 
 -- The memory of 256 cells.
 abbrev pub starting : List ℕ → Memory
@@ -66,7 +71,4 @@ abbrev pub Leaves : Lent → List ℕ → List ℕ → List ℕ → List ℕ →
 Leaves l = Lays (checkOf l) (sourceRoomAfter l) (targetRoomAfter l) (entryRoomAfter l)
 
 abbrev pub LeavesListed : List ℕ → Lent → List ℕ → List ℕ → List ℕ → List ℕ → List ℕ → List ℕ → Type 0
-LeavesListed list l =
-    let regs = listOf list .listed in
-    Lays (checkListed list l) (unlessListed list (l .sourceRoom) (sourceRoomIn regs l)) (unlessListed list (l .targetRoom) (targetRoomIn regs l))
-    (unlessListed list (l .entryRoom) (entryRoomIn regs l))
+LeavesListed list l = Lays (checkListed list l) (sourceRoomListed list l) (targetRoomListed list l) (entryRoomListed list l)

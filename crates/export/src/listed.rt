@@ -1,10 +1,22 @@
-// Lists of registers: one read by itself, and reading, writing, moving and checking with the text of one, which is read ahead of everything else.
+// Lists of registers: one read by itself; reading, writing, moving, checking and the beginning of a run with the text of one, which is read ahead of
+// everything else; and the steps of a run with the marks of one.
 ghost use mathlib.Core.Path.{_≡_};
 ghost use Rattle.registers.specs.Reading.{listOf};
 ghost use Rattle.trace.specs.Listed.{readListed, roomListed, writeListed, outListed, moveListed, movedListed};
+ghost use lib.ListN.{getD};
+ghost use Rattle.event.specs.Room.{wholeEvents};
+ghost use Rattle.rules.specs.View.{viewIn};
 ghost use Rattle.checker.specs.Check.{lent};
-ghost use Rattle.export.specs.Numbers.{answerNumbers, traceNumbers, marks, starting, formNumbered, LeavesListed};
+ghost use Rattle.steps.specs.Play.{nextBy, outcomeBy};
+ghost use Rattle.export.specs.Numbers.{answerNumbers, traceNumbers, marks, listing, starting, formNumbered, LeavesListed};
+ghost use Rattle.export.specs.Runs.{BeginsListed, Leaves, runNumbered, stepNumbered, stepNumbers};
 use crate::form_numbered;
+use crate::run::flag_of;
+use crate::run::run_numbered;
+use crate::run::run_numbers;
+use crate::run::start_numbers;
+use crate::run::step_numbered;
+use crate::run::step_numbers;
 use checker::check_listed;
 use event::Entry;
 use event::Number;
@@ -12,6 +24,9 @@ use event::Word;
 use event::listed::Listed;
 use event::memory::Memory;
 use event::number_index;
+use steps::apply_listed;
+use steps::next_listed;
+use steps::start_listed;
 use trace::read_listed;
 use writer::moving::move_listed;
 use writer::write_listed;
@@ -27,6 +42,19 @@ fn marks_of(listed: Listed) -> [u8; 256]
         i += 1;
     }
     numbers
+}
+
+// A mark for each number, set unless it is 0.
+fn listed_of(numbers: [u8; 256]) -> Listed
+    ensures { λ r. ⌜ r ≡ listing numbers ⌝ }
+{
+    let mut listed: Listed = [false; 256];
+    let mut place: usize = 0;
+    while place < 256 {
+        listed[place] = numbers[place] != 0;
+        place += 1;
+    }
+    listed
 }
 
 // A list text read alone: number, side and place, and a mark for each location.
@@ -162,4 +190,100 @@ pub extern "C" fn laprunto_check_listed(
         target_held.events,
         checked.entries,
     ];
+}
+
+// `laprunto_start` with a list.
+#[no_mangle]
+pub extern "C" fn laprunto_start_listed(
+    list: &[u8],
+    source: &[u8],
+    target: &[u8],
+    matching: &[u8],
+    source_room: &mut [Word],
+    target_room: &mut [Word],
+    entry_room: &mut [Entry],
+    tags: &mut [usize; 800],
+    run: &mut [usize; 2],
+    result: &mut [usize; 7],
+)
+    ensures { λ _. ⌜ BeginsListed (now (list .entry))
+        (lent (now (source .entry)) (now (target .entry)) (now (matching .entry))
+        (now («source_room» .entry)) (now («target_room» .entry)) (now («entry_room» .entry))) (now (tags .entry))
+        (now (result .exit)) (now (run .exit))
+        (now («source_room» .exit)) (now («target_room» .exit)) (now («entry_room» .exit)) (now (tags .exit)) ⌝ }
+{
+    let started = start_listed(
+        list,
+        source,
+        target,
+        matching,
+        source_room,
+        target_room,
+        entry_room,
+        tags,
+    );
+    let begun = started.run;
+    *run = run_numbers(begun);
+    *result = start_numbers(started);
+}
+
+// `laprunto_next` with the marks of a list, as `laprunto_read_list` leaves them.
+#[no_mangle]
+pub extern "C" fn laprunto_next_listed(
+    listed: &[u8; 256],
+    run: &[usize; 2],
+    tags: &[usize; 800],
+    source: &[Word],
+    target: &[Word],
+    entries: &[Entry],
+    swapped: usize,
+    step: &mut [usize; 3],
+)
+    ensures { λ _. ⌜ now (step .exit) ≡ stepNumbers (nextBy (viewIn (listing (now (listed .entry)))) (wholeEvents (now (source .entry)))
+        (wholeEvents (now (target .entry))) (now (entries .entry)) swapped
+        (runNumbered (getD (now (run .entry)) 0 0) (getD (now (run .entry)) 1 0)) (now (tags .entry))) ⌝ }
+{
+    let named = listed_of(*listed);
+    let wanted = next_listed(
+        &named,
+        run_numbered(run[0], run[1]),
+        tags,
+        source,
+        target,
+        entries,
+        swapped,
+    );
+    *step = step_numbers(wanted);
+}
+
+// `laprunto_apply` with the marks of a list.
+#[no_mangle]
+pub extern "C" fn laprunto_apply_listed(
+    listed: &[u8; 256],
+    run: &mut [usize; 2],
+    tags: &mut [usize; 800],
+    source: &[Word],
+    target: &[Word],
+    kind: usize,
+    place: usize,
+    number: usize,
+) -> usize
+    ensures { λ r. ⌜ Leaves (runNumbered (getD (now (run .entry)) 0 0) (getD (now (run .entry)) 1 0)) (now (tags .entry))
+        (outcomeBy (viewIn (listing (now (listed .entry)))) (wholeEvents (now (source .entry))) (wholeEvents (now (target .entry)))
+        (runNumbered (getD (now (run .entry)) 0 0) (getD (now (run .entry)) 1 0)) (now (tags .entry)) (stepNumbered kind place number))
+        r (now (run .exit)) (now (tags .exit)) ⌝ }
+{
+    let named = listed_of(*listed);
+    let step = step_numbered(kind, place, number);
+    let applied = apply_listed(
+        &named,
+        run_numbered(run[0], run[1]),
+        tags,
+        source,
+        target,
+        step,
+    );
+    let after = applied.run;
+    *run = run_numbers(after);
+    flag_of(applied.allowed)
 }

@@ -5,18 +5,19 @@ ghost use Rattle.event.specs.Room.{wholeEvents};
 ghost use Rattle.checker.specs.Check.{lent};
 ghost use Rattle.steps.specs.Play.{nextOf, outcome};
 ghost use Rattle.export.specs.Numbers.{flag};
-ghost use Rattle.export.specs.Runs.{Begins, Leaves, runNumbered, runNumbers, stepNumbered, stepNumbers};
+ghost use Rattle.export.specs.Runs.{Begins, Leaves, runNumbered, runNumbers, startNumbers, stepNumbered, stepNumbers};
 use event::Entry;
 use event::Word;
 use event::number_index;
 use steps::Run;
+use steps::Started;
 use steps::Step;
 use steps::apply;
 use steps::next;
 use steps::start;
 
 // 1 for yes, 0 for no.
-fn flag_of(b: bool) -> usize
+pub(crate) fn flag_of(b: bool) -> usize
     ensures { λ r. ⌜ r ≡ flag b ⌝ }
 {
     if b {
@@ -25,7 +26,13 @@ fn flag_of(b: bool) -> usize
     0
 }
 
-fn run_numbered(begun: usize, standing: usize) -> Run
+pub(crate) fn run_numbers(run: Run) -> [usize; 2]
+    ensures { λ r. ⌜ r ≡ runNumbers run ⌝ }
+{
+    [flag_of(run.begun), run.standing]
+}
+
+pub(crate) fn run_numbered(begun: usize, standing: usize) -> Run
     ensures { λ r. ⌜ r ≡ runNumbered begun standing ⌝ }
 {
     Run {
@@ -34,7 +41,7 @@ fn run_numbered(begun: usize, standing: usize) -> Run
     }
 }
 
-fn step_numbers(step: Step) -> [usize; 3]
+pub(crate) fn step_numbers(step: Step) -> [usize; 3]
     ensures { λ r. ⌜ r ≡ stepNumbers step ⌝ }
 {
     match step {
@@ -46,7 +53,7 @@ fn step_numbers(step: Step) -> [usize; 3]
     }
 }
 
-fn step_numbered(kind: usize, place: usize, number: usize) -> Step
+pub(crate) fn step_numbered(kind: usize, place: usize, number: usize) -> Step
     ensures { λ r. ⌜ r ≡ stepNumbered kind place number ⌝ }
 {
     match kind {
@@ -56,6 +63,24 @@ fn step_numbered(kind: usize, place: usize, number: usize) -> Step
         4 => Step::Stuck,
         _ => Step::Done,
     }
+}
+
+pub(crate) fn start_numbers(started: Started) -> [usize; 7]
+    ensures { λ r. ⌜ r ≡ startNumbers started ⌝ }
+{
+    let checked = started.checked;
+    let found = checked.answer;
+    let source_held = checked.source;
+    let target_held = checked.target;
+    [
+        number_index(found.number),
+        number_index(found.side),
+        found.place,
+        source_held.events,
+        target_held.events,
+        checked.entries,
+        started.cost,
+    ]
 }
 
 // A check, and the beginning of a run if it accepts: the check's numbers and how many steps there are, the run's numbers, the three rooms and the tags.
@@ -86,21 +111,9 @@ pub extern "C" fn laprunto_start(
         entry_room,
         tags,
     );
-    let checked = started.checked;
-    let found = checked.answer;
-    let source_held = checked.source;
-    let target_held = checked.target;
     let begun = started.run;
-    *run = [flag_of(begun.begun), begun.standing];
-    *result = [
-        number_index(found.number),
-        number_index(found.side),
-        found.place,
-        source_held.events,
-        target_held.events,
-        checked.entries,
-        started.cost,
-    ];
+    *run = run_numbers(begun);
+    *result = start_numbers(started);
 }
 
 // The next step of a run: its kind, its place and its source number. `swapped` is 0, or the place of the swap that was just applied.
@@ -147,6 +160,6 @@ pub extern "C" fn laprunto_apply(
     let step = step_numbered(kind, place, number);
     let applied = apply(run_numbered(run[0], run[1]), tags, source, target, step);
     let after = applied.run;
-    *run = [flag_of(after.begun), after.standing];
+    *run = run_numbers(after);
     flag_of(applied.allowed)
 }

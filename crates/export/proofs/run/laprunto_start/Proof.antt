@@ -6,11 +6,11 @@ use Rattle.export.proofs.run.laprunto_start.Tie as tie
 
 returns : tie.Need-returns
 returns c =
-    let f = c .before .before .before .before in
-    let k = f .before .before .before .before .before .before .before .before .before .before .before .before in
-    started-laid _ _ (k .start .result) _ _ _ _ _ _ _ (k .start .ensures) (c .before .before .number-index .ensures) (c .before .number-index2 .ensures)
-    (f .flag-of .ensures)
+    let k = c .before .before .before .before .before .before .before .before .before .start in
+    let e = k .ensures in
+    started-laid _ (k .result) _ _ _ _ _ _ _ _ _ _ (e .result) (e .source) (e .target) (e .entries) (e .left) (c .start-numbers .ensures)
+    (c .before .run-numbers .ensures)
 
 pub laprunto-start-spec : {M : Type 1} → statement M
 laprunto-start-spec =
-    tie.close (tie.spec (search needs) (search needs) (search needs) (search needs) (search needs) (search needs) (search needs) returns)
+    tie.close (tie.spec (search needs) (search needs) (search needs) (search needs) (search needs) (search needs) returns)
