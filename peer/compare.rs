@@ -7,9 +7,8 @@
 //! and rooms; everything that comes back is compared: answers, counts, memories, every
 //! word of every room, the offending line; and the same for a reading alone, for
 //! writing in either form, for reading back, for moves between the forms, and for lists
-//! alone. Where there is no list the run is compared too: its beginning, how many steps
-//! it has, and each of them. The first difference is printed whole, and ends the program
-//! with status 1.
+//! alone; and the run: its beginning, how many steps it has, and each of them. The first
+//! difference is printed whole, and ends the program with status 1.
 
 #[allow(dead_code)]
 mod cases;
@@ -161,9 +160,7 @@ fn compare_check(given: &Given, tally: &mut Tally) -> Same {
         (_, Some(_)) => "check listed",
     };
     tally.add(who, ours.answer);
-    if case.list.is_none() {
-        tally.counted += compare_start(given, &peer, &peer_rooms, &peer_entries)?;
-    }
+    tally.counted += compare_start(given, &peer, &peer_rooms, &peer_entries)?;
     compare_line(case, ours.answer, tally)
 }
 
@@ -175,7 +172,8 @@ fn compare_start(given: &Given, peer: &Checked, rooms: &[Vec<Word>; 2], entries:
     let mut ours_entries = given.entries.clone();
     let before: [usize; MAX_EVENTS] = std::array::from_fn(|at| at * 7 + 3);
     let mut tags = before;
-    let (result, run) = ours::start_to(given.case.texts(), ours_rooms.each_mut().map(Vec::as_mut_slice), &mut ours_entries, &mut tags);
+    let lent = ours_rooms.each_mut().map(Vec::as_mut_slice);
+    let (result, run) = ours::start_to(given.case.list(), given.case.texts(), lent, &mut ours_entries, &mut tags);
     let kept: Vec<usize> = entries[..peer.entries].iter().map(|&entry| entry as usize).collect();
     let (cost, begun, stand) = match peer.answer.number {
         0 => (steps::cost(&kept, peer.target_events), 1, peer.source_events),
@@ -314,11 +312,11 @@ fn compare_list(list: &[u8], tally: &mut Tally) -> Same {
     Ok(())
 }
 
-/// The steps of a run without a list, asked for and applied one by one.
+/// The steps of a run, asked for and applied one by one.
 fn compare_run(case: &Case, tally: &mut Tally) -> Same {
     let told = |told: String| Difference(format!("run: {told}"));
-    let peer = steps::run(None, case.texts()).map_err(told)?;
-    let ours = ours::run(case.texts()).map_err(told)?;
+    let peer = steps::run(case.list(), case.texts()).map_err(told)?;
+    let ours = ours::run(case.list(), case.texts()).map_err(told)?;
     same("run: answer", &ours.answer, &peer.answer)?;
     same("run: how many steps", &ours.cost, &peer.cost)?;
     same("run: steps", &ours.steps, &peer.steps)?;
@@ -383,9 +381,7 @@ fn try_writing(random: &mut Random, list: Option<&[u8]>, memory: &Memory, words:
 fn compare(random: &mut Random, given: &Given, tally: &mut Tally) -> Same {
     let list = given.case.list();
     compare_check(given, tally)?;
-    if list.is_none() {
-        compare_run(&given.case, tally)?;
-    }
+    compare_run(&given.case, tally)?;
     try_any_answer(random, &given.case)?;
     for (text, room) in [(&given.case.source, &given.rooms[0]), (&given.case.target, &given.rooms[1])] {
         if let Some((memory, words)) = compare_trace(list, text, room, tally)? {

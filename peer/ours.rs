@@ -1,6 +1,6 @@
 //! The proved library, linked in as `libexport.a` and called through its C
 //! functions, with the results of `peer.rs`. A call with a list has a function of its
-//! own there; those of a run take no list yet.
+//! own there.
 
 use crate::peer::{Answer, Checked, Entry, Form, ListRead, MatchingRead, Memory, TraceRead, Word, CELLS, EVENT_WORDS, MAX_EVENTS};
 use crate::steps::Step;
@@ -71,12 +71,21 @@ pub fn check_to(
 }
 
 /// The call itself: a check's numbers, then how many steps there are; and the run.
-pub fn start_to(texts: [&[u8]; 3], rooms: [&mut [Word]; 2], entry_room: &mut [Entry], tags: &mut [usize; MAX_EVENTS]) -> ([usize; 7], [usize; 2]) {
+pub fn start_to(
+    list: Option<&[u8]>,
+    texts: [&[u8]; 3],
+    rooms: [&mut [Word]; 2],
+    entry_room: &mut [Entry],
+    tags: &mut [usize; MAX_EVENTS],
+) -> ([usize; 7], [usize; 2]) {
     let [source, target, matching] = texts;
     let [source_room, target_room] = rooms;
     let (mut result, mut run) = ([STALE; 7], [STALE; 2]);
     unsafe {
-        door::laprunto_start(
+        call!(
+            list,
+            laprunto_start,
+            laprunto_start_listed,
             source.as_ptr(),
             source.len(),
             target.as_ptr(),
@@ -101,13 +110,18 @@ pub fn start_to(texts: [&[u8]; 3], rooms: [&mut [Word]; 2], entry_room: &mut [En
 const STALE: usize = 77_777;
 const STALE_MEMORY: Memory = [77_777; CELLS];
 
-/// A mark that is neither 0 nor 1 is none.
-pub fn read_list(list: &[u8]) -> Option<ListRead> {
+/// The call itself: number, side, place; and the marks.
+fn read_list_to(list: &[u8]) -> ([usize; 3], door::Listed) {
     let (mut result, mut marks) = ([STALE; 3], [77; CELLS]);
     unsafe {
         door::laprunto_read_list(list.as_ptr(), list.len(), &mut result, &mut marks);
     }
-    let [number, side, place] = result;
+    (result, marks)
+}
+
+/// A mark that is neither 0 nor 1 is none.
+pub fn read_list(list: &[u8]) -> Option<ListRead> {
+    let ([number, side, place], marks) = read_list_to(list);
     let listed = marks.map(|mark| mark == 1);
     marks.iter().all(|&mark| mark <= 1).then_some(ListRead { answer: answer(number, side, place), listed })
 }
@@ -187,8 +201,10 @@ pub fn offending_part(source: &[u8], target: &[u8], answer: Answer) -> (usize, u
     (from, to)
 }
 
-/// A run in rooms that hold the most, its events and entries as the check stored them.
+/// A run in rooms that hold the most, its events and entries as the check stored them,
+/// and the marks of its list.
 struct Begun {
+    listed: Option<door::Listed>,
     source: Vec<Word>,
     target: Vec<Word>,
     entries: Vec<Entry>,
@@ -199,21 +215,31 @@ struct Begun {
 impl Begun {
     /// The next step after a swap at a place, or after another for 0.
     fn next(&self, swapped: usize) -> [usize; 3] {
-        let Begun { source, target, entries, tags, run } = self;
+        let Begun { listed, source, target, entries, tags, run } = self;
         let mut step = [STALE; 3];
         let (source, source_words, target, target_words) = (source.as_ptr(), source.len(), target.as_ptr(), target.len());
-        let (entries, count) = (entries.as_ptr(), entries.len());
+        let (entries, count, to) = (entries.as_ptr(), entries.len(), &mut step);
         unsafe {
-            door::laprunto_next(run, tags, source, source_words, target, target_words, entries, count, swapped, &mut step);
+            match listed {
+                None => door::laprunto_next(run, tags, source, source_words, target, target_words, entries, count, swapped, to),
+                Some(listed) => {
+                    door::laprunto_next_listed(listed, run, tags, source, source_words, target, target_words, entries, count, swapped, to)
+                }
+            }
         }
         step
     }
 
     /// Whether a step is allowed, which is then applied.
     fn apply(&mut self, [kind, place, number]: [usize; 3]) -> bool {
-        let Begun { source, target, tags, run, .. } = self;
+        let Begun { listed, source, target, tags, run, .. } = self;
         let (source, source_words, target, target_words) = (source.as_ptr(), source.len(), target.as_ptr(), target.len());
-        let allowed = unsafe { door::laprunto_apply(run, tags, source, source_words, target, target_words, kind, place, number) };
+        let allowed = unsafe {
+            match listed {
+                None => door::laprunto_apply(run, tags, source, source_words, target, target_words, kind, place, number),
+                Some(listed) => door::laprunto_apply_listed(listed, run, tags, source, source_words, target, target_words, kind, place, number),
+            }
+        };
         allowed == 1
     }
 }
@@ -227,20 +253,21 @@ pub struct Run {
 }
 
 /// A check and, if it accepts, the run that it begins: no step is known yet.
-fn begin(texts: [&[u8]; 3]) -> (Run, Begun) {
+fn begin(list: Option<&[u8]>, texts: [&[u8]; 3]) -> (Run, Begun) {
     let [mut source, mut target] = [(); 2].map(|()| vec![0; MAX_EVENTS * EVENT_WORDS]);
     let (mut entries, mut tags) = (vec![0; MAX_EVENTS], [STALE; MAX_EVENTS]);
-    let (result, run) = start_to(texts, [&mut source, &mut target], &mut entries, &mut tags);
+    let (result, run) = start_to(list, texts, [&mut source, &mut target], &mut entries, &mut tags);
     let [number, side, place, source_events, target_events, entry_count, cost] = result;
     source.truncate(source_events * EVENT_WORDS);
     target.truncate(target_events * EVENT_WORDS);
     entries.truncate(entry_count);
-    (Run { answer: answer(number, side, place), cost, steps: vec![] }, Begun { source, target, entries, tags, run })
+    let listed = list.map(|list| read_list_to(list).1);
+    (Run { answer: answer(number, side, place), cost, steps: vec![] }, Begun { listed, source, target, entries, tags, run })
 }
 
-/// The run of three texts: every step, asked for and applied in turn.
-pub fn run(texts: [&[u8]; 3]) -> Result<Run, String> {
-    let (mut run, mut begun) = begin(texts);
+/// The run of three texts under a list or none: every step, asked for and applied in turn.
+pub fn run(list: Option<&[u8]>, texts: [&[u8]; 3]) -> Result<Run, String> {
+    let (mut run, mut begun) = begin(list, texts);
     let mut swapped = 0;
     loop {
         let done = run.steps.len();

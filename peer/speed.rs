@@ -175,7 +175,7 @@ const START: Work = Work {
     name: "beginning a run",
     ours: |input, rooms| {
         let lent: [&mut [Word]; 2] = [&mut rooms.source, &mut rooms.target];
-        black_box(ours::start_to(input.case.texts().map(black_box), lent, &mut rooms.entries, &mut rooms.tags)).0[0] as u32
+        black_box(ours::start_to(None, input.case.texts().map(black_box), lent, &mut rooms.entries, &mut rooms.tags)).0[0] as u32
     },
     peer: CHECK.ours,
 };
