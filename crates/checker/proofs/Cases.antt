@@ -1,5 +1,5 @@
--- P1 to P12 of document 01, and the cases of C-13, C-15 and C-16: the check's own definition computes on their texts, and its answers are the tables'.
--- Assumes nothing.
+-- P1 to P12 of document 01, and the cases of C-13, C-15, C-16 and C-17: the check's own definition computes on their texts, and its answers are the
+-- tables'. Assumes nothing.
 use mathlib.Core.Path.{_≡_, refl}
 use mathlib.Core.Bool.{true}
 use Rattle.event.specs.Answer.{answer}
@@ -22,14 +22,15 @@ use Rattle.registers.specs.Reg.{regRest, regOf}
 use Rattle.registers.specs.Reading.{regsOf, marked, listOf}
 use Rattle.checker.specs.Check.{Lent, readingAnswerIn, verdictFor, checkIn, checkOf, checkListed}
 use Rattle.checker.specs.Line.{counted, nthLine, lineOf, faultSide, offending, offendingLine, standing}
-use Rattle.checker.specs.Cases.{table, counters, zeros, registers, all-hold, all-listed}
+use Rattle.checker.specs.Cases.{table, counters, zeros, exchanges, registers, all-hold, all-listed}
 
-cases : (all-hold table ≡ true) × ((all-hold counters ≡ true) × ((all-hold zeros ≡ true) × (all-listed registers ≡ true)))
+cases : (all-hold table ≡ true)
+    × ((all-hold counters ≡ true) × ((all-hold zeros ≡ true) × ((all-hold exchanges ≡ true) × (all-listed registers ≡ true))))
 unfolding checkListed listOf regsOf regOf regRest marked checkIn readingAnswerIn verdictFor verdictIn startAnswerIn countAnswer entryAnswer
     sourceAnswer targetAnswer readIn surveyIn formOf faultIn textFault headFault linesFault saidIn startIn eventsOf initsOf coverFault lined firstBad
     eventFaultIn uses recordOf eventRest initRest unlessSilent numberIf orderIf numberIn matchingRead matchingSurvey entriesOf entryOf keepRest
     goneRest numberOf digitsOn valueOn allDigits cut sameBytes stepped after latest lawful takes row
-cases = (refl, (refl, (refl, refl)))
+cases = (refl, (refl, (refl, (refl, refl))))
 
 pub P1-to-P12 : all-hold table ≡ true
 P1-to-P12 = cases .0
@@ -40,8 +41,11 @@ counters-hold = cases .1 .0
 pub zeros-hold : all-hold zeros ≡ true
 zeros-hold = cases .1 .1 .0
 
+pub exchanges-hold : all-hold exchanges ≡ true
+exchanges-hold = cases .1 .1 .1 .0
+
 pub registers-hold : all-listed registers ≡ true
-registers-hold = cases .1 .1 .1
+registers-hold = cases .1 .1 .1 .1
 
 -- "A call without a list lists none", as a list of none does.
 pub lists-none : (l : Lent) → checkListed (bytes "regs\t1\n") l ≡ checkOf l

@@ -1,5 +1,5 @@
--- Document 01, "Runs on the bench": the cases P1 to P12 as one table, each by its three texts; and document 02, C-13, C-15 and C-16. Assumes
--- nothing.
+-- Document 01, "Runs on the bench": the cases P1 to P12 as one table, each by its three texts; and document 02, C-13, C-15, C-16
+-- and C-17. Assumes nothing.
 use mathlib.Core.Bool.{Bool, true, _&&_}
 use mathlib.Core.List.{List, [], _∷_}
 use Prim.Native.Nat.{ℕ}
@@ -137,6 +137,36 @@ zeros =
     ∷ kept "trace\t2\ninit\t3\t0\ninit\t4\t0\nload\t4\t1\tused\t7\n" "match\t1\nkeep\t1\n" (answer 21 1 2)
     ∷ []
 
+-- C-17.
+abbrev pub exchanges : List Case
+exchanges =
+    -- kept, in both forms and between them, with each of its orders; what comes after finds the cell as it was
+    kept "trace\t1\ninit\t3\t5\ncmpfail\t3\trlx\t5\ncmpfail\t3\tacq\t5\naload\t3\trlx\t5\n" "match\t1\nkeep\t1\nkeep\t2\nkeep\t3\n" done
+    ∷ given "trace\t1\ncmpfail\t3\tsc\t0\n" "trace\t2\ninit\t3\t0\ncmpfail\t3\tsc\t0\t7\n" "match\t1\nkeep\t1\n" done
+    -- "its value must be the latest"
+    ∷ kept "trace\t1\nastore\t3\trlx\t5\ncmpfail\t3\trlx\t0\n" "match\t1\nkeep\t1\nkeep\t2\n" (answer 6 1 2)
+    ∷ kept "trace\t2\ninit\t3\t5\ncmpfail\t3\trlx\t4\t7\n" "match\t1\nkeep\t1\n" (answer 6 1 1)
+    -- no other order, and one value
+    ∷ kept "trace\t1\ncmpfail\t3\trel\t0\n" "match\t1\nkeep\t1\n" (answer 2 1 2)
+    ∷ kept "trace\t1\ncmpfail\t3\tar\t0\n" "match\t1\nkeep\t1\n" (answer 2 1 2)
+    ∷ kept "trace\t2\ninit\t3\t0\ncmpfail\t3\trel\t0\t7\n" "match\t1\nkeep\t1\n" (answer 2 1 3)
+    ∷ kept "trace\t1\ncmpfail\t3\trlx\t0\t0\n" "match\t1\nkeep\t1\n" (answer 2 1 2)
+    -- it is atomic
+    ∷ kept "trace\t1\nload\t3\t0\tused\ncmpfail\t3\trlx\t0\n" "match\t1\nkeep\t1\nkeep\t2\n" (answer 5 1 2)
+    -- "it matches only a `cmpfail` with equal fields"
+    ∷ given "trace\t1\ncmpfail\t3\trlx\t0\n" "trace\t1\naload\t3\trlx\t0\n" "match\t1\nkeep\t1\n" (answer 10 1 1)
+    ∷ given "trace\t1\nrmw\t3\trlx\t0\t0\n" "trace\t1\ncmpfail\t3\trlx\t0\n" "match\t1\nkeep\t1\n" (answer 10 1 1)
+    ∷ given "trace\t1\ncmpfail\t3\trlx\t0\n" "trace\t1\ncmpfail\t3\tacq\t0\n" "match\t1\nkeep\t1\n" (answer 10 1 1)
+    -- "it is synchronising": never gone, swapped, inserted or spanned
+    ∷ given "trace\t1\ncmpfail\t3\trlx\t0\ncmpfail\t3\trlx\t0\n" "trace\t1\ncmpfail\t3\trlx\t0\n" "match\t1\nkeep\t1\ngone\n" (answer 11 1 2)
+    ∷ given "trace\t1\nstore\t1\t5\ncmpfail\t3\trlx\t0\n" "trace\t1\ncmpfail\t3\trlx\t0\nstore\t1\t5\n" "match\t1\nkeep\t2\nkeep\t1\n"
+    (answer 12 1 2)
+    ∷ given "trace\t1\ncmpfail\t3\trlx\t0\n" "trace\t1\ncmpfail\t3\trlx\t0\ncmpfail\t3\trlx\t0\n" "match\t1\nkeep\t1\n" (answer 15 2 2)
+    ∷ given "trace\t1\nload\t1\t0\tused\ncmpfail\t3\trlx\t0\nload\t1\t0\tused\n" "trace\t1\nload\t1\t0\tused\ncmpfail\t3\trlx\t0\n"
+    "match\t1\nkeep\t1\nkeep\t2\ngone\n"
+    (answer 13 1 3)
+    ∷ []
+
 -- Under a list of location 3.
 abbrev pub at-3 : Case → Listed
 at-3 c = under "regs\t1\nreg\t3\n" c
@@ -164,6 +194,7 @@ registers =
     ∷ at-3 (given "trace\t1\ninit\t4\t1\n" "trace\t1\ninit\t4\t2\n" "match\t1\n" (answer 7 2 4))
     -- "an atomic use of a listed location is 5 at that event"
     ∷ at-3 (kept "trace\t1\nload\t1\t0\tused\naload\t3\trlx\t0\n" "match\t1\nkeep\t1\nkeep\t2\n" (answer 5 1 2))
+    ∷ at-3 (kept "trace\t1\ncmpfail\t3\trlx\t0\n" "match\t1\nkeep\t1\n" (answer 5 1 1))
     -- a mutex is no location
     ∷ at-3 (kept "trace\t1\nlock\t3\n" "match\t1\nkeep\t1\n" done)
     -- a list of none

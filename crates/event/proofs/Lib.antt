@@ -3,6 +3,7 @@ pub mod Rooms
 pub mod Lawful
 pub mod Wrap
 pub mod Table
+pub mod Exchange
 pub mod Unlisted
 pub mod Has
 pub mod Unique

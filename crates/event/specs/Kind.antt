@@ -1,4 +1,4 @@
--- Document 01, "Trace text", and document 02, C-13: the fixed table of kinds, and which events are lawful. Assumes nothing.
+-- Document 01, "Trace text", and document 02, C-13 and C-17: the fixed table of kinds, and which events are lawful. Assumes nothing.
 use Prim.Native.Nat.{ℕ, suc}
 use mathlib.Core.Bool.{Bool, true, false, _&&_, _||_, not}
 use mathlib.Core.List.{List, [], _∷_}
@@ -94,7 +94,15 @@ rows =
     ∷ barrierRow Bare Mutex  -- 8 lock
     ∷ barrierRow Bare Mutex  -- 9 unlock
     ∷ accessRow Updates 2 Bits64 true Sum true  -- 10 add64
+    ∷ accessRow Reads 1 Bits64 true Nothing true  -- 11 cmpfail
     ∷ []
+
+-- the numbers of an atomic load and of a compare exchange that fails, which is one
+abbrev pub aload : ℕ
+aload = 3
+
+abbrev pub cmpfail : ℕ
+cmpfail = 11
 
 unfoldable pub row : ℕ → Row
 row k = getD rows k noKind

@@ -1,4 +1,4 @@
--- Document 01, "Latest value", and document 02, C-13: the memory takes one event at a time and hands back the memory after it. Assumes nothing.
+-- Document 01, "Latest value", and document 02, C-13 and C-17: the memory takes one event at a time and hands back the memory after it. Assumes nothing.
 use Prim.Native.Nat.{ℕ, _+_, _%_, _^_}
 use mathlib.Core.Bool.{Bool, true, false, cond}
 use mathlib.Core.List.{List}
@@ -21,7 +21,7 @@ abbrev pub wrapSum : ℕ → ℕ → ℕ → ℕ
 wrapSum width a b = (a + b) % 2 ^ width
 
 -- what is left in a cell that held `was`, by what is set, the width and the values: `store` and `astore` set the value, `rmw` sets new, `add` and
--- `add64` set old plus operand as a counter of their width has it, modulo 2^32 and modulo 2^64
+-- `add64` set old plus operand as a counter of their width has it, modulo 2^32 and modulo 2^64; what only reads sets nothing
 abbrev pub leaves : Sets → Width → ℕ → ℕ → ℕ → ℕ
 leaves Nothing w was first second = was
 leaves First w was first second = first
@@ -36,7 +36,7 @@ left was e = leaves (row (e .kind) .sets) (row (e .kind) .width) was (e .first) 
 unfoldable pub after : List ℕ → Event → List ℕ
 after l e = set l (e .place) (left (getD l (e .place) 0) e)
 
--- each load, `aload` and old value must equal the cell before the event
+-- each load, `aload`, `cmpfail` and old value must equal the cell before the event
 abbrev pub reads : ℕ → Event → Bool
 reads was e = cond (row (e .kind) .reads) (eqb (e .first) was) true
 

@@ -115,6 +115,7 @@ pub fn row_of(kind: Word) -> Row
         8 => barrier(Orders::Bare, Place::Mutex),
         9 => barrier(Orders::Bare, Place::Mutex),
         10 => access(Orders::Updates, 2, Width::Bits64, true, Sets::Sum, true),
+        11 => access(Orders::Reads, 1, Width::Bits64, true, Sets::Nothing, true),
         _ => no_kind(),
     }
 }

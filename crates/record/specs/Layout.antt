@@ -1,4 +1,4 @@
--- Document 01, "Trace text", and document 02, C-11 and C-13: the words of a line, and the line of an event, from the table of kinds. Assumes nothing.
+-- Document 01, "Trace text", and document 02, C-11, C-13 and C-17: the words of a line, and the line of an event, from the table of kinds. Assumes nothing.
 use Prim.Native.Nat.{ℕ, suc}
 use mathlib.Core.Bool.{Bool, true, false, cond}
 use mathlib.Core.List.{List, [], _∷_}
@@ -30,6 +30,7 @@ kindWords =
     ∷ bytes "lock"  -- 8
     ∷ bytes "unlock"  -- 9
     ∷ bytes "add64"  -- 10
+    ∷ bytes "cmpfail"  -- 11
     ∷ []
 
 -- The words of the orders and marks, by their numbers.

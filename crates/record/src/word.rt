@@ -12,7 +12,7 @@ use text::word::same_bytes;
 pub const ROW: usize = 8;
 
 // The words of the kinds.
-pub const KIND_WORDS: [[u8; ROW]; 11] = [
+pub const KIND_WORDS: [[u8; ROW]; 12] = [
     *b"\x00       ",
     *b"\x04load   ",
     *b"\x05store  ",
@@ -24,6 +24,7 @@ pub const KIND_WORDS: [[u8; ROW]; 11] = [
     *b"\x04lock   ",
     *b"\x06unlock ",
     *b"\x05add64  ",
+    *b"\x07cmpfail",
 ];
 
 // The words of the orders and marks.

@@ -45,4 +45,6 @@ pub mod Kept
 pub mod Recode
 pub mod Looks
 pub mod Sync
+pub mod Walls
 pub mod Registers
+pub mod Exchange

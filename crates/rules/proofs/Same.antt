@@ -20,12 +20,13 @@ same-refl e = go (eqb (e .kind) (e .kind)) (eqb (e .place) (e .place)) (eqb (e .
     go a b c d m o h i j k n =
         and a (b && (c && (d && (m || o)))) h (and b (c && (d && (m || o))) i (and c (d && (m || o)) j (and d (m || o) k (or-right m o n))))
 
--- what the same events share, as far as the rules and the memory go
+-- what the same events share: all but the mark of a load, and the code line
 pub record Shared (e f : Event) : Type 0 where
   pub kinds : e .kind ≡ f .kind
   pub places : e .place ≡ f .place
   pub firsts : e .first ≡ f .first
   pub seconds : e .second ≡ f .second
+  pub orders : T (isLoadKind (e .kind) || eqb (e .order) (f .order))
 
 pub shared : (e f : Event) → T (same e f) → Shared e f
 shared e f h =
@@ -36,11 +37,13 @@ shared e f h =
     let g = isLoadKind (e .kind) || eqb (e .order) (f .order) in
     let i = and-right a (b && (c && (d && g))) h in
     let j = and-right b (c && (d && g)) i in
+    let k = and-right c (d && g) j in
     record {
       kinds = eqb→eq (e .kind) (f .kind) (and-left a (b && (c && (d && g))) h);
       places = eqb→eq (e .place) (f .place) (and-left b (c && (d && g)) i);
       firsts = eqb→eq (e .first) (f .first) (and-left c (d && g) j);
-      seconds = eqb→eq (e .second) (f .second) (and-left d g (and-right c (d && g) j));
+      seconds = eqb→eq (e .second) (f .second) (and-left d g k);
+      orders = and-right d g k;
     }
 
 alike-view : (c d : Bool) (p v : ℕ) (u u′ : Bool) → Alike (cond c (cond d (load p v u) (store p v)) wall) (cond c (cond d (load p v u′) (store p v)) wall)
