@@ -328,7 +328,7 @@ impl Shape {
     /// The event on a memory: what it reads is what the memory holds.
     fn on(self, setting: &Setting, memory: &Memory) -> Event {
         let mut event = self.0;
-        if !setting.is_register(event) && matches!(event.kind, Kind::Load | Kind::ALoad | Kind::Rmw | Kind::Add | Kind::Add64) {
+        if !setting.is_register(event) && matches!(event.kind, Kind::Load | Kind::ALoad | Kind::Rmw | Kind::Add | Kind::Add64 | Kind::CmpFail) {
             event.first = memory[usize::from(event.place)];
         }
         event
@@ -339,7 +339,7 @@ impl Shape {
 fn step(setting: &Setting, memory: &mut Memory, event: Event) -> bool {
     let cell = &mut memory[usize::from(event.place)];
     let (right, after) = match event.kind {
-        Kind::Load | Kind::ALoad => (*cell == event.first, *cell),
+        Kind::Load | Kind::ALoad | Kind::CmpFail => (*cell == event.first, *cell),
         Kind::Store | Kind::AStore => (true, event.first),
         Kind::Rmw => (*cell == event.first, event.second),
         Kind::Add => (*cell == event.first, (event.first + event.second) % (1 << 32)),
@@ -529,10 +529,11 @@ fn random_shape(random: &mut Random, setting: &Setting) -> Shape {
         5..=10 => shape(Kind::Store, place, order::NONE, value, 0),
         11 => shape(Kind::Fence, 0, order::SC, 0, 0),
         12 => shape(random.pick(&[Kind::Lock, Kind::Unlock]), 1, order::NONE, 0, 0),
-        _ => match random.below(4) {
+        _ => match random.below(5) {
             0 => shape(Kind::ALoad, RANDOM_ATOMIC, order::RLX, 0, 0),
             1 => shape(Kind::AStore, RANDOM_ATOMIC, order::REL, value, 0),
             2 => shape(Kind::Rmw, RANDOM_ATOMIC, order::AR, 0, value),
+            3 => shape(Kind::CmpFail, RANDOM_ATOMIC, order::RLX, 0, 0),
             _ => shape(Kind::Add, RANDOM_ATOMIC, order::SC, 0, value),
         },
     }

@@ -2,8 +2,8 @@
 //! `compare COUNT [SEED]`.
 //!
 //! First all cases known by hand, then COUNT random ones, long and short, valid
-//! and damaged, of traces of either form, every other with a list of registers, with
-//! rooms of every size, each filled with random words before. Both get the same texts
+//! and damaged, of traces of either form, every other with a list of registers, some with
+//! failed exchanges, with rooms of every size, each filled with random words before. Both get the same texts
 //! and rooms; everything that comes back is compared: answers, counts, memories, every
 //! word of every room, the offending line; and the same for a reading alone, for
 //! writing in either form, for reading back, for moves between the forms, and for lists
@@ -14,6 +14,8 @@
 mod cases;
 #[allow(dead_code)]
 mod counters;
+#[allow(dead_code)]
+mod exchanges;
 #[allow(dead_code)]
 mod forms;
 #[allow(dead_code)]
@@ -449,6 +451,15 @@ fn random_case(random: &mut Random, lists: Lists) -> Case {
     }
 }
 
+/// The same, every other with failed exchanges.
+fn exchanged_case(random: &mut Random, lists: Lists) -> Case {
+    let mut case = random_case(random, lists);
+    if random.once_in(2) {
+        generate::fail_exchanges(random, &mut case);
+    }
+    case
+}
+
 /// All of a case in which the two differ.
 fn tell(given: &Given, difference: &Difference) {
     println!("DIFFERENCE in {}", difference.0);
@@ -475,10 +486,10 @@ fn print_tally(tally: &Tally) {
 /// The moves, the writings and the lists that are known by hand.
 fn compare_known(random: &mut Random, tally: &mut Tally) -> Same {
     let told = |name: &str, same: Same| same.map_err(|Difference(told)| Difference(format!("{name}: {told}")));
-    for known in [forms::moves(), counters::moves(), zeros::moves(), lists::moves()].concat() {
+    for known in [forms::moves(), counters::moves(), zeros::moves(), exchanges::moves(), lists::moves()].concat() {
         told(&known.name, compare_move(random, &known.handed, tally))?;
     }
-    for KnownWriting { name, handed, .. } in [forms::writings(), counters::writings(), zeros::writings(), lists::writings()].concat() {
+    for KnownWriting { name, handed, .. } in [forms::writings(), counters::writings(), zeros::writings(), exchanges::writings(), lists::writings()].concat() {
         let (memory, words) = handed.read();
         told(&name, compare_writing(random, handed.list.as_deref(), handed.form, &memory, &words, handed.bytes, tally))?;
     }
@@ -492,7 +503,7 @@ fn main() {
     let mut arguments = std::env::args().skip(1).map(|word| word.parse::<u64>().expect("a number"));
     let count = arguments.next().expect("compare COUNT [SEED]");
     let seed = arguments.next().unwrap_or(1);
-    let known = [cases::all(), forms::checks(), counters::checks(), zeros::checks(), lists::checks(), lists::examples()].concat();
+    let known = [cases::all(), forms::checks(), counters::checks(), zeros::checks(), exchanges::checks(), lists::checks(), lists::examples()].concat();
     let known: Vec<Case> = known.into_iter().map(|known| known.case).collect();
     let by_hand = known.len();
     println!("seed {seed}, {count} cases, after {by_hand} known by hand");
@@ -506,7 +517,7 @@ fn main() {
     for (index, known) in known.chain((0..count).map(|_| None)).enumerate() {
         let mut random = Random::new(seeds.next());
         let lists = [Lists::Without, Lists::With][index % 2];
-        let case = known.unwrap_or_else(|| random_case(&mut random, lists));
+        let case = known.unwrap_or_else(|| exchanged_case(&mut random, lists));
         let given = lend(&mut random, case);
         if let Err(difference) = compare(&mut random, &given, &mut tally) {
             println!("case {index}");

@@ -2,7 +2,7 @@
 //! hand, in both forms: values, `add` and `add64`, limits; moves and writings.
 
 use crate::cases::{filled, matching, trace, Known, List, Triple, ALL, DONE, TRACE};
-use crate::forms::{coded, fullest, KnownMove, KnownWriting, Moves, Writings, CODED, PLENTY};
+use crate::forms::{both_forms, coded, fullest, Both, KnownMove, KnownWriting, Moves, Writings, CODED, PLENTY};
 use crate::peer::{Form, Word};
 use crate::texts;
 
@@ -16,38 +16,6 @@ const OVER_64: &str = "18446744073709551616";
 const WRITTEN: [&str; 4] = ["store 1 {}", "astore 1 rel {}", "rmw 1 ar 0 {}", "add64 1 sc 0 {}"];
 /// The same, where the value must be the one that is there.
 const READ: [&str; 4] = ["load 1 {} used", "aload 1 acq {}", "rmw 1 rlx {} 0", "add64 1 acq {} 1"];
-
-/// A trace of form 1, and the same in form 2 with a code line at each event.
-fn both_forms(lines: &str) -> [Vec<u8>; 2] {
-    let one = trace(lines);
-    let two = texts::with_codes(&one, || 7);
-    [one, two]
-}
-
-/// Cases in both forms.
-struct Both<'a>(&'a mut List);
-
-impl Both<'_> {
-    fn good(&mut self, name: &str, lines: &str) {
-        let events = lines.split(';').filter(|line| !line.trim().starts_with("init")).count();
-        for text in both_forms(lines) {
-            self.0.good_trace(name, text, events);
-        }
-    }
-
-    /// A trace that is refused.
-    fn bad(&mut self, name: &str, lines: &str, number: u32, place: u32) {
-        for text in both_forms(lines) {
-            self.0.bad_trace(name, text, number, place);
-        }
-    }
-
-    fn run(&mut self, name: &str, source: &str, target: &str, entries: &str, answer: Triple) {
-        for (source, target) in both_forms(source).into_iter().zip(both_forms(target)) {
-            self.0.add(name, source, target, matching(entries), [ALL; 3], answer);
-        }
-    }
-}
 
 fn values(both: &mut Both) {
     let good = ["0", LAST_32, OVER_32, "4294967297", "9223372036854775808", "18446744073709551614", LAST_64];
@@ -228,7 +196,7 @@ fn writings_of(list: &mut Writings, form: Form) {
     changed("an old value of 33 bits, its low half right", 3, (1 << 32) + 7, (18, 0, 1));
     changed("an old value that is not the latest", 3, 8, (6, 0, 1));
     changed("add64", 0, 10, size(40));
-    changed("kind 11", 0, 11, (18, 0, 1));
+    changed("kind 12", 0, 12, (18, 0, 1));
     changed("kind 2^32 + 6", 0, (1 << 32) + 6, (18, 0, 1));
     changed("place 2^32 + 1", 1, (1 << 32) + 1, (18, 0, 1));
     changed("order 2^32 + 1", 2, (1 << 32) + 1, (18, 0, 1));

@@ -13,6 +13,38 @@ pub fn coded(lines: &str) -> Vec<u8> {
     texts::with_zeros(&text(CODED, lines))
 }
 
+/// A trace of form 1, and the same in form 2 with a code line at each event.
+pub fn both_forms(lines: &str) -> [Vec<u8>; 2] {
+    let one = trace(lines);
+    let two = texts::with_codes(&one, || 7);
+    [one, two]
+}
+
+/// Cases in both forms.
+pub struct Both<'a>(pub &'a mut List);
+
+impl Both<'_> {
+    pub fn good(&mut self, name: &str, lines: &str) {
+        let events = lines.split(';').filter(|line| !line.trim().starts_with("init")).count();
+        for text in both_forms(lines) {
+            self.0.good_trace(name, text, events);
+        }
+    }
+
+    /// A trace that is refused.
+    pub fn bad(&mut self, name: &str, lines: &str, number: u32, place: u32) {
+        for text in both_forms(lines) {
+            self.0.bad_trace(name, text, number, place);
+        }
+    }
+
+    pub fn run(&mut self, name: &str, source: &str, target: &str, entries: &str, answer: Triple) {
+        for (source, target) in both_forms(source).into_iter().zip(both_forms(target)) {
+            self.0.add(name, source, target, matching(entries), [ALL; 3], answer);
+        }
+    }
+}
+
 /// The runs of the requirement with one trace or both in form 2: the answers
 /// are the same, whatever the code lines are.
 fn coded_runs(list: &mut List) {
@@ -32,9 +64,9 @@ fn coded_runs(list: &mut List) {
     }
 }
 
-const EACH_KIND: [&str; 10] = [
+const EACH_KIND: [&str; 11] = [
     "load\t1\t0\tused", "store\t1\t0", "aload\t1\trlx\t0", "astore\t1\trel\t0", "rmw\t1\tar\t0\t0", "add\t1\tsc\t0\t0", "fence\tacq",
-    "lock\t0", "unlock\t0", "add64\t1\tsc\t0\t0",
+    "lock\t0", "unlock\t0", "add64\t1\tsc\t0\t0", "cmpfail\t1\tacq\t0",
 ];
 
 fn code_lines(list: &mut List) {
@@ -373,7 +405,7 @@ fn writings_of(list: &mut Writings, form: Form) {
     list.add("cut short", form, coded(THREE), 17, PLENTY, (18, 0, 3));
     list.add("a cleared event", form, coded(THREE), 24, PLENTY, (18, 0, 4));
     list.add("801 events", form, coded(&"lock 0 1;".repeat(800)), 4_801, PLENTY, (3, 0, 801));
-    list.changed("kind 11", form, THREE, 18, (6, 11), (18, 0, 2));
+    list.changed("kind 12", form, THREE, 18, (6, 12), (18, 0, 2));
     list.changed("code line 65536", form, THREE, 18, (5, 65_536), (18, 0, 1));
     list.changed("the greatest word as a code line", form, THREE, 18, (17, Word::MAX), (18, 0, 3));
     list.changed("18 before 6", form, "load 1 0 used 0", 12, (3, 9), (18, 0, 2));

@@ -132,7 +132,7 @@ impl World {
         let (place, orders, first, second): (u8, &[u8], Word, Word) = match kind {
             Kind::ALoad => (place, &[order::RLX, order::ACQ, order::SC], held, 0),
             Kind::AStore => (place, &[order::RLX, order::REL, order::SC], value, 0),
-            // A new value equal to the old is a compare exchange that fails.
+            // A new value equal to the old is a write of the same value.
             Kind::Rmw => (place, &RMW_ORDERS, held, random.pick(&[value, held])),
             Kind::Add | Kind::Add64 => (place, &RMW_ORDERS, held, value),
             Kind::Fence => (0, &RMW_ORDERS[1..], 0, 0),
@@ -489,6 +489,37 @@ pub fn mixed_case(random: &mut Random, lists: Lists) -> Case {
         }
     }
     case
+}
+
+/// The line of a failed exchange for that of an atomic load, or of an `rmw` that
+/// document 01 has for one.
+fn failed(line: &str) -> Option<String> {
+    let fields: Vec<&str> = line.split('\t').collect();
+    let fields = match fields[..] {
+        ["aload", ref rest @ ..] => [&["cmpfail"], rest].concat(),
+        ["rmw", place, order @ ("rlx" | "acq" | "sc"), old, new, ref code @ ..] if old == new => [&["cmpfail", place, order, old], code].concat(),
+        _ => return None,
+    };
+    Some(fields.join("\t"))
+}
+
+/// Failed exchanges for such lines of both traces: for all of them, or by chance.
+/// Whether there is one.
+pub fn fail_exchanges(random: &mut Random, case: &mut Case) -> bool {
+    let all = random.once_in(2);
+    let mut any = false;
+    for text in [&mut case.source, &mut case.target] {
+        let Ok(lines) = std::str::from_utf8(text) else {
+            continue;
+        };
+        let mut turn = |line: &str| {
+            let turned = failed(line).filter(|_| all || random.once_in(2));
+            any |= turned.is_some();
+            turned.unwrap_or_else(|| line.to_string())
+        };
+        *text = lines.split('\n').map(&mut turn).collect::<Vec<_>>().join("\n").into_bytes();
+    }
+    any
 }
 
 /// Mostly short traces, and some in which event numbers have two digits.

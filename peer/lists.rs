@@ -247,7 +247,7 @@ fn starts(known: &mut List) {
 }
 
 /// Every atomic use of location 7, which holds 0.
-const ATOMIC: [&str; 5] = ["aload 7 rlx 0", "astore 7 rel 5", "rmw 7 ar 0 5", "add 7 sc 0 5", "add64 7 acq 0 5"];
+const ATOMIC: [&str; 6] = ["aload 7 rlx 0", "astore 7 rel 5", "rmw 7 ar 0 5", "add 7 sc 0 5", "add64 7 acq 0 5", "cmpfail 7 rlx 0"];
 
 fn atomic_uses(known: &mut List) {
     for event in ATOMIC {
@@ -431,8 +431,8 @@ pub fn writings() -> Vec<KnownWriting> {
         changed(Some("reg 7"), "a register for an atomic location", "aload 8 rlx 0 0", 6, (1, 7), (5, 0, 1));
         changed(Some("reg 7"), "6 before a later 5", "load 8 0 used 0; aload 7 rlx 0 0", 12, read, (6, 0, 1));
         changed(Some("reg 7"), "5 before a later 6", "aload 7 rlx 0 0; load 8 0 used 0", 12, (9, 9), (5, 0, 1));
-        changed(Some("reg 7"), "18 before 5", "aload 7 rlx 0 0; lock 0 0", 12, (6, 11), (18, 0, 2));
-        changed(Some("reg 7; reg 7"), "a list refused before 18", "load 7 0 used 0", 6, (0, 11), (22, 4, 3));
+        changed(Some("reg 7"), "18 before 5", "aload 7 rlx 0 0; lock 0 0", 12, (6, 12), (18, 0, 2));
+        changed(Some("reg 7; reg 7"), "a list refused before 18", "load 7 0 used 0", 6, (0, 12), (22, 4, 3));
         changed(Some("reg 07"), "a list refused before 6", "load 7 0 used 0", 6, read, (2, 4, 2));
         known.list = Some(list("reg 7"));
         known.add("a mutex of its number", form, coded("lock 7 0"), 6, PLENTY, (0, 0, if form == Form::One { 8 + 7 } else { 8 + 9 }));

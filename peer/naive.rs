@@ -2,7 +2,7 @@
 //! as strings, quadratic searches, one list of tests after another. It exists
 //! to be compared with the fast one and shares no code with it. It stays at
 //! document 01: no later request is in it, so its values have 32 bits and it knows
-//! no `add64`. `slow.rs` puts to it what later requests read as document 01 does.
+//! no `add64` and no `cmpfail`. `slow.rs` puts to it what later requests read as document 01 does.
 
 pub type Triple = (u32, u32, u32);
 

@@ -227,10 +227,11 @@ pub enum Kind {
     Lock = 8,
     Unlock = 9,
     Add64 = 10,
+    CmpFail = 11,
 }
 
 /// The kinds in the order of their numbers, from 1.
-const KINDS: [Kind; 10] = [
+const KINDS: [Kind; 11] = [
     Kind::Load,
     Kind::Store,
     Kind::ALoad,
@@ -241,6 +242,7 @@ const KINDS: [Kind; 10] = [
     Kind::Lock,
     Kind::Unlock,
     Kind::Add64,
+    Kind::CmpFail,
 ];
 
 impl Kind {
@@ -260,6 +262,7 @@ impl Kind {
             Kind::Lock => b"lock",
             Kind::Unlock => b"unlock",
             Kind::Add64 => b"add64",
+            Kind::CmpFail => b"cmpfail",
         }
     }
 
@@ -268,7 +271,7 @@ impl Kind {
         const EACH: u8 = 1 << order::RLX | 1 << order::ACQ | 1 << order::REL | 1 << order::AR | 1 << order::SC;
         match self {
             Kind::Load => 1 << order::USED | 1 << order::UNUSED,
-            Kind::ALoad => 1 << order::RLX | 1 << order::ACQ | 1 << order::SC,
+            Kind::ALoad | Kind::CmpFail => 1 << order::RLX | 1 << order::ACQ | 1 << order::SC,
             Kind::AStore => 1 << order::RLX | 1 << order::REL | 1 << order::SC,
             Kind::Rmw | Kind::Add | Kind::Add64 => EACH,
             Kind::Fence => EACH & !(1 << order::RLX),
@@ -292,7 +295,7 @@ impl Kind {
     /// How many value fields the kind has.
     fn values(self) -> usize {
         match self {
-            Kind::Load | Kind::Store | Kind::ALoad | Kind::AStore => 1,
+            Kind::Load | Kind::Store | Kind::ALoad | Kind::AStore | Kind::CmpFail => 1,
             Kind::Rmw | Kind::Add | Kind::Add64 => 2,
             Kind::Fence | Kind::Lock | Kind::Unlock => 0,
         }
@@ -480,6 +483,7 @@ impl Cursor<'_> {
             [b'r', b'm', b'w', TAB, rest @ ..] => self.after(rest).atomic_pair(Kind::Rmw),
             [b'a', b'd', b'd', TAB, rest @ ..] => self.after(rest).atomic_pair(Kind::Add),
             [b'a', b'd', b'd', b'6', b'4', TAB, rest @ ..] => self.after(rest).atomic_pair(Kind::Add64),
+            [b'c', b'm', b'p', b'f', b'a', b'i', b'l', TAB, rest @ ..] => self.after(rest).atomic(Kind::CmpFail),
             [b'f', b'e', b'n', b'c', b'e', TAB, rest @ ..] => self.after(rest).fence(),
             [b'l', b'o', b'c', b'k', TAB, rest @ ..] => self.after(rest).mutex(Kind::Lock),
             [b'u', b'n', b'l', b'o', b'c', b'k', TAB, rest @ ..] => self.after(rest).mutex(Kind::Unlock),
@@ -699,7 +703,8 @@ fn replay(listed: &Locations, start: &Memory, events: &[Event], side: u32) -> Re
         let (usage, reads, after) = match event.kind {
             Kind::Load => (PLAIN_USE, true, event.first),
             Kind::Store => (PLAIN_USE, false, event.first),
-            Kind::ALoad => (ATOMIC_USE, true, event.first),
+            // A failed exchange is an atomic load.
+            Kind::ALoad | Kind::CmpFail => (ATOMIC_USE, true, event.first),
             Kind::AStore => (ATOMIC_USE, false, event.first),
             Kind::Rmw => (ATOMIC_USE, true, event.second),
             Kind::Add => (ATOMIC_USE, true, (event.first + event.second) % (1 << 32)),

@@ -6,7 +6,8 @@
 //! 20 and 21 are found on the lines as they stand. A text that document 01 reads
 //! otherwise than document 02 does, by a value of more than 32 bits, an `add64`
 //! or a length between the limits of both, is not put to it: there is no slow
-//! answer then. Document 01 has no registers. Under a list each access to one is put
+//! answer then. A failed exchange is put to it as an atomic load, in checks whose
+//! traces have no other. Document 01 has no registers. Under a list each access to one is put
 //! to it as an atomic store, which synchronises and whose value is not asked about,
 //! and the starts of registers are left out; 5 of a register, and 16 for 15 of its
 //! load, are found here.
@@ -21,6 +22,9 @@ const FORM_2_LIMIT: usize = 57_300;
 const OLD_LIMIT: usize = 32_400;
 /// The most registers of a list.
 const MOST_REGISTERS: usize = 32;
+/// How the lines of a failed exchange and of an atomic load begin.
+const FAILED: &[u8] = b"cmpfail\t";
+const LOADED: &[u8] = b"aload\t";
 
 /// What is left of a trace text for document 01.
 struct Plain {
@@ -190,8 +194,9 @@ fn old(text: &[u8]) -> Option<Plain> {
     let plain = plain(text);
     let within = is_over(text) || plain.lines.len() <= OLD_LIMIT;
     let mut lines = plain.lines.split(|&byte| byte == b'\n');
-    let wide = lines.any(|line| line.starts_with(b"add64\t") || line.split(|&byte| byte == b'\t').any(is_wide));
-    (within && !wide).then_some(plain)
+    let newer = |line: &[u8]| [b"add64\t".as_slice(), FAILED].iter().any(|word| line.starts_with(word));
+    let newer = lines.any(|line| newer(line) || line.split(|&byte| byte == b'\t').any(is_wide));
+    (within && !newer).then_some(plain)
 }
 
 fn stored(trace: Trace, walled: &Walled) -> Stored {
@@ -264,9 +269,44 @@ fn inserted(answer: Triple, target: &Walled) -> Triple {
     }
 }
 
+fn has_line(text: &[u8], word: &[u8]) -> bool {
+    text.split(|&byte| byte == b'\n').any(|line| line.starts_with(word))
+}
+
+/// A text with one word for another at the beginning of each line.
+fn reworded(text: &[u8], from: &[u8], to: &[u8]) -> Vec<u8> {
+    let lines = text.split(|&byte| byte == b'\n').map(|line| match line.strip_prefix(from) {
+        Some(rest) => [to, rest].concat(),
+        None => line.to_vec(),
+    });
+    lines.collect::<Vec<_>>().join(&b'\n')
+}
+
 /// The check of source, target and matching text, for rooms of so many events,
 /// events and entries.
 pub fn check(list: Option<&[u8]>, [source, target, matching]: [&[u8]; 3], rooms: [usize; 3]) -> Option<Outcome> {
+    let has = |word| [source, target].iter().any(|text| has_line(text, word));
+    if !has(FAILED) {
+        return check_old(list, [source, target, matching], rooms);
+    }
+    if has(LOADED) || [source, target].iter().any(|text| is_over(text)) {
+        return None;
+    }
+    let [first, second] = [source, target].map(|text| reworded(text, FAILED, LOADED));
+    let mut outcome = check_old(list, [&first, &second, matching], rooms)?;
+    outcome.line = reworded(&outcome.line, LOADED, FAILED);
+    if let Some((source, target, _)) = &mut outcome.stored {
+        for event in [source, target].into_iter().flat_map(|stored| stored.words.chunks_exact_mut(6)) {
+            if event[0] == 3 {
+                event[0] = 11;
+            }
+        }
+    }
+    Some(outcome)
+}
+
+/// The same, if document 01 has its kinds.
+fn check_old(list: Option<&[u8]>, [source, target, matching]: [&[u8]; 3], rooms: [usize; 3]) -> Option<Outcome> {
     let refused = |answer| Some(Outcome { answer, line: naive::offending_line(source, target, answer), stored: None });
     let listed = match listed(list) {
         Ok(listed) => listed,

@@ -4,6 +4,7 @@
 
 mod cases;
 mod counters;
+mod exchanges;
 mod forms;
 #[allow(dead_code)]
 mod generate;
@@ -175,7 +176,7 @@ fn compare_moves(list: Option<&[u8]>, text: &[u8], what: &str) {
 }
 
 fn known_cases() -> usize {
-    let known = [cases::all(), forms::checks(), counters::checks(), zeros::checks(), lists::checks(), lists::examples()].concat();
+    let known = [cases::all(), forms::checks(), counters::checks(), zeros::checks(), exchanges::checks(), lists::checks(), lists::examples()].concat();
     for known in &known {
         assert_eq!(compare(&known.case, &known.name).answer, known.answer, "{}: answer by hand", known.name);
     }
@@ -206,7 +207,7 @@ fn parts_of_texts() {
 }
 
 fn known_moves() -> usize {
-    let moves = [forms::moves(), counters::moves(), zeros::moves(), lists::moves()].concat();
+    let moves = [forms::moves(), counters::moves(), zeros::moves(), exchanges::moves(), lists::moves()].concat();
     for KnownMove { name, handed, answer, moved } in &moves {
         let what = format!("move: {name}");
         assert_eq!(move_to(handed.list.as_deref(), handed.to, &handed.text, handed.bytes, &what), (*answer, moved.clone()), "{what}");
@@ -216,7 +217,7 @@ fn known_moves() -> usize {
 
 /// The writings that are known by hand; what is written is read back.
 fn known_writings() -> usize {
-    let writings = [forms::writings(), counters::writings(), zeros::writings(), lists::writings()].concat();
+    let writings = [forms::writings(), counters::writings(), zeros::writings(), exchanges::writings(), lists::writings()].concat();
     for KnownWriting { name, handed, answer: by_hand } in &writings {
         let what = format!("writing: {name}");
         let (memory, words) = handed.read();
@@ -237,7 +238,7 @@ fn writer_cases() -> usize {
     let lock = [8, 0, 0, 0, 0, 0];
     const LAST_32: Word = u32::MAX as Word;
     let bad: &[[Word; 6]] = &[
-        [0, 0, 0, 0, 0, 0], [11, 0, 0, 0, 0, 0], [Word::MAX, 0, 0, 0, 0, 0], [(1 << 32) + 8, 0, 0, 0, 0, 0], [257, 0, 0, 0, 0, 0],
+        [0, 0, 0, 0, 0, 0], [12, 0, 1, 0, 0, 0], [Word::MAX, 0, 0, 0, 0, 0], [(1 << 32) + 8, 0, 0, 0, 0, 0], [257, 0, 0, 0, 0, 0],
         [1, 0, 0, 0, 0, 0], [1, 0, 5, 0, 0, 0], [1, 0, 8, 0, 0, 0], [1, 256, 6, 0, 0, 0], [1, 0, 6, 0, 1, 0], [1, 0, 6, 0, 0, 65_536],
         [2, 0, 1, 0, 0, 0], [2, 0, 6, 0, 0, 0], [2, 256, 0, 0, 0, 0], [2, 0, 0, 0, 7, 0], [2, 0, 256, 0, 0, 0],
         [3, 0, 0, 0, 0, 0], [3, 0, 3, 0, 0, 0], [3, 0, 4, 0, 0, 0], [3, 0, 1, 0, 1, 0], [3, 0, 257, 0, 0, 0],
@@ -246,6 +247,7 @@ fn writer_cases() -> usize {
         [7, 0, 2, 1, 0, 0], [7, 0, 2, 0, 1, 0], [7, 0, 0, 0, 0, 0], [8, 256, 0, 0, 0, 0], [8, 0, 1, 0, 0, 0], [8, 0, 0, 1, 0, 0],
         [9, 0, 0, 0, 1, 0], [9, 0, 0, 0, 0, Word::MAX], [9, 0, 5, 0, 0, 0],
         [10, 0, 0, 0, 0, 0], [10, 0, 6, 0, 0, 0], [10, 256, 1, 0, 0, 0], [10, 0, 1, 0, 0, 65_536], [2, 1 << 32, 0, 0, 0, 0], [8, 0, 1 << 32, 0, 0, 0],
+        [11, 0, 0, 0, 0, 0], [11, 0, 3, 0, 0, 0], [11, 0, 4, 0, 0, 0], [11, 0, 6, 0, 0, 0], [11, 0, 1, 0, 1, 0], [11, 256, 1, 0, 0, 0],
     ];
     let write_in = |form, memory: &Memory, room: &[Word]| written("writer", 100, |out| peer::write_trace(None, form, memory, room, out)).0;
     let write = |memory: &Memory, room: &[Word]| write_in(Form::One, memory, room);
@@ -284,14 +286,18 @@ fn known_lists() -> usize {
     known.len()
 }
 
-/// Random triples with a list or without, every other of traces of both forms: how
-/// many have each answer, and how many the slow checker knows.
+/// Random triples with a list or without, every other of traces of both forms, every
+/// third with failed exchanges: how many have each answer, and how many the slow
+/// checker knows.
 fn random_cases(seed: u64, count: usize, lists: Lists) -> ([usize; ANSWERS], usize) {
     let mut random = Random::new(seed);
     let mut answers = [0; ANSWERS];
     let mut slow = 0;
     for index in 0..count {
-        let case = if index % 2 == 0 { generate::case(&mut random, lists) } else { generate::mixed_case(&mut random, lists) };
+        let mut case = if index % 2 == 0 { generate::case(&mut random, lists) } else { generate::mixed_case(&mut random, lists) };
+        if index % 3 == 0 {
+            generate::fail_exchanges(&mut random, &mut case);
+        }
         let compared = compare(&case, &format!("random case {index} of seed {seed}"));
         answers[compared.answer.0 as usize] += 1;
         slow += usize::from(compared.is_slow);

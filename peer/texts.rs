@@ -18,6 +18,7 @@ pub fn event_line(event: &Event) -> String {
         Kind::Rmw => format!("rmw\t{place}\t{order}\t{first}\t{second}\n"),
         Kind::Add => format!("add\t{place}\t{order}\t{first}\t{second}\n"),
         Kind::Add64 => format!("add64\t{place}\t{order}\t{first}\t{second}\n"),
+        Kind::CmpFail => format!("cmpfail\t{place}\t{order}\t{first}\n"),
         Kind::Fence => format!("fence\t{order}\n"),
         Kind::Lock => format!("lock\t{place}\n"),
         Kind::Unlock => format!("unlock\t{place}\n"),
@@ -68,7 +69,7 @@ pub fn add_zero(lines: &mut Vec<Vec<u8>>, location: u8) {
 /// `init` line. A text of which a line is refused stays as it is, so that its
 /// lines keep their numbers.
 pub fn with_zeros(text: &[u8]) -> Vec<u8> {
-    const TOUCHING: [&str; 7] = ["load", "store", "aload", "astore", "rmw", "add", "add64"];
+    const TOUCHING: [&str; 8] = ["load", "store", "aload", "astore", "rmw", "add", "add64", "cmpfail"];
     let read = peer::read_trace(None, text, &mut [0; MAX_EVENTS * EVENT_WORDS]);
     if (1..=4).contains(&read.answer.number) {
         return text.to_vec();

@@ -4,9 +4,10 @@
 //! name, parted by single blanks and ended by LF; the name may have blanks but
 //! no LF. The vectors end where the file ends.
 //!
-//! `vectors`, `forms`, `counters` and `zeros` hold checks, `forms` those with a
-//! trace of form 2, `counters` those with values of more than 32 bits, `add64` or
-//! the limits of texts, `zeros` those of form 2 about starting values:
+//! `vectors`, `forms`, `counters`, `zeros` and `exchanges` hold checks, `forms` those
+//! with a trace of form 2, `counters` those with values of more than 32 bits, `add64`
+//! or the limits of texts, `zeros` those of form 2 about starting values, `exchanges`
+//! those about exchanges that fail:
 //!
 //!   source length, target length, matching length (bytes),
 //!   source room, target room, entry room (words: six an event, one an entry;
@@ -70,6 +71,7 @@
 
 mod cases;
 mod counters;
+mod exchanges;
 mod forms;
 mod generate;
 mod lists;
@@ -503,6 +505,20 @@ fn zero_checks(random: &mut Random) -> File {
     file
 }
 
+/// Checks with a failed exchange, in either form.
+fn exchange_checks(random: &mut Random) -> File {
+    let mut file = File::default();
+    add_known_checks(&mut file, &exchanges::checks());
+    let draw = || loop {
+        let mut case = generate::mixed_case(random, Lists::Without);
+        if generate::fail_exchanges(random, &mut case) {
+            return case;
+        }
+    };
+    file.add_random(&CHECK_SHARES.map(|(answer, share)| (answer, share / FORM_SHARE)), draw, check_vector);
+    file
+}
+
 fn add_known_moves(file: &mut File, known: &[KnownMove]) {
     for KnownMove { name, handed, answer, moved } in known {
         let vector = move_vector(handed, 0);
@@ -519,7 +535,7 @@ fn add_known_writings(file: &mut File, known: &[KnownWriting]) {
 
 fn moves(random: &mut Random) -> File {
     let mut file = File::default();
-    add_known_moves(&mut file, &[forms::moves(), counters::moves(), zeros::moves()].concat());
+    add_known_moves(&mut file, &[forms::moves(), counters::moves(), zeros::moves(), exchanges::moves()].concat());
     let draw = || {
         let text = generate::mixed_case(random, Lists::Without).source;
         generate::move_of(random, None, &text)
@@ -530,7 +546,7 @@ fn moves(random: &mut Random) -> File {
 
 fn writings(random: &mut Random) -> File {
     let mut file = File::default();
-    add_known_writings(&mut file, &[forms::writings(), counters::writings(), zeros::writings()].concat());
+    add_known_writings(&mut file, &[forms::writings(), counters::writings(), zeros::writings(), exchanges::writings()].concat());
     file.add_random(&WRITING_SHARES, || random_writing(random, Lists::Without), writing_vector);
     file
 }
@@ -622,6 +638,7 @@ fn examples() -> Vec<Known> {
         known("code", example!("code"), (14, 1, 7)),
         known("count", example!("count"), DONE),
         known("start", example!("start"), (20, 2, 1)),
+        known("claim", example!("claim"), (11, 1, 4)),
     ]
 }
 
@@ -661,7 +678,7 @@ fn has_step(known: &Known) -> bool {
 fn runs(random: &mut Random) -> File {
     let mut file = File::default();
     let requirement = cases::runs();
-    let others = [cases::all().split_off(requirement.len()), forms::checks(), counters::checks(), zeros::checks()].concat();
+    let others = [cases::all().split_off(requirement.len()), forms::checks(), counters::checks(), zeros::checks(), exchanges::checks()].concat();
     let first = requirement.into_iter().chain(examples()).chain([backwards()]);
     for Known { name, case, answer } in first.chain(others.into_iter().filter(has_step)) {
         file.add_known(&name, &run_vector(&case, 0), answer);
@@ -676,11 +693,12 @@ fn main() {
     let folder = arguments.next().expect("the folder to write the files in");
     let folder = Path::new(&folder);
     let seed = arguments.next().map_or(1, |seed| seed.parse().expect("the seed is a number"));
-    let files: [(&str, fn(&mut Random) -> File); 12] = [
+    let files: [(&str, fn(&mut Random) -> File); 13] = [
         ("vectors", checks),
         ("forms", form_checks),
         ("counters", counter_checks),
         ("zeros", zero_checks),
+        ("exchanges", exchange_checks),
         ("moves", moves),
         ("writes", writings),
         ("runs", runs),

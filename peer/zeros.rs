@@ -13,8 +13,9 @@ fn bare(lines: &str) -> Vec<u8> {
 }
 
 /// Every kind that touches location 1, which is 0 before.
-const TOUCHING: [&str; 7] = [
+const TOUCHING: [&str; 8] = [
     "load 1 0 used 7", "store 1 5 7", "aload 1 rlx 0 7", "astore 1 rel 5 7", "rmw 1 ar 0 5 7", "add 1 sc 0 5 7", "add64 1 acq 0 5 7",
+    "cmpfail 1 rlx 0 7",
 ];
 
 /// Every kind that touches no location.

@@ -1,4 +1,4 @@
-// Checks the files of the examples as the program does, then runs every vector of twelve files and prints which differ.
+// Checks the files of the examples as the program does, then runs every vector of thirteen files and prints which differ.
 mod back;
 mod check;
 mod lent;
@@ -93,6 +93,13 @@ fn print_examples() {
         b"examples/start/source",
         b"examples/start/target",
         b"examples/start/matching",
+    );
+    judge_files(
+        Wanted::Answer,
+        no_list(),
+        b"examples/claim/source",
+        b"examples/claim/target",
+        b"examples/claim/matching",
     );
     judge_files(
         Wanted::Answer,
@@ -209,6 +216,7 @@ fn main() {
     run_file(Task::Check, false, b"forms", b"written back");
     run_file(Task::Check, false, b"counters", b"written back");
     run_file(Task::Check, false, b"zeros", b"written back");
+    run_file(Task::Check, false, b"exchanges", b"written back");
     run_file(Task::Move, false, b"moves", b"moved back");
     run_file(Task::Write, false, b"writes", b"written back");
     run_file(Task::Run, false, b"runs", b"steps");
