@@ -5,11 +5,12 @@ use mathlib.Core.List.{List}
 use mathlib.Core.Path.{_≡_, _∙_, ap}
 use Rattle.event.specs.declared.Event.{Event}
 use Rattle.rules.specs.View.{View}
-use Rattle.steps.specs.Play.{Applies, nextBy, outcomeBy}
-use Rattle.steps.specs.declared.Applied.{Applied}
-use Rattle.steps.specs.declared.Run.{Run}
+use Rattle.changes.specs.Apply.{Applies, outcomeBy}
+use Rattle.changes.specs.declared.Applied.{Applied}
+use Rattle.changes.specs.declared.Run.{Run}
+use Rattle.changes.specs.declared.Step.{Step}
+use Rattle.steps.specs.Play.{nextBy}
 use Rattle.steps.specs.declared.Started.{Started}
-use Rattle.steps.specs.declared.Step.{Step}
 use Rattle.export.specs.Numbers.{flag}
 use Rattle.export.specs.Runs.{Leaves, Opens, runNumbers, startNumbers, stepNumbers}
 

@@ -7,11 +7,12 @@ use mathlib.Core.Path.{_≡_}
 use lib.Dec.{eqb}
 use Rattle.rules.specs.Run.{Traced}
 use Rattle.checker.specs.Check.{Lent, sourceRoomAfter, targetRoomAfter, entryRoomAfter, sourceRoomListed, targetRoomListed, entryRoomListed}
-use Rattle.steps.specs.Play.{appliedOf, startedListed, startedOf, tagsAfter, tagsListed, tagsOf}
-use Rattle.steps.specs.declared.Run.{Run}
+use Rattle.changes.specs.Apply.{appliedOf, tagsAfter}
+use Rattle.changes.specs.declared.Run.{Run}
+use Rattle.changes.specs.declared.Step.{Step}
+use Rattle.changes.specs.declared.Step.the-variants.{Remove, Swap, Insert, Done, Stuck}
+use Rattle.steps.specs.Play.{startedListed, startedOf, tagsListed, tagsOf}
 use Rattle.steps.specs.declared.Started.{Started}
-use Rattle.steps.specs.declared.Step.{Step}
-use Rattle.steps.specs.declared.Step.the-variants.{Remove, Swap, Insert, Done, Stuck}
 use Rattle.export.specs.Numbers.{checkNumbers, flag, flagged}
 
 -- A run: whether it has begun, and how many events stand; and back.

@@ -3,14 +3,14 @@
 use crate::check::print_found;
 use crate::print::front;
 use crate::print::print;
+use changes::Run;
+use changes::Step;
+use changes::apply_listed;
 use event::Entry;
 use event::WORDS;
 use event::Word;
 use event::listed::Listed;
-use steps::Run;
 use steps::Started;
-use steps::Step;
-use steps::apply_listed;
 use steps::next_listed;
 use steps::start_in;
 use steps::swap_place;

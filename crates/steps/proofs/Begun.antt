@@ -18,9 +18,9 @@ use Rattle.checker.specs.declared.Checked.{Checked}
 use Rattle.checker.proofs.Admitted.{admitted-exactly-in}
 use Rattle.checker.proofs.Demand3.{read-all}
 use Rattle.checker.proofs.Filled.{Entered, entered}
+use Rattle.changes.specs.Apply.{front}
 use Rattle.steps.specs.Cost.{cost}
-use Rattle.steps.specs.Play.{StartsIn, StartsListed, front, notBegun, startedIn, startedListed}
-use Rattle.steps.specs.Tags.{counted}
+use Rattle.steps.specs.Play.{StartsIn, StartsListed, notBegun, startedIn, startedListed, counted}
 use Rattle.steps.specs.declared.Started.{Started}
 
 -- ---- what was read

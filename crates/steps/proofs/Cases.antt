@@ -8,10 +8,11 @@ use Rattle.event.specs.Kind.{row, made, used, unused}
 use Rattle.event.specs.declared.Event.{Event}
 use Rattle.rules.specs.View.{view}
 use Rattle.rules.specs.Run.{Traced, number}
+use Rattle.changes.specs.Change.{applied}
+use Rattle.changes.specs.declared.Step.{Step}
+use Rattle.changes.specs.declared.Step.the-variants.{Remove, Swap, Insert, Done, Stuck}
 use Rattle.steps.specs.Cost.{cost}
-use Rattle.steps.specs.Step.{nextStep, applied}
-use Rattle.steps.specs.declared.Step.{Step}
-use Rattle.steps.specs.declared.Step.the-variants.{Remove, Swap, Insert, Done, Stuck}
+use Rattle.steps.specs.Step.{nextStep}
 
 -- the next steps, at most so many; the last of them says how it ended
 abbrev listed : ℕ → List ℕ → List Event → Option (List Traced) → List Step

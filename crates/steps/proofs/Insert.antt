@@ -18,11 +18,12 @@ use Rattle.rules.specs.Run.{old, new, Traced, traced, tagOf, viewed, Inserted, 
 use Rattle.rules.proofs.Fixed.{Fill, full, leave, put}
 use Rattle.rules.proofs.Traced.{Genuine}
 use Rattle.rules.proofs.Truth.{T-true}
-use Rattle.steps.specs.Allowed.{mayInsert}
-use Rattle.steps.specs.Step.{leaves, targetNumber, against, missing, inserted, nextStep, applied, under, at, Replays, ended, stepped}
-use Rattle.steps.specs.declared.Step.the-variants.{Insert}
+use Rattle.changes.specs.Allowed.{mayInsert}
+use Rattle.changes.specs.Change.{inserted, applied, under, at}
+use Rattle.changes.specs.declared.Step.the-variants.{Insert}
+use Rattle.changes.proofs.May.{if-insertable}
+use Rattle.steps.specs.Step.{leaves, targetNumber, against, missing, nextStep, Replays, ended, stepped}
 use Rattle.steps.proofs.Counts.{below, inverted, total}
-use Rattle.steps.proofs.May.{if-insertable}
 use Rattle.steps.proofs.Tags.{Numbers, Stands, none-gone, numbers, stand, ended-at}
 
 -- what stands behind b, with b in front of it again

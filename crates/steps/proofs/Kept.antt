@@ -17,16 +17,16 @@ use Rattle.trace.specs.Reading.{eventLimit}
 use Rattle.rules.specs.View.{View}
 use Rattle.rules.specs.Run.{new, Traced, traced, tagOf, viewed}
 use Rattle.rules.proofs.Truth.{and-right}
-use Rattle.steps.specs.Allowed.{mayInsert, mayRemove, maySwap}
-use Rattle.steps.specs.Play.{front, isOpen, stands}
-use Rattle.steps.specs.Step.{applied, at, inserted, isSource, removed, swapped, under}
-use Rattle.steps.specs.Tags.{code, codes, trace, tracedFor}
-use Rattle.steps.specs.declared.Run.{Run}
-use Rattle.steps.specs.declared.Step.{Step}
-use Rattle.steps.specs.declared.Step.the-variants.{Remove, Swap, Insert, Done, Stuck}
-use Rattle.steps.proofs.Allow.{passed, through}
-use Rattle.steps.proofs.Outcomes.{new-one}
-use Rattle.steps.proofs.Traces.{code-decoded}
+use Rattle.changes.specs.Allowed.{mayInsert, mayRemove, maySwap}
+use Rattle.changes.specs.Apply.{front, isOpen, stands}
+use Rattle.changes.specs.Change.{applied, at, inserted, isSource, removed, swapped, under}
+use Rattle.changes.specs.Tags.{code, codes, trace, tracedFor}
+use Rattle.changes.specs.declared.Run.{Run}
+use Rattle.changes.specs.declared.Step.{Step}
+use Rattle.changes.specs.declared.Step.the-variants.{Remove, Swap, Insert, Done, Stuck}
+use Rattle.changes.proofs.Allow.{passed, through}
+use Rattle.changes.proofs.Outcomes.{new-one}
+use Rattle.changes.proofs.Traces.{code-decoded}
 
 -- a relation that holds where a step happens holds of the whole
 at-rel : (R : List Traced → List Traced → Type 0) → ((x : Traced) (u v : List Traced) → R u v → R (x ∷ u) (x ∷ v))

@@ -15,10 +15,10 @@ use Rattle.rules.specs.View.{View}
 use Rattle.rules.specs.Moves.{Run}
 use Rattle.rules.specs.Run.{old, Traced, tagOf, number, origin, changes, Ends}
 use Rattle.rules.proofs.Entries.{Entries, Once, Within}
+use Rattle.changes.proofs.May.{not-so}
 use Rattle.steps.specs.Cost.{bit, cost, isKept, many, stepsOf}
 use Rattle.steps.proofs.Counts.{fresh, fresh-begin, inverted-begin, isNew, lost-begin, none-lost, stays, stays-begin, total}
 use Rattle.steps.proofs.Insert.{inverted-rises, rises-numbers}
-use Rattle.steps.proofs.May.{not-so}
 use Rattle.steps.proofs.Tags.{ended-at, numbers, stand}
 use Rattle.steps.proofs.Weigh.{less-ones, weigh-ones, adds-twos, weigh-twos}
 

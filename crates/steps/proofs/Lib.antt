@@ -1,9 +1,8 @@
 -- What is proved of the steps. Assumes nothing.
 
--- tests, tags, and a step as a move
-pub mod May
+-- tags, and a replay as a run
 pub mod Tags
-pub mod Allow
+pub mod Runs
 -- the fixed order is the next steps, as many as the matching costs
 pub mod Counts
 pub mod Remove
@@ -18,12 +17,9 @@ pub mod Words
 pub mod Rising
 pub mod Cases
 -- the same by index
-pub mod Seam
-pub mod Traces
+pub mod Searches
 pub mod Numbers
-pub mod Shifts
-pub mod Outcomes
-pub mod Changes
+pub mod Counted
 pub mod Kept
 pub mod Resume
 pub mod Plays
@@ -32,4 +28,3 @@ pub mod Begun
 pub mod Texts
 pub mod Unlisted
 pub mod Unique
-pub mod Near

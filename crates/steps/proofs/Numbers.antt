@@ -2,15 +2,17 @@
 use mathlib.Core.Path.{_≡_, refl, sym}
 use mathlib.Core.Bool.{Bool, true, false, cond, false≢true}
 use Prim.Native.Nat.{ℕ, zero, suc, _-_, _<_}
-use mathlib.Core.List.{List}
+use mathlib.Core.List.{List, [], _∷_}
 use lib.Dec.{eqb, ltb, eqb·suc-zero}
-use lib.ListN.{getD}
+use native.Mathlib.Omega.{arith}
+use lib.ListN.{getD, length}
 use borrow.Author.Tests.{ltb-true}
+use Rattle.event.specs.declared.Event.{Event}
 use Rattle.trace.specs.Reading.{eventLimit}
 use Rattle.rules.specs.Fault.{isGone}
 use Rattle.rules.specs.Run.{old, new}
-use Rattle.steps.specs.Step.{leaves, sourceNumber, targetNumber}
-use Rattle.steps.specs.Tags.{decoded}
+use Rattle.changes.specs.Tags.{decoded, trace}
+use Rattle.steps.specs.Step.{leaves, numberAt, sourceNumber, targetNumber}
 
 zero-gone : (n : ℕ) → isGone n ≡ eqb n 0
 zero-gone zero = refl
@@ -32,3 +34,9 @@ leaving-old ns k h = go (ltb k eventLimit) refl h
         → (k < eventLimit) × (sourceNumber (cond c (old (suc k)) (new (suc (k - eventLimit)))) ≡ suc k)
     go true e h = (ltb-true k eventLimit e, refl)
     go false e h = absurd (false≢true h)
+
+-- the source number at an index
+pub number-at : (s t : List Event) (ks : List ℕ) (i : ℕ) → i < length ks → numberAt (trace s t ks) i ≡ sourceNumber (decoded (getD ks i 0))
+number-at s t [] i h = absurd (omega arith)
+number-at s t (k ∷ ks) zero h = refl
+number-at s t (k ∷ ks) (suc i) h = number-at s t ks i (omega arith)

@@ -5,38 +5,24 @@ use mathlib.Core.Option.{Option, none, some, Option·none-ne-some}
 use mathlib.Core.List.{List, [], _∷_}
 use Prim.Native.Nat.{ℕ, zero, suc, _+_, _-_, _≤_, _<_}
 use native.Mathlib.Omega.{arith}
-use lib.ListN.{length, take, drop, length-append, length-drop}
+use lib.ListN.{length, take}
 use Rattle.event.specs.declared.Event.{Event}
 use Rattle.trace.specs.Reading.{eventLimit}
 use Rattle.rules.specs.View.{View}
 use Rattle.rules.specs.Run.{Traced}
-use Rattle.steps.specs.Play.{
-  Applies,
-  Played,
-  Plays,
-  front,
-  isDone,
-  isOpen,
-  nextBy,
-  nextFromBy,
-  oneMore,
-  onward,
-  outcomeBy,
-  playBy,
-  stands,
-  stopped,
-  swapPlace,
-}
-use Rattle.steps.specs.Step.{applied, nextStep}
-use Rattle.steps.specs.Tags.{codes}
-use Rattle.steps.specs.declared.Applied.{Applied}
+use Rattle.changes.specs.Apply.{Applies, front, isOpen, outcomeBy, stands}
+use Rattle.changes.specs.Change.{applied}
+use Rattle.changes.specs.Tags.{codes}
+use Rattle.changes.specs.declared.Applied.{Applied}
+use Rattle.changes.specs.declared.Run.{Run}
+use Rattle.changes.specs.declared.Step.{Step}
+use Rattle.changes.proofs.Changes.{fits}
+use Rattle.changes.proofs.Traces.{length-trace}
+use Rattle.steps.specs.Play.{Played, Plays, isDone, nextBy, nextFromBy, oneMore, onward, playBy, stopped, swapPlace}
+use Rattle.steps.specs.Step.{nextStep}
 use Rattle.steps.specs.declared.Replayed.{Replayed}
-use Rattle.steps.specs.declared.Run.{Run}
-use Rattle.steps.specs.declared.Step.{Step}
-use Rattle.steps.proofs.Changes.{fits}
-use Rattle.steps.proofs.Kept.{coded-applied, few-applied, length-codes, open-running, running, stands-front}
+use Rattle.steps.proofs.Kept.{coded-applied, few-applied, open-running, running, stands-front}
 use Rattle.steps.proofs.Resume.{resumed}
-use Rattle.steps.proofs.Traces.{length-trace}
 
 -- ---- what was applied, and what was not
 
@@ -83,12 +69,6 @@ module _ (look : Event → View) (s t : List Event) (ns : List ℕ) where
     pub open-after : isOpen (running u) ≡ true
     open-after = open-running u few-after
 
-    size-after : length A ≡ eventLimit → length (front (codes u) A) ≡ eventLimit
-    size-after l =
-        let m = length-codes u in
-        let f = few-after in
-        length-append (codes u) (drop (length (codes u)) A) ∙ omega (arith, length-drop (length (codes u)) A)
-
   -- the next step asked for from the last swap's place on
   asked-on : (r : Run) (A : List ℕ) (u : List Traced) → outcomeBy look s t r A (nextBy look s t ns 0 r A) ≡ some u
       → nextBy look s t ns (swapPlace (nextBy look s t ns 0 r A)) (running u) (front (codes u) A) ≡ nextBy look s t ns 0 (running u) (front (codes u) A)
@@ -122,15 +102,13 @@ stops-here p r A st k e result q = let z : k ≡ k + 0 = omega arith in rw e (re
 
 -- a replay of p is under way
 pub record Going (look : Event → View) (s t : List Event) (ns : List ℕ) (budget : ℕ) (p : Played) (A : List ℕ) (r : Run) (swapped steps : ℕ) : Type 0 where
-  pub size : length A ≡ eventLimit
   pub bound : steps ≤ budget
   pub asked : nextBy look s t ns swapped r A ≡ nextBy look s t ns 0 r A
   pub same : p ≡ later steps (playBy look s t ns (budget - steps) r A)
 
-pub going : (look : Event → View) (s t : List Event) (ns : List ℕ) (budget : ℕ) (A : List ℕ) (r : Run) → length A ≡ eventLimit
+pub going : (look : Event → View) (s t : List Event) (ns : List ℕ) (budget : ℕ) (A : List ℕ) (r : Run)
     → Going look s t ns budget (playBy look s t ns budget r A) A r 0 0
-going look s t ns budget A r l = record {
-  size = l;
+going look s t ns budget A r = record {
   bound = omega arith;
   asked = refl;
   same =
@@ -157,7 +135,6 @@ module _ (look : Event → View) (s t : List Event) (ns : List ℕ) (budget : �
       let c : budget - steps ≡ suc (budget - suc steps) = omega arith in
       let k : (i : ℕ) → steps + suc i ≡ suc steps + i = λ i. omega arith in
       record {
-        size = size-after look s t ns r A (nextBy look s t ns 0 r A) u o (g .size);
         bound = omega arith;
         asked = ap (λ x. nextBy look s t ns (swapPlace x) (running u) (front (codes u) A)) is-next ∙ asked-on look s t ns r A u o;
         same = g .same ∙ (ap (λ b. later steps (playBy look s t ns b r A)) c

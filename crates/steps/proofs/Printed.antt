@@ -18,10 +18,11 @@ use Rattle.rules.proofs.FixedRun.{orderly-lasts}
 use Rattle.rules.proofs.Realise.{FixedOrder}
 use Rattle.rules.proofs.Traced.{Leaves, Overtakes}
 use Rattle.rules.proofs.Theorem.{in-fixed-order-in}
+use Rattle.changes.proofs.Allow.{allowed as is-move}
 use Rattle.steps.specs.Step.{Replays}
 use Rattle.steps.specs.Cost.{cost}
 use Rattle.steps.specs.Promise.{Printed, AsMany, NoFewer, Allowed, ReplaysRun, pairs}
-use Rattle.steps.proofs.Allow.{allowed as is-move, replays-run as is-run}
+use Rattle.steps.proofs.Runs.{replays-run as is-run}
 use Rattle.steps.proofs.Counts.{few-steps, gone-or-kept, inverted-begin, length-number, lost-begin, none-lost}
 use Rattle.steps.proofs.Least.{least}
 use Rattle.steps.proofs.Tags.{Stands, numbers, stand}

@@ -13,10 +13,11 @@ use Rattle.rules.specs.Run.{Tag, old, new, Traced, tagOf, viewed, changes}
 use Rattle.rules.proofs.Fixed.{Still, Last, Lasts, out, under as further, end, more}
 use Rattle.rules.proofs.Traced.{Leaves}
 use Rattle.rules.proofs.Truth.{or-left, or-right, T-true}
-use Rattle.steps.specs.Allowed.{mayRemove}
-use Rattle.steps.specs.Step.{isSource, sourceNumber, leaves, anyGone, removal, removed, numberAt, nextStep, applied, under, at, Replays, stepped}
+use Rattle.changes.specs.Allowed.{mayRemove}
+use Rattle.changes.specs.Change.{isSource, removed, applied, under, at}
+use Rattle.changes.proofs.May.{if-removable, not-both, both}
+use Rattle.steps.specs.Step.{sourceNumber, leaves, anyGone, removal, numberAt, nextStep, Replays, stepped}
 use Rattle.steps.proofs.Counts.{below, below-gone, gone-below, inverted, lost, total}
-use Rattle.steps.proofs.May.{if-removable, not-both, both}
 use Rattle.steps.proofs.Tags.{if-leaves}
 
 own-number : (ns : List ℕ) (g : Tag) → T (leaves ns g) → T (isSource (sourceNumber g) g)

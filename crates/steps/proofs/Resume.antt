@@ -12,12 +12,13 @@ use Rattle.event.specs.declared.Event.{Event}
 use Rattle.rules.specs.View.{View}
 use Rattle.rules.specs.Moves.{two}
 use Rattle.rules.specs.Run.{Traced, tagOf}
+use Rattle.changes.specs.Change.{applied, at, swapped, under}
+use Rattle.changes.specs.declared.Step.{Step}
+use Rattle.changes.specs.declared.Step.the-variants.{Remove, Swap, Insert, Done, Stuck}
+use Rattle.changes.proofs.Allow.{at-move, swapped-move}
 use Rattle.steps.specs.Play.{nextFromBy, swapPlace}
-use Rattle.steps.specs.Step.{against, anyGone, applied, at, hereOrLater, missing, nextStep, overtakes, removal, removeStep, shifted, swapStep}
-use Rattle.steps.specs.Step.{swapped, targetNumber, under}
-use Rattle.steps.specs.declared.Step.{Step}
-use Rattle.steps.specs.declared.Step.the-variants.{Remove, Swap, Insert, Done, Stuck}
-use Rattle.steps.proofs.Allow.{at-move, still-none, swapped-move}
+use Rattle.steps.specs.Step.{against, anyGone, hereOrLater, missing, nextStep, overtakes, removal, removeStep, shifted, swapStep, targetNumber}
+use Rattle.steps.proofs.Runs.{still-none}
 
 pub unshifted : (o : Option ℕ) → shifted 0 o ≡ o
 unshifted none = refl

@@ -18,21 +18,21 @@ use Rattle.trace.specs.Reading.{eventLimit}
 use Rattle.rules.specs.Run.{new, Traced, traced, tagOf, number, viewed}
 use Rattle.rules.specs.Fault.{isGone}
 use Rattle.rules.proofs.Entries.{Once, from-start}
-use Rattle.steps.specs.Allowed.{mayInsert, maySwap}
+use Rattle.changes.specs.Allowed.{mayInsert, maySwap}
+use Rattle.changes.specs.Change.{swapped, inserted, applied, under, at, phase}
+use Rattle.changes.specs.declared.Step.{Step}
+use Rattle.changes.specs.declared.Step.the-variants.{Remove, Swap, Insert, Done, Stuck}
+use Rattle.changes.proofs.Allow.{through, passed}
+use Rattle.changes.proofs.May.{not-so}
 use Rattle.steps.specs.Cost.{bit, isKept, many}
-use Rattle.steps.specs.Step.{leaves, targetNumber, overtakes, anyGone, against, hereOrLater}
-use Rattle.steps.specs.Step.{missing, removal, removeStep, swapStep, nextStep, swapped, inserted}
-use Rattle.steps.specs.Step.{applied, under, at, phase}
-use Rattle.rules.specs.Moves.{one, two}
-use Rattle.steps.specs.declared.Step.{Step}
-use Rattle.steps.specs.declared.Step.the-variants.{Remove, Swap, Insert, Done, Stuck}
-use Rattle.steps.proofs.Allow.{move-one, through, passed, phase-missing}
+use Rattle.steps.specs.Step.{leaves, targetNumber, overtakes, anyGone, against, hereOrLater, missing, removal, removeStep, swapStep, nextStep}
+use Rattle.steps.proofs.Runs.{move-one, phase-missing}
 use Rattle.steps.proofs.Insert.{Rises}
-use Rattle.steps.proofs.May.{not-so}
 use Rattle.steps.proofs.Tags.{Stands}
 use Rattle.steps.proofs.Counts.{total, begins}
 use Rattle.steps.proofs.Weigh.{less-one}
 use Rattle.steps.proofs.Words.{Along, here, on, targets, least-missing}
+use Rattle.rules.specs.Moves.{one, two}
 
 -- ---- a number comes once among the entries
 

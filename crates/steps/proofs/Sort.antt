@@ -14,9 +14,10 @@ use Rattle.rules.proofs.FixedRun.{orderly-low}
 use Rattle.rules.proofs.Sorting.{above-asym}
 use Rattle.rules.proofs.Traced.{Leaves, Overtakes, image}
 use Rattle.rules.proofs.Truth.{T-true}
-use Rattle.steps.specs.Allowed.{maySwap}
-use Rattle.steps.specs.Step.{overtakes, against, swapped, nextStep, applied, under, at, Replays, stepped}
-use Rattle.steps.proofs.May.{not-so}
+use Rattle.changes.specs.Allowed.{maySwap}
+use Rattle.changes.specs.Change.{swapped, applied, under, at}
+use Rattle.changes.proofs.May.{not-so}
+use Rattle.steps.specs.Step.{overtakes, against, nextStep, Replays, stepped}
 use Rattle.steps.proofs.Tags.{if-overtakes, Stands, none-gone}
 use Rattle.steps.proofs.Counts.{total, below, inverted}
 

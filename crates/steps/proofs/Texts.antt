@@ -26,25 +26,26 @@ use Rattle.checker.specs.Check.{Lent, checkIn, sourceReadIn, targetReadIn, verd
 use Rattle.checker.specs.Demand.{entriesFor, sourceOf, targetOf}
 use Rattle.checker.proofs.Answers.{by-list as check-by-list, by-refused as check-by-refused}
 use Rattle.checker.proofs.Demand3.{judged, passes}
+use Rattle.changes.specs.Apply.{front, isOpen, outcomeBy, stands}
+use Rattle.changes.specs.Change.{applied}
+use Rattle.changes.specs.Tags.{codes, trace}
+use Rattle.changes.specs.declared.Run.{Run}
+use Rattle.changes.specs.declared.Step.{Step}
+use Rattle.changes.specs.declared.Step.the-variants.{Remove, Swap, Insert, Done, Stuck}
 use Rattle.steps.specs.Cost.{cost}
-use Rattle.steps.specs.Play.{Played, beginning, costIn, front, isDone, isOpen, nextBy, outcomeBy, playBy, stands, tagsBegun}
-use Rattle.steps.specs.Play.{startedIn, startedListed, startedOf, tagsIn, tagsOf}
-use Rattle.steps.specs.Promise.{AsManyBy, AsManyIn, AsManyListed, AsManyTexts, CheckedListed}
-use Rattle.steps.specs.Promise.{NoFewerBy, NoFewerIn, NoFewerListed, NoFewerTexts, NoStepBy, NoStepListed}
-use Rattle.steps.specs.Promise.{PrintedBy, PrintedIn, PrintedListed, PrintedTexts, Resumed, replayBy}
-use Rattle.steps.specs.Step.{Replays, applied, ended, nextStep, stepped}
-use Rattle.steps.specs.Tags.{codes, counted, trace}
-use Rattle.steps.specs.declared.Run.{Run}
+use Rattle.steps.specs.Play.{Played, beginning, costIn, isDone, nextBy, playBy, tagsBegun, startedIn, startedListed, startedOf, tagsIn, tagsOf}
+use Rattle.steps.specs.Play.{counted}
+use Rattle.steps.specs.Promise.{AsManyBy, AsManyIn, AsManyListed, AsManyTexts, CheckedListed, NoFewerBy, NoFewerIn, NoFewerListed, NoFewerTexts}
+use Rattle.steps.specs.Promise.{NoStepBy, NoStepListed, PrintedBy, PrintedIn, PrintedListed, PrintedTexts, Resumed, replayBy}
+use Rattle.steps.specs.Step.{Replays, ended, nextStep, stepped}
 use Rattle.steps.specs.declared.Started.{Started}
-use Rattle.steps.specs.declared.Step.{Step}
-use Rattle.steps.specs.declared.Step.the-variants.{Remove, Swap, Insert, Done, Stuck}
-use Rattle.steps.proofs.Allow.{replays-run}
+use Rattle.steps.proofs.Runs.{replays-run}
 use Rattle.steps.proofs.Begun.{admitted, by-list, by-refused, source-few, standing, target-few}
 use Rattle.steps.proofs.Kept.{running}
 use Rattle.steps.proofs.Plays.{next-open, open-after, play-off, play-on, stands-after}
 use Rattle.steps.proofs.Printed.{as-many, no-fewer, printed}
 use Rattle.steps.proofs.Resume.{resumed}
-use Rattle.steps.proofs.Traces.{counted-length, trace-source}
+use Rattle.steps.proofs.Counted.{counted-length, trace-source}
 
 -- ---- a replay in the array is a replay
 

@@ -2,10 +2,8 @@
 use mathlib.Core.Path.{sym, _∙_}
 use Rattle.laws.specs.Unique.{OneAnswer, OneOf}
 use Rattle.steps.proofs.next.Reads as next
-use Rattle.steps.proofs.apply.Reads as apply
 use Rattle.steps.proofs.replay.Reads as replay
 use Rattle.steps.proofs.next_listed.Reads as next-listed
-use Rattle.steps.proofs.apply_listed.Reads as apply-listed
 use Rattle.steps.proofs.replay_listed.Reads as replay-listed
 use Rattle.steps.proofs.start.Reads as start
 use Rattle.steps.proofs.start_in.Reads as start-in
@@ -63,12 +61,6 @@ swap-place-one κ a x y s t h k = h ∙ sym k
 next-one : OneAnswer next.Post
 next-one κ a x y s t h k = h ∙ sym k
 
-apply-one : OneAnswer apply.Post
-apply-one κ a x y s t h k = h .answer ∙ sym (k .answer)
-
-apply-tags : OneOf apply.Post (λ κ r s. s .1 .0 .now)
-apply-tags κ a x y s t h k = h .left ∙ sym (k .left)
-
 replay-one : OneAnswer replay.Post
 replay-one κ a x y s t h k = h .answer ∙ sym (k .answer)
 
@@ -77,12 +69,6 @@ replay-tags κ a x y s t h k = h .left ∙ sym (k .left)
 
 next-listed-one : OneAnswer next-listed.Post
 next-listed-one κ a x y s t h k = h ∙ sym k
-
-apply-listed-one : OneAnswer apply-listed.Post
-apply-listed-one κ a x y s t h k = h .answer ∙ sym (k .answer)
-
-apply-listed-tags : OneOf apply-listed.Post (λ κ r s. s .1 .1 .0 .now)
-apply-listed-tags κ a x y s t h k = h .left ∙ sym (k .left)
 
 replay-listed-one : OneAnswer replay-listed.Post
 replay-listed-one κ a x y s t h k = h .answer ∙ sym (k .answer)

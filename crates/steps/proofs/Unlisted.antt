@@ -6,19 +6,13 @@ use Rattle.event.specs.Listed.{noneListed}
 use Rattle.event.specs.declared.Event.{Event}
 use Rattle.rules.specs.View.{View, viewIn}
 use Rattle.rules.proofs.Unlisted.{view-none}
-use Rattle.steps.specs.Play.{Applies, Plays, nextBy, nextOf, outcome, outcomeBy, play, playBy}
-use Rattle.steps.specs.declared.Applied.{Applied}
+use Rattle.changes.specs.declared.Run.{Run}
+use Rattle.steps.specs.Play.{Plays, nextBy, nextOf, play, playBy}
 use Rattle.steps.specs.declared.Replayed.{Replayed}
-use Rattle.steps.specs.declared.Run.{Run}
-use Rattle.steps.specs.declared.Step.{Step}
 
 module _ (s t : List Event) (r : Run) (tags : List ℕ) where
   pub next-none : (ns : List ℕ) (swapped : ℕ) → nextBy (viewIn noneListed) s t ns swapped r tags ≡ nextOf s t ns swapped r tags
   next-none ns swapped = ap (λ (look : Event → View). nextBy look s t ns swapped r tags) view-none
-
-  pub applies-none : (st : Step) {result : Applied} {after : List ℕ} → Applies r tags (outcomeBy (viewIn noneListed) s t r tags st) result after
-      → Applies r tags (outcome s t r tags st) result after
-  applies-none st {result} {after} h = subst (λ (look : Event → View). Applies r tags (outcomeBy look s t r tags st) result after) view-none h
 
   pub plays-none : (ns : List ℕ) (budget : ℕ) {result : Replayed} {after : List ℕ} → Plays (playBy (viewIn noneListed) s t ns budget r tags) result after
       → Plays (play s t ns budget r tags) result after

@@ -15,13 +15,14 @@ use Rattle.event.specs.declared.Event.{Event}
 use Rattle.rules.specs.View.{View}
 use Rattle.rules.specs.Moves.{Removable, one, two}
 use Rattle.rules.specs.Run.{Traced, tagOf, number, viewed}
-use Rattle.steps.specs.Allowed.{mayRemove}
-use Rattle.steps.specs.Step.{leaves, isSource, sourceNumber, targetNumber, anyGone, against}
-use Rattle.steps.specs.Step.{missing, numberAt, laterOrHere, removal, removeStep, swapStep}
-use Rattle.steps.specs.Step.{phase, nextStep, removed, applied, under, at}
-use Rattle.steps.specs.declared.Step.the-variants.{Remove, Insert, Done}
-use Rattle.steps.proofs.Allow.{move-two, still-none, through, phase-other, phase-missing}
-use Rattle.steps.proofs.May.{if-removable}
+use Rattle.changes.specs.Allowed.{mayRemove}
+use Rattle.changes.specs.Change.{isSource, removed, applied, under, at, phase}
+use Rattle.changes.specs.declared.Step.the-variants.{Remove, Insert, Done}
+use Rattle.changes.proofs.Allow.{through}
+use Rattle.changes.proofs.May.{if-removable}
+use Rattle.steps.specs.Step.{leaves, sourceNumber, targetNumber, anyGone, against, missing, numberAt, laterOrHere, removal, removeStep}
+use Rattle.steps.specs.Step.{swapStep, nextStep}
+use Rattle.steps.proofs.Runs.{move-two, still-none, phase-other, phase-missing}
 use Rattle.steps.proofs.Insert.{Rises}
 
 -- source numbers rise, above a number

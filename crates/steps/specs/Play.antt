@@ -1,14 +1,13 @@
 -- Requests C-12, C-18 and C-16: what each function hands back, and what it leaves in the lent array of 800 numbers, which holds what stands at its front. Assumes
 -- nothing.
 use mathlib.Core.Path.{_≡_}
-use mathlib.Core.Bool.{Bool, true, false, cond, _&&_}
+use mathlib.Core.Bool.{Bool, true, false, cond}
 use mathlib.Core.Option.{Option, none, some}
-use mathlib.Core.List.{List, _++_}
+use mathlib.Core.List.{List, [], _∷_}
 use Prim.Native.Nat.{ℕ, zero, suc, _-_}
-use lib.Dec.{eqb, leb}
-use lib.ListN.{length, take, drop}
+use lib.Dec.{eqb}
+use lib.ListN.{length}
 use Rattle.event.specs.declared.Event.{Event}
-use Rattle.trace.specs.Reading.{eventLimit}
 use Rattle.event.specs.Listed.{noneListed}
 use Rattle.rules.specs.View.{View, view}
 use Rattle.rules.specs.Run.{Traced}
@@ -18,28 +17,25 @@ use Rattle.trace.specs.Listed.{unlessListed}
 use Rattle.checker.specs.Check.{Lent, checkIn, entryRoomIn, entryRoomListed, refused, sourceRoomIn, sourceRoomListed, targetRoomIn, targetRoomListed}
 use Rattle.checker.specs.Demand.{entriesFor, targetOf}
 use Rattle.checker.specs.declared.Checked.{Checked}
+use Rattle.changes.specs.Apply.{front, isOpen, outcomeBy, stands}
+use Rattle.changes.specs.Tags.{codes}
+use Rattle.changes.specs.declared.Step.{Step}
+use Rattle.changes.specs.declared.Step.the-variants.{Remove, Swap, Insert, Done, Stuck}
+use Rattle.changes.specs.declared.Run.{Run}
 use Rattle.steps.specs.Cost.{cost}
-use Rattle.steps.specs.Step.{applied, nextStep, orderStep}
-use Rattle.steps.specs.Tags.{codes, counted, trace}
-use Rattle.steps.specs.declared.Step.{Step}
-use Rattle.steps.specs.declared.Step.the-variants.{Remove, Swap, Insert, Done, Stuck}
-use Rattle.steps.specs.declared.Run.{Run}
-use Rattle.steps.specs.declared.Applied.{Applied}
+use Rattle.steps.specs.Step.{nextStep, orderStep}
 use Rattle.steps.specs.declared.Replayed.{Replayed}
 use Rattle.steps.specs.declared.Started.{Started}
-
--- A run has begun and its trace is no longer than the array.
-abbrev pub isOpen : Run → Bool
-isOpen r = r .begun && leb (r .standing) eventLimit
-
--- The array with numbers at its front.
-abbrev pub front : List ℕ → List ℕ → List ℕ
-front ks tags = ks ++ drop (length ks) tags
 
 -- ---- the beginning: an accepted matching opens a run, of the source's events
 
 abbrev pub beginning : Checked → Run
 beginning c = record { begun = eqb (c .answer .number) 0; standing = cond (eqb (c .answer .number) 0) (c .source .events) 0 }
+
+-- The numbers of the source's n events, from the index i on.
+abbrev pub counted : ℕ → ℕ → List ℕ
+counted i zero = []
+counted i (suc n) = i ∷ counted (suc i) n
 
 abbrev pub tagsBegun : Checked → List ℕ → List ℕ
 tagsBegun c tags = cond (eqb (c .answer .number) 0) (front (counted 0 (c .source .events)) tags) tags
@@ -93,26 +89,6 @@ pub record StartsListed (list : List ℕ) (l : Lent) (tags : List ℕ) (r : Star
   pub entries : entryRoom ≡ entryRoomListed list l
   pub left : after ≡ tagsListed list l tags
 
--- The trace as it stands.
-abbrev pub stands : List Event → List Event → Run → List ℕ → List Traced
-stands s t r tags = trace s t (take (r .standing) tags)
-
--- ---- a step applied, by the rules alone, which see an event by its look
-
-abbrev pub outcomeBy : (Event → View) → List Event → List Event → Run → List ℕ → Step → Option (List Traced)
-outcomeBy look s t r tags st = cond (isOpen r) (applied look t st (stands s t r tags)) none
-
-abbrev pub leaving : ℕ → Applied
-leaving n = record { run = record { begun = true; standing = n }; allowed = true }
-
-abbrev pub appliedOf : Run → Option (List Traced) → Applied
-appliedOf r none = record { run = r; allowed = false }
-appliedOf r (some u) = leaving (length u)
-
-abbrev pub tagsAfter : List ℕ → Option (List Traced) → List ℕ
-tagsAfter tags none = tags
-tagsAfter tags (some u) = front (codes u) tags
-
 -- The place of a swap; 0 of another step.
 abbrev pub swapPlace : Step → ℕ
 swapPlace (Remove i k) = 0
@@ -146,11 +122,6 @@ abbrev pub onward : Run → List ℕ → Step → Option (List Traced) → (Run 
 onward r tags st none go = stopped r tags st
 onward r tags st (some u) go = oneMore (go (record { begun = true; standing = length u }) (front (codes u) tags))
 
--- What a step that is allowed or refused hands back and leaves.
-pub record Applies (r : Run) (tags : List ℕ) (o : Option (List Traced)) (result : Applied) (after : List ℕ) : Type 0 where
-  pub answer : result ≡ appliedOf r o
-  pub left : after ≡ tagsAfter tags o
-
 -- ---- the next step, of a matching ns
 
 module _ (look : Event → View) (s t : List Event) (ns : List ℕ) where
@@ -170,9 +141,6 @@ module _ (look : Event → View) (s t : List Event) (ns : List ℕ) where
   playBy (suc b) r tags = onward r tags (nextBy 0 r tags) (outcomeBy look s t r tags (nextBy 0 r tags)) (playBy b)
 
 -- The same without a list.
-abbrev pub outcome : List Event → List Event → Run → List ℕ → Step → Option (List Traced)
-outcome = outcomeBy view
-
 abbrev pub nextFrom : List Event → List Event → List ℕ → ℕ → List Traced → Step
 nextFrom = nextFromBy view
 

@@ -23,12 +23,14 @@ use Rattle.rules.specs.Demand.{PassedIn}
 use Rattle.registers.specs.Reading.{listOf}
 use Rattle.checker.specs.Check.{Lent, checkListed}
 use Rattle.checker.specs.Demand.{entriesFor, sourceOf, targetOf}
+use Rattle.changes.specs.Apply.{outcomeBy, stands}
+use Rattle.changes.specs.Change.{applied, phase}
+use Rattle.changes.specs.declared.Step.{Step}
+use Rattle.changes.specs.declared.Step.the-variants.{Done}
 use Rattle.steps.specs.Cost.{cost, stepsOf}
-use Rattle.steps.specs.Play.{Played, nextBy, nextFromBy, outcomeBy, playBy, stands, startedIn, startedListed, startedOf, swapPlace, tagsIn, tagsListed, tagsOf}
-use Rattle.steps.specs.Step.{Replays, applied, nextStep, phase}
+use Rattle.steps.specs.Play.{Played, nextBy, nextFromBy, playBy, startedIn, startedListed, startedOf, swapPlace, tagsIn, tagsListed, tagsOf}
+use Rattle.steps.specs.Step.{Replays, nextStep}
 use Rattle.steps.specs.declared.Started.{Started}
-use Rattle.steps.specs.declared.Step.{Step}
-use Rattle.steps.specs.declared.Step.the-variants.{Done}
 
 -- The pairs among n events.
 abbrev pub pairs : ℕ → ℕ

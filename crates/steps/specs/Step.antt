@@ -1,22 +1,20 @@
--- C-12: the steps of a matching in the fixed order, one at a time, and what a step makes of a trace by the rules alone. Places count from 1 in
--- the trace as it stands. Assumes nothing.
+-- C-12: the steps of a matching in the fixed order, one at a time. Places count from 1 in the trace as it stands. What a step makes of a trace is
+-- in `changes`. Assumes nothing.
 use mathlib.Core.Path.{_≡_}
 use mathlib.Core.Bool.{Bool, true, false, not, cond, _&&_, _||_}
 use mathlib.Core.Option.{Option, none, some}
 use mathlib.Core.List.{List, [], _∷_}
 use Prim.Native.Nat.{ℕ, zero, suc, _+_}
 use lib.Dec.{eqb, ltb}
-use lib.ListN.{length, getD, drop}
-use Rattle.event.specs.Room.{noEvent}
+use lib.ListN.{length, drop}
 use Rattle.event.specs.declared.Event.{Event}
-use Rattle.trace.specs.Reading.{eventLimit}
 use Rattle.rules.specs.View.{View}
-use Rattle.rules.specs.Moves.{Phase, one, two}
 use Rattle.rules.specs.Fault.{isGone, nth}
-use Rattle.rules.specs.Run.{Tag, old, new, Traced, traced, tagOf, viewed}
-use Rattle.steps.specs.Allowed.{mayRemove, mayInsert, maySwap}
-use Rattle.steps.specs.declared.Step.{Step}
-use Rattle.steps.specs.declared.Step.the-variants.{Remove, Swap, Insert, Done, Stuck}
+use Rattle.rules.specs.Run.{Tag, old, new, Traced, tagOf, viewed}
+use Rattle.changes.specs.Allowed.{mayRemove}
+use Rattle.changes.specs.Change.{applied}
+use Rattle.changes.specs.declared.Step.{Step}
+use Rattle.changes.specs.declared.Step.the-variants.{Remove, Swap, Insert, Done, Stuck}
 
 -- ---- what the entries say of an event
 
@@ -34,10 +32,6 @@ targetNumber ns (new k) = k
 abbrev pub sourceNumber : Tag → ℕ
 sourceNumber (old i) = i
 sourceNumber (new k) = 0
-
-abbrev pub isSource : ℕ → Tag → Bool
-isSource n (old i) = eqb i n
-isSource n (new k) = false
 
 abbrev pub anyGone : List ℕ → List Traced → Bool
 anyGone ns [] = false
@@ -95,26 +89,6 @@ swapStep (some i) other = Swap (suc i)
 abbrev pub orderStep : List ℕ → ℕ → ℕ → List Traced → Step
 orderStep ns n i u = swapStep (shifted i (against ns (drop i u))) (missing ns n 1 u)
 
--- ---- what a step makes of a trace
-
-abbrev pub under : Traced → Option (List Traced) → Option (List Traced)
-under x none = none
-under x (some u) = some (x ∷ u)
-
--- What happens at a place, from 0 on, behind b.
-abbrev pub at : ℕ → (List Traced → List Traced → Option (List Traced)) → List Traced → List Traced → Option (List Traced)
-at zero f b u = f b u
-at (suc i) f b [] = none
-at (suc i) f b (x ∷ u) = under x (at i f (x ∷ b) u)
-
--- Removals come first, insertions after; swaps may come in both.
-abbrev pub phase : Step → Phase
-phase (Remove i k) = one
-phase (Swap i) = two
-phase (Insert i) = two
-phase Done = two
-phase Stuck = two
-
 module _ (view : Event → View) where
   -- The last gone event that may be removed, from 0 on, behind b.
   abbrev pub removal : List ℕ → List Traced → List Traced → Option ℕ
@@ -127,31 +101,7 @@ module _ (view : Event → View) where
   abbrev pub nextStep : List ℕ → ℕ → List Traced → Step
   nextStep ns n u = cond (anyGone ns u) (removeStep u (removal ns [] u)) (swapStep (against ns u) (missing ns n 1 u))
 
-  abbrev pub removed : ℕ → List Traced → List Traced → Option (List Traced)
-  removed k b [] = none
-  removed k b (x ∷ a) = cond (isSource k (tagOf x) && mayRemove (viewed view) b (viewed view x) a) (some a) none
-
-  abbrev pub swapped : List Traced → List Traced → Option (List Traced)
-  swapped b [] = none
-  swapped b (x ∷ []) = none
-  swapped b (x ∷ y ∷ a) = cond (maySwap (viewed view) x y) (some (y ∷ x ∷ a)) none
-
-  abbrev pub inserted : Traced → List Traced → List Traced → Option (List Traced)
-  inserted x b a = cond (mayInsert (viewed view) b (viewed view x)) (some (x ∷ a)) none
-
-  -- The trace after a step, if the rules allow it; what is inserted is the target's event of that number, and a trace has at most 800 events. The
-  -- entries play no part.
-  abbrev pub applied : List Event → Step → List Traced → Option (List Traced)
-  applied t (Remove zero k) u = none
-  applied t (Remove (suc i) k) u = at i (removed k) [] u
-  applied t (Swap zero) u = none
-  applied t (Swap (suc i)) u = at i swapped [] u
-  applied t (Insert zero) u = none
-  applied t (Insert (suc i)) u = cond (ltb i (length t) && ltb (length u) eventLimit) (at i (inserted (traced (new (suc i)) (getD t i noEvent))) [] u) none
-  applied t Done u = none
-  applied t Stuck u = none
-
   -- A replay: each next step is allowed, until there is none.
   pub data Replays (ns : List ℕ) (t : List Event) : ℕ → List Traced → List Traced → Type 0 where
     ended : {u : List Traced} → nextStep ns (length t) u ≡ Done → Replays ns t zero u u
-    stepped : {k : ℕ} {u v w : List Traced} → applied t (nextStep ns (length t) u) u ≡ some v → Replays ns t k v w → Replays ns t (suc k) u w
+    stepped : {k : ℕ} {u v w : List Traced} → applied view t (nextStep ns (length t) u) u ≡ some v → Replays ns t k v w → Replays ns t (suc k) u w

@@ -1,24 +1,14 @@
 // What a run holds of an event: a number that says where it comes from.
 ghost use mathlib.Core.Path.{_≡_};
-ghost use Rattle.event.specs.Room.{wholeEvents};
-ghost use Rattle.steps.specs.Step.{isSource, leaves, overtakes, targetNumber};
-ghost use Rattle.steps.specs.Tags.{decoded, eventFor};
+ghost use Prim.Native.Nat.{_≤_};
+ghost use lib.ListN.{length};
+ghost use Rattle.changes.specs.Apply.{front};
+ghost use Rattle.changes.specs.Tags.{decoded};
+ghost use Rattle.steps.specs.Step.{leaves, overtakes, targetNumber};
+ghost use Rattle.steps.specs.Play.{counted};
 use event::Entry;
-use event::Event;
-use event::Word;
 use event::number_index;
-use event::room::get;
 use trace::reading::EVENT_LIMIT;
-
-// The event of a number.
-pub(crate) fn event_of(source: &[Word], target: &[Word], tag: usize) -> Event
-    ensures { λ r. ⌜ r ≡ eventFor (wholeEvents (now (source .entry))) (wholeEvents (now (target .entry))) tag ⌝ }
-{
-    if tag < EVENT_LIMIT {
-        return get(source, tag);
-    }
-    get(target, tag - EVENT_LIMIT)
-}
 
 // The target number of its event; 0 if it is gone.
 pub(crate) fn target_number(entries: &[Entry], tag: usize) -> usize
@@ -51,12 +41,14 @@ pub(crate) fn is_overtaking(entries: &[Entry], tag: usize, next: usize) -> bool
     number < target_number(entries, tag)
 }
 
-// Whether its event is the source event of a number.
-pub(crate) fn is_source(number: usize, tag: usize) -> bool
-    ensures { λ r. ⌜ r ≡ isSource number (decoded tag) ⌝ }
+// The numbers of the source's events.
+pub(crate) fn fill(tags: &mut [usize], events: usize)
+    requires { ⌜ events ≤ length (now tags) ⌝ }
+    ensures { λ _. ⌜ now (tags .exit) ≡ front (counted 0 events) (now (tags .entry)) ⌝ }
 {
-    if tag < EVENT_LIMIT {
-        return tag + 1 == number;
+    let mut i: usize = 0;
+    while i < events {
+        tags[i] = i;
+        i += 1;
     }
-    false
 }

@@ -11,11 +11,12 @@ use Rattle.event.specs.Room.{wholeEvents}
 use Rattle.event.specs.declared.Event.{Event}
 use Rattle.fates.proofs.Events.{onward-length}
 use Rattle.rules.specs.View.{View, viewIn}
-use Rattle.steps.specs.Play.{isOpen, nextBy, stands}
+use Rattle.changes.specs.Apply.{isOpen, stands}
+use Rattle.changes.specs.Tags.{trace}
+use Rattle.changes.specs.declared.Run.{Run}
+use Rattle.changes.proofs.Changes.{fits}
+use Rattle.steps.specs.Play.{nextBy}
 use Rattle.steps.specs.Step.{against, anyGone, missing, orderStep, removal, removeStep, shifted, swapStep}
-use Rattle.steps.specs.Tags.{trace}
-use Rattle.steps.specs.declared.Run.{Run}
-use Rattle.steps.proofs.Changes.{fits}
 use Rattle.steps.proofs.next_in.Statement.{statement}
 use Rattle.steps.proofs.next_in.Tie as tie
 

@@ -9,11 +9,11 @@ use lib.Dec.{eqb, ltb}
 use lib.ListN.{length, drop}
 use borrow.Author.Tests.{eq-eqb, ne-eqb, lt-ltb, le-ltb}
 use Rattle.event.specs.declared.Event.{Event}
+use Rattle.changes.specs.Tags.{trace}
+use Rattle.changes.specs.declared.Step.{Step}
+use Rattle.changes.specs.declared.Step.the-variants.{Insert, Done}
+use Rattle.changes.proofs.Traces.{drop-at, drop-past}
 use Rattle.steps.specs.Step.{missing}
-use Rattle.steps.specs.Tags.{trace}
-use Rattle.steps.specs.declared.Step.{Step}
-use Rattle.steps.specs.declared.Step.the-variants.{Insert, Done}
-use Rattle.steps.proofs.Traces.{drop-at, drop-past}
 use Rattle.steps.proofs.search.missing_step.Statement.{statement}
 use Rattle.steps.proofs.search.missing_step.Tie as tie
 

@@ -11,13 +11,14 @@ use Rattle.event.specs.Room.{wholeEvents}
 use Rattle.event.specs.declared.Event.{Event}
 use Rattle.trace.specs.Reading.{eventLimit}
 use Rattle.rules.specs.View.{viewIn}
-use Rattle.steps.specs.Inner.{removableAt}
+use Rattle.changes.specs.Apply.{removableAt}
+use Rattle.changes.specs.Tags.{behind, decoded, trace, tracedFor}
+use Rattle.changes.specs.declared.Step.the-variants.{Remove}
+use Rattle.changes.proofs.Near.{removable-in}
+use Rattle.changes.proofs.Traces.{drop-past, length-trace, trace-at}
 use Rattle.steps.specs.Step.{leaves, numberAt, removal, removeStep}
-use Rattle.steps.specs.Tags.{behind, decoded, trace, tracedFor}
-use Rattle.steps.specs.declared.Step.the-variants.{Remove}
-use Rattle.steps.proofs.Numbers.{leaving-old}
-use Rattle.steps.proofs.Seam.{Open, removal-on, removal-found}
-use Rattle.steps.proofs.Traces.{drop-past, length-trace, number-at, trace-at}
+use Rattle.steps.proofs.Numbers.{leaving-old, number-at}
+use Rattle.steps.proofs.Searches.{Open, removal-on, removal-found}
 use Rattle.steps.proofs.search.removal_step.Statement.{statement}
 use Rattle.steps.proofs.search.removal_step.Tie as tie
 
@@ -38,7 +39,9 @@ module _ (regs : List Bool) (ns : List ℕ) (s t : List Event) (tags : List ℕ)
   inside = omega (arith, p .bound, length-trace s t tags)
 
   open-is : (b : Bool) → (leaves ns (decoded (getD tags i 0)) && removableAt regs s t tags i) ≡ b → Open (viewIn regs) ns (tracedFor s t 0) (trace s t tags) i ≡ b
-  open-is b h = rw (trace-at s t tags i) h
+  open-is b h =
+      let m = removable-in regs s t tags i (omega (arith, p .bound)) in
+      rw (trace-at s t tags i) (ap (λ r. leaves ns (decoded (getD tags i 0)) && r) (sym m) ∙ h)
 
   on : (leaves ns (decoded (getD tags i 0)) && removableAt regs s t tags i) ≡ false → Past regs ns s t tags i
   on h = record {
