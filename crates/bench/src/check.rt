@@ -23,7 +23,7 @@ use event::Entry;
 use event::Number;
 use event::WORDS;
 use event::Word;
-use event::kind::is_in;
+use kinds::is_in;
 use text::word::same_bytes;
 
 // What every word and every entry of a room is before a check: none that a vector has.

@@ -8,7 +8,7 @@ use super::tell::print_unless;
 use super::vector::between;
 use super::vector::text_vector;
 use event::Answer;
-use event::listed::Listed;
+use memory::listed::Listed;
 
 // The locations that a list can name.
 const LOCATIONS: usize = 256;

@@ -18,7 +18,7 @@ use super::written::form_in;
 use super::written::ran_with;
 use event::Answer;
 use event::Word;
-use event::memory::Memory;
+use memory::Memory;
 use trace::read;
 
 // The word changed that the header says, if the room has it.

@@ -7,7 +7,7 @@ use Prim.Native.Nat.{ℕ, suc, _<_, _≤_}
 use lib.Dec.{eqb}
 use lib.ListN.{length, getD, drop}
 use borrow.Author.Tests.{eq-eqb, ne-eqb, le-ltb, lt-ltb}
-use Rattle.event.specs.Kind.{used}
+use Rattle.kinds.specs.Kind.{used}
 use Rattle.event.specs.declared.Event.{Event}
 use Rattle.rules.specs.View.{View, wall, load, store, viewIn, apart, isLoad, isWall, valueOf}
 use Rattle.rules.specs.Moves.{extend, group, near}

@@ -2,7 +2,7 @@
 use mathlib.Core.Path.{subst}
 use mathlib.Core.List.{List}
 use Prim.Native.Nat.{ℕ}
-use Rattle.event.specs.Listed.{noneListed}
+use Rattle.memory.specs.Listed.{noneListed}
 use Rattle.event.specs.declared.Event.{Event}
 use Rattle.rules.specs.View.{View, viewIn}
 use Rattle.rules.proofs.Unlisted.{view-none}

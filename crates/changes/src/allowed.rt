@@ -20,11 +20,11 @@ use crate::tag::is_source;
 use event::Event;
 use event::WORDS;
 use event::Word;
-use event::kind::USED;
-use event::listed::Listed;
 use event::room::get;
 use fates::view::is_load_in;
 use fates::view::is_wall_in;
+use kinds::USED;
+use memory::listed::Listed;
 use trace::reading::EVENT_LIMIT;
 
 // Whether the near access to a location before an index has a value.

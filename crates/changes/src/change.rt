@@ -15,7 +15,7 @@ use crate::allowed::can_insert;
 use crate::allowed::can_remove;
 use crate::allowed::can_swap;
 use event::Word;
-use event::listed::Listed;
+use memory::listed::Listed;
 use trace::reading::EVENT_LIMIT;
 
 // The number at an index taken out of those up to `last`.

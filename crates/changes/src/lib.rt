@@ -13,7 +13,7 @@ use change::refuse;
 use change::remove;
 use change::swap;
 use event::Word;
-use event::listed::Listed;
+use memory::listed::Listed;
 use trace::reading::EVENT_LIMIT;
 
 // A step of a run: places count from 1 in the trace as it stands, `number` is the source event's; an inserted event's place is its target number.

@@ -11,12 +11,12 @@ use lib.Dec.{eqb}
 use lib.ListN.{length}
 use Rattle.laws.proofs.Cases.{cases, either}
 use Rattle.laws.proofs.Lists.{every}
-use Rattle.event.specs.Kind.{has}
-use Rattle.event.specs.Listed.{noneListed}
+use Rattle.laws.specs.Has.{has}
+use Rattle.memory.specs.Listed.{noneListed}
 use Rattle.event.specs.Answer.{answer, done, first, InTable}
 use Rattle.event.specs.declared.Answer.{Answer}
 use Rattle.event.proofs.Answers.{Among, among-first, among-more, among-done, among-has, among-not, given-among, in-first}
-use Rattle.event.proofs.Has.{has-every}
+use Rattle.laws.proofs.Has.{has-every}
 use Rattle.registers.specs.Reading.{listOf}
 use Rattle.registers.proofs.Answers.{listFaults, read-among as list-among, read-in as list-in}
 use Rattle.trace.proofs.Answers.{traceFaults, source-in, target-in}

@@ -3,8 +3,8 @@
 use mathlib.Core.Path.{_≡_, refl}
 use mathlib.Core.Bool.{true}
 use Rattle.event.specs.Answer.{answer}
-use Rattle.event.specs.Kind.{row, takes, lawful}
-use Rattle.event.specs.Memory.{stepped, after, latest}
+use Rattle.kinds.specs.Kind.{row, takes, lawful}
+use Rattle.memory.specs.Memory.{stepped, after, latest}
 use Rattle.text.specs.Cut.{cut}
 use Rattle.text.specs.Number.{allDigits, valueOn, digitsOn, numberOf}
 use Rattle.text.specs.Word.{bytes, sameBytes}

@@ -6,11 +6,11 @@ use mathlib.Core.Bool.{Bool}
 use mathlib.Core.List.{List, [], _∷_}
 use lib.Dec.{T}
 use lib.ListN.{length}
-use Rattle.event.specs.Kind.{places}
-use Rattle.event.specs.Listed.{noneListed}
-use Rattle.event.specs.Memory.{stepped}
+use Rattle.event.specs.Place.{places}
+use Rattle.memory.specs.Listed.{noneListed}
+use Rattle.memory.specs.Memory.{stepped}
 use Rattle.event.specs.declared.Event.{Event}
-use Rattle.event.specs.declared.memory.Memory.{Memory}
+use Rattle.memory.specs.declared.Memory.{Memory}
 use Rattle.frame.proofs.Settled.{first-done}
 use Rattle.trace.specs.Fault.{eventFaultIn}
 use Rattle.trace.specs.Reading.{eventsOf, surveyIn, readIn}

@@ -9,7 +9,7 @@ use lib.ListN.{length}
 use borrow.Author.Tests.{eqb-false}
 use Rattle.record.specs.declared.form.Form.{Form}
 use Rattle.event.specs.Answer.{answer}
-use Rattle.event.specs.Kind.{has}
+use Rattle.laws.specs.Has.{has}
 use Rattle.checker.specs.Line.{
   Standing,
   counted,

@@ -7,8 +7,8 @@ use mathlib.Core.Path.{_≡_}
 use lib.Dec.{eqb}
 use Rattle.event.specs.Room.{wholeEvents}
 use Rattle.event.specs.Answer.{first}
-use Rattle.event.specs.Listed.{noneListed}
-use Rattle.event.specs.Memory.{empty}
+use Rattle.memory.specs.Listed.{noneListed}
+use Rattle.memory.specs.Memory.{empty}
 use Rattle.event.specs.declared.Answer.{Answer}
 use Rattle.trace.specs.Reading.{eventsOf, front}
 use Rattle.trace.specs.Reading.{readIn as traceRead}

@@ -8,8 +8,8 @@ use Prim.Native.Nat.{ℕ}
 use lib.Dec.{T}
 use lib.ListN.{length, getD}
 use Rattle.event.specs.Answer.{done}
-use Rattle.event.specs.Kind.{has}
-use Rattle.event.specs.Listed.{listed, noneListed}
+use Rattle.laws.specs.Has.{has}
+use Rattle.memory.specs.Listed.{listed, noneListed}
 use Rattle.event.specs.declared.Event.{Event}
 use Rattle.trace.specs.Reading.{eventsOf}
 use Rattle.matching.specs.Reading.{entriesOf}

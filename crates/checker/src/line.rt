@@ -3,7 +3,7 @@ ghost use mathlib.Core.Path.{_≡_};
 ghost use mathlib.Core.Bool.{_&&_, cond};
 ghost use Prim.Native.Nat.{_≤_, _-_};
 ghost use lib.Dec.{eqb};
-ghost use Rattle.event.specs.Kind.{has};
+ghost use Rattle.laws.specs.Has.{has};
 ghost use Rattle.checker.specs.Line.{
   isEvent,
   counted,
@@ -24,7 +24,7 @@ ghost use Rattle.trace.specs.Reading.{formOf};
 use event::Answer;
 use event::Number;
 use event::Word;
-use event::kind::is_in;
+use kinds::is_in;
 use record::Record;
 use record::form::Form;
 use record::record_of;

@@ -11,8 +11,8 @@ use borrow.Author.Tests.{eqb-false, le-leb, not-true}
 use Rattle.laws.proofs.Bools.{and-left, and-right}
 use Rattle.laws.proofs.Cases.{by-cond, cases, either}
 use Rattle.laws.proofs.Lists.{every}
-use Rattle.event.specs.Kind.{has}
-use Rattle.event.proofs.Has.{has-every}
+use Rattle.laws.specs.Has.{has}
+use Rattle.laws.proofs.Has.{has-every}
 use Rattle.event.specs.Answer.{answer, done, first, answers, InTable, Where, nowhere, ordinal, location, amount}
 use Rattle.event.specs.declared.Answer.{Answer}
 

@@ -5,7 +5,8 @@ use mathlib.Core.List.{List, [], _∷_}
 use mathlib.Core.Path.{_≡_}
 use lib.Dec.{eqb, leb}
 use lib.ListN.{getD}
-use Rattle.event.specs.Kind.{has, lastPlace}
+use Rattle.laws.specs.Has.{has}
+use Rattle.event.specs.Place.{lastPlace}
 use Rattle.event.specs.declared.Answer.{Answer}
 
 abbrev pub answer : ℕ → ℕ → ℕ → Answer

@@ -1,6 +1,4 @@
--- What the contracts of this crate say, by page: answers, the table of kinds, the memory, registers, events in a room. Assumes nothing.
-pub mod Kind
+-- What the contracts of this crate say, by page: the places of events, answers, events in a room. Assumes nothing.
+pub mod Place
 pub mod Answer
-pub mod Memory
-pub mod Listed
 pub mod Room

@@ -1,8 +1,4 @@
-// The alphabet of a trace: words, events, answers; the fixed table of kinds (`kind`), the memory (`memory`), the registers (`listed`), events in a
-// room (`room`).
-pub mod kind;
-pub mod listed;
-pub mod memory;
+// The alphabet of a trace: words, events, answers; events in a room (`room`).
 pub mod room;
 
 ghost use mathlib.Core.Path.{_≡_};

@@ -4,8 +4,8 @@ use mathlib.Core.Bool.{Bool, true, false, not, cond}
 use mathlib.Core.List.{List}
 use Prim.Native.Nat.{ℕ}
 use lib.Dec.{eqb}
-use Rattle.event.specs.Kind.{used, row, plain}
-use Rattle.event.specs.Listed.{isRegister}
+use Rattle.kinds.specs.Kind.{used, row, plain}
+use Rattle.memory.specs.Listed.{isRegister}
 use Rattle.event.specs.declared.Event.{Event}
 use Rattle.laws.proofs.Cases.{by-cond}
 use Rattle.rules.specs.View.{View, wall, load, store, view, viewIn, isLoad, isWall}

@@ -21,10 +21,10 @@ use event::Event;
 use event::Number;
 use event::Word;
 use event::index_of;
-use event::kind::USED;
-use event::listed::Listed;
 use event::number_index;
 use event::room::get;
+use kinds::USED;
+use memory::listed::Listed;
 
 // Whether a store before a plain event is closing, by whether one after the event is.
 fn closing_after(load: bool, entry: Entry, closing: bool) -> bool

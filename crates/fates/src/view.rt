@@ -3,11 +3,11 @@ ghost use mathlib.Core.Path.{_≡_};
 ghost use mathlib.Core.Bool.{_&&_, _||_};
 ghost use Rattle.rules.specs.View.{view, viewIn, same, isWall, isLoad};
 use event::Event;
-use event::kind::is_load_kind;
-use event::kind::is_plain;
-use event::kind::row_of;
-use event::listed::Listed;
-use event::listed::is_register;
+use kinds::is_load_kind;
+use kinds::is_plain;
+use kinds::row_of;
+use memory::listed::Listed;
+use memory::listed::is_register;
 
 pub(crate) fn both(a: bool, b: bool) -> bool
     ensures { λ r. ⌜ r ≡ (a && b) ⌝ }

@@ -6,7 +6,7 @@ use checker::line::offending_line;
 use event::Answer;
 use event::Entry;
 use event::Word;
-use event::listed::Listed;
+use memory::listed::Listed;
 
 // What the check of a source and a target found.
 pub(crate) fn print_found<'a>(source: &'a [u8], target: &'a [u8], answer: Answer) {

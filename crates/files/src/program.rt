@@ -6,7 +6,7 @@ use crate::print::print_answer_line;
 use crate::read::read_file;
 use crate::read::text_buffer;
 use crate::run::print_run;
-use event::listed::Listed;
+use memory::listed::Listed;
 use registers::ListRead;
 
 // What is wanted of three files: the answer, or the run of an accepted matching too.

@@ -9,7 +9,7 @@ use changes::apply_listed;
 use event::Entry;
 use event::WORDS;
 use event::Word;
-use event::listed::Listed;
+use memory::listed::Listed;
 use steps::Started;
 use steps::next_listed;
 use steps::start_in;

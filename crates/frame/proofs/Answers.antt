@@ -7,7 +7,7 @@ use mathlib.Core.Path.{_≡_, refl}
 use native.Mathlib.Omega.{arith}
 use lib.Dec.{ltb}
 use lib.ListN.{length}
-use Rattle.event.specs.Kind.{has}
+use Rattle.laws.specs.Has.{has}
 use Rattle.event.specs.Answer.{answer, done, textSides, InTable}
 use Rattle.event.proofs.Answers.{Among, Given, none, one, among-cond, given-cond, given-fault, in-cond}
 use Rattle.text.specs.Cut.{isEmpty}

@@ -7,9 +7,9 @@ use mathlib.Core.List.{List, _∷_}
 use Prim.Native.Nat.{ℕ, suc}
 use lib.Dec.{eqb, ltb}
 use borrow.Author.Tests.{eq-eqb, ne-eqb}
-use Rattle.event.specs.Kind.{has}
+use Rattle.laws.specs.Has.{has}
 use Rattle.event.specs.Answer.{answer}
-use Rattle.event.specs.Listed.{listed}
+use Rattle.memory.specs.Listed.{listed}
 use Rattle.event.specs.declared.Event.{Event}
 use Rattle.rules.specs.Fault.{Item, isGone}
 use Rattle.rules.specs.View.{View}

@@ -3,7 +3,8 @@ use mathlib.Core.Path.{_≡_}
 use mathlib.Core.Bool.{Bool, not, cond, _&&_, _||_}
 use mathlib.Core.List.{List}
 use Prim.Native.Nat.{ℕ, _<_}
-use Rattle.event.specs.Kind.{isLoadKind, has}
+use Rattle.laws.specs.Has.{has}
+use Rattle.kinds.specs.Kind.{isLoadKind}
 use Rattle.judge.specs.Marks.{inWords}
 
 -- the marks say which numbers from 1 to 800 the entries name

@@ -13,9 +13,9 @@ use event::Answer;
 use event::Entry;
 use event::WORDS;
 use event::Word;
-use event::listed::Listed;
-use event::memory::Memory;
 use fates::source::source_answer;
+use memory::Memory;
+use memory::listed::Listed;
 use start::start_answer;
 use target::target_answer;
 

@@ -2,8 +2,8 @@
 ghost use mathlib.Core.Path.{_≡_};
 ghost use Rattle.rules.specs.Verdict.{startAnswerIn};
 use event::Answer;
-use event::listed::Listed;
-use event::memory::Memory;
+use memory::Memory;
+use memory::listed::Listed;
 
 pub(crate) fn start_answer(listed: &Listed, start: Memory, target_start: Memory) -> Answer
     ensures { λ r. ⌜ r ≡ startAnswerIn (now (listed .entry)) 0 (start .cells) («target_start» .cells) ⌝ }

@@ -2,3 +2,4 @@
 pub mod Cases
 pub mod Bools
 pub mod Lists
+pub mod Has

@@ -8,7 +8,7 @@ use native.Mathlib.Omega.{arith}
 use lib.Dec.{eqb, leb}
 use lib.ListN.{length}
 use Rattle.laws.proofs.Cases.{by-cond}
-use Rattle.event.specs.Kind.{has}
+use Rattle.laws.specs.Has.{has}
 use Rattle.event.specs.Answer.{answer, done, first, InTable}
 use Rattle.event.specs.declared.Answer.{Answer}
 use Rattle.event.proofs.Answers.{Among, Given, none, one, among-first, among-more, given-among, given-in, in-first}

@@ -9,9 +9,10 @@ use lib.Dec.{eqb}
 use lib.ListN.{length}
 use borrow.Author.Tests.{eqb-true, eqb-false, ne-eqb, not-false}
 use Rattle.laws.proofs.Lists.{Each, Free}
-use Rattle.event.specs.Kind.{lawful, lastPlace, lastValue, lastCode, made}
+use Rattle.event.specs.Place.{lastPlace}
+use Rattle.kinds.specs.Kind.{lawful, lastValue, lastCode, made}
 use Rattle.event.specs.declared.Event.{Event}
-use Rattle.event.proofs.Lawful.{first-of, second-of, code-of}
+use Rattle.kinds.proofs.Lawful.{first-of, second-of, code-of}
 use Rattle.text.specs.Field.{fields, onField, onEnd}
 use Rattle.text.specs.Number.{decimal, numberOf, onNumber}
 use Rattle.text.specs.Word.{sameBytes}

@@ -9,9 +9,10 @@ use lib.Dec.{leb}
 use lib.ListN.{length, length-append}
 use borrow.Author.Tests.{leb-true}
 use Rattle.laws.proofs.Lists.{Each, Free, each-append}
-use Rattle.event.specs.Kind.{row, rlx, lastPlace, lastValue, lastCode, made}
+use Rattle.event.specs.Place.{lastPlace}
+use Rattle.kinds.specs.Kind.{row, rlx, lastValue, lastCode, made}
 use Rattle.event.specs.declared.Event.{Event}
-use Rattle.event.proofs.Lawful.{first-of, second-of, code-of}
+use Rattle.kinds.proofs.Lawful.{first-of, second-of, code-of}
 use Rattle.text.specs.Cut.{glue}
 use Rattle.text.specs.Number.{decimal}
 use Rattle.text.proofs.Decimals.{length-some, length-more, length-below}

@@ -9,14 +9,16 @@ use lib.ListN.{length, List·getD-eq-default}
 use borrow.Author.Tests.{eqb-true, eqb-false, leb-true, not-true}
 use Rattle.laws.proofs.Bools.{and-left, and-right}
 use Rattle.laws.proofs.Cases.{cases, either, side}
-use Rattle.event.proofs.Has.{has-every}
-use Rattle.event.specs.Kind.{isMarks, row, rows, noKind, has, ordersOf, takes, fitsPlace, lastPlace, lawful}
+use Rattle.laws.proofs.Has.{has-every}
+use Rattle.laws.specs.Has.{has}
+use Rattle.event.specs.Place.{lastPlace}
+use Rattle.kinds.specs.Kind.{isMarks, row, rows, noKind, ordersOf, takes, fitsPlace, lawful}
 use Rattle.event.specs.declared.Event.{Event}
-use Rattle.event.specs.declared.kind.Orders.{Orders}
-use Rattle.event.specs.declared.kind.Orders.the-variants.{Bare, Marks, Reads, Writes, Updates, Fences, NoKind}
-use Rattle.event.specs.declared.kind.Place.{Place}
-use Rattle.event.specs.declared.kind.Place.the-variants.{Location, Mutex, Nowhere}
-use Rattle.event.proofs.Lawful.{order-of, place-of, values-of}
+use Rattle.kinds.specs.declared.Orders.{Orders}
+use Rattle.kinds.specs.declared.Orders.the-variants.{Bare, Marks, Reads, Writes, Updates, Fences, NoKind}
+use Rattle.kinds.specs.declared.Place.{Place}
+use Rattle.kinds.specs.declared.Place.the-variants.{Location, Mutex, Nowhere}
+use Rattle.kinds.proofs.Lawful.{order-of, place-of, values-of}
 use Rattle.record.specs.Layout.{kindWords, orderWords, wordAt, orderOf, hasPlace, hasOrder, shapeOf, fieldIf}
 use Rattle.record.specs.declared.form.Form.{Form}
 use Rattle.record.specs.declared.shape.Shape.{Shape}

@@ -6,7 +6,8 @@ use mathlib.Core.Bool.{true}
 use mathlib.Core.List.{List}
 use native.Mathlib.Omega.{arith}
 use lib.ListN.{length, take, drop}
-use Rattle.event.specs.Kind.{lastPlace, lastValue}
+use Rattle.event.specs.Place.{lastPlace}
+use Rattle.kinds.specs.Kind.{lastValue}
 use Rattle.text.specs.Field.{fieldAt, fieldsFrom, onEnd}
 use Rattle.text.specs.Number.{numberOf, onNumber}
 use Rattle.text.specs.Take.{onRead}

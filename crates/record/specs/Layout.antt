@@ -4,12 +4,12 @@ use mathlib.Core.Bool.{Bool, true, false, cond}
 use mathlib.Core.List.{List, [], _∷_}
 use lib.Dec.{leb}
 use lib.ListN.{getD}
-use Rattle.event.specs.Kind.{row, isMarks}
+use Rattle.kinds.specs.Kind.{row, isMarks}
 use Rattle.event.specs.declared.Event.{Event}
-use Rattle.event.specs.declared.kind.Orders.{Orders}
-use Rattle.event.specs.declared.kind.Orders.the-variants.{Bare, Marks, Reads, Writes, Updates, Fences, NoKind}
-use Rattle.event.specs.declared.kind.Place.{Place}
-use Rattle.event.specs.declared.kind.Place.the-variants.{Location, Mutex, Nowhere}
+use Rattle.kinds.specs.declared.Orders.{Orders}
+use Rattle.kinds.specs.declared.Orders.the-variants.{Bare, Marks, Reads, Writes, Updates, Fences, NoKind}
+use Rattle.kinds.specs.declared.Place.{Place}
+use Rattle.kinds.specs.declared.Place.the-variants.{Location, Mutex, Nowhere}
 use Rattle.record.specs.Form.{coded}
 use Rattle.record.specs.declared.form.Form.{Form}
 use Rattle.record.specs.declared.shape.Shape.{Shape}

@@ -4,10 +4,10 @@ ghost use Rattle.record.specs.Layout.{shapeOf, hasPlace, hasOrder};
 use crate::form::Form;
 use crate::form::is_coded;
 use event::Word;
-use event::kind::Orders;
-use event::kind::Place;
-use event::kind::is_marks;
-use event::kind::row_of;
+use kinds::Orders;
+use kinds::Place;
+use kinds::is_marks;
+use kinds::row_of;
 
 // The fields in their order, and whether they are there.
 pub struct Shape {

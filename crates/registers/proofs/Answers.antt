@@ -8,9 +8,9 @@ use native.Mathlib.Omega.{arith}
 use lib.Dec.{eqb, leb, ltb}
 use lib.ListN.{length}
 use borrow.Author.Tests.{lt-ltb, le-ltb}
-use Rattle.event.specs.Listed.{noneListed}
+use Rattle.memory.specs.Listed.{noneListed}
 use Rattle.laws.proofs.Cases.{by-cond, cases, either}
-use Rattle.event.specs.Kind.{has}
+use Rattle.laws.specs.Has.{has}
 use Rattle.event.specs.Answer.{answer, done, first, InTable}
 use Rattle.event.specs.declared.Answer.{Answer}
 use Rattle.event.proofs.Answers.{Among, Given, none, among-first, among-more, given-among, given-in, in-first}

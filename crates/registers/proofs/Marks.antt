@@ -8,9 +8,10 @@ use lib.Dec.{eqb}
 use lib.ListN.{length, getD, set, length-set, getD-replicate}
 use lib.Seq.{getD-set-same, getD-set-other}
 use borrow.Author.Tests.{eqb-true, eqb-false, eq-eqb, ne-eqb}
-use Rattle.event.specs.Listed.{noneListed}
+use Rattle.memory.specs.Listed.{noneListed}
 use Rattle.laws.proofs.Cases.{cases, either, side}
-use Rattle.event.specs.Kind.{has, places}
+use Rattle.laws.specs.Has.{has}
+use Rattle.event.specs.Place.{places}
 use Rattle.registers.specs.Reading.{marked, marksOf}
 use Rattle.registers.specs.Text.{Ascending}
 

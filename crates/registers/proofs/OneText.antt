@@ -8,11 +8,11 @@ use native.Mathlib.Omega.{arith}
 use lib.Dec.{leb, ltb}
 use lib.ListN.{length, length-append}
 use borrow.Author.Tests.{leb-false, ltb-false, le-ltb, lt-leb}
-use Rattle.event.specs.Listed.{noneListed}
+use Rattle.memory.specs.Listed.{noneListed}
 use Rattle.laws.specs.Each.{Each}
 use Rattle.laws.proofs.Cases.{not-first}
 use Rattle.laws.proofs.Lists.{Free}
-use Rattle.event.specs.Kind.{lastPlace}
+use Rattle.event.specs.Place.{lastPlace}
 use Rattle.text.specs.Cut.{glue}
 use Rattle.text.specs.Line.{split, body, saidIn}
 use Rattle.text.proofs.Decimals.{length-below}

@@ -5,7 +5,7 @@ use mathlib.Core.List.{List, [], _∷_}
 use lib.Dec.{leb, ltb}
 use lib.ListN.{set}
 use Rattle.event.specs.Answer.{done}
-use Rattle.event.specs.Listed.{noneListed}
+use Rattle.memory.specs.Listed.{noneListed}
 use Rattle.event.specs.declared.Answer.{Answer}
 use Rattle.text.specs.Line.{split, body, saidIn}
 use Rattle.frame.specs.Reading.{Layout, textFault, settle}

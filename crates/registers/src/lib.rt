@@ -6,7 +6,7 @@ ghost use mathlib.Core.Path.{_≡_};
 ghost use Prim.Native.Nat.{_≤_};
 ghost use lib.Dec.{leb, ltb};
 ghost use lib.ListN.{length};
-ghost use Rattle.event.specs.Listed.{noneListed};
+ghost use Rattle.memory.specs.Listed.{noneListed};
 ghost use Rattle.text.specs.Line.{splitFrom};
 ghost use Rattle.registers.specs.Reading.{regLimit, nothing, refused, listOf};
 ghost use Rattle.registers.specs.Lines.{linesRead};

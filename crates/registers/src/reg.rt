@@ -3,7 +3,7 @@ ghost use mathlib.Core.Path.{_≡_};
 ghost use Rattle.text.specs.Field.{fieldsFrom};
 ghost use Rattle.registers.specs.Reg.{regRest, regOf};
 use event::Word;
-use event::kind::LAST_PLACE;
+use kinds::LAST_PLACE;
 use text::field::FieldStep;
 use text::reader::field_of;
 use text::take::Taken;

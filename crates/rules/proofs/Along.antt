@@ -10,12 +10,13 @@ use lib.Dec.{T, eqb, eqb-refl}
 use lib.ListN.{length, set}
 use lib.Seq.{set-getD}
 use borrow.Author.Tests.{eqb-true}
-use Rattle.event.specs.Listed.{noneListed, steppedIn}
-use Rattle.event.specs.Memory.{stepped}
-use Rattle.event.specs.Kind.{lawful, places}
+use Rattle.memory.specs.Listed.{noneListed, steppedIn}
+use Rattle.memory.specs.Memory.{stepped}
+use Rattle.event.specs.Place.{places}
+use Rattle.kinds.specs.Kind.{lawful}
 use Rattle.event.specs.declared.Event.{Event}
-use Rattle.event.specs.declared.memory.Memory.{Memory}
-use Rattle.event.specs.declared.memory.Stepped.{Stepped}
+use Rattle.memory.specs.declared.Memory.{Memory}
+use Rattle.memory.specs.declared.Stepped.{Stepped}
 use Rattle.rules.specs.View.{viewIn, View, load, store, valueOf, wall}
 use Rattle.rules.specs.Moves.{Rules, Run, group, near, Removable, Insertable, Move, Moves, By, remove, insert, swap, next, done, step, Holds, Phase}
 use Rattle.rules.specs.Moves.{extend}

@@ -8,8 +8,10 @@ use native.Mathlib.Omega.{arith}
 use borrow.Author.Tests.{le-leb}
 use lib.Dec.{eqb, ltb}
 use lib.ListN.{length}
-use Rattle.event.specs.Kind.{has, isLoadKind, places}
-use Rattle.event.specs.Listed.{listed, noneListed}
+use Rattle.laws.specs.Has.{has}
+use Rattle.event.specs.Place.{places}
+use Rattle.kinds.specs.Kind.{isLoadKind}
+use Rattle.memory.specs.Listed.{listed, noneListed}
 use Rattle.event.specs.Answer.{first, InTable}
 use Rattle.event.specs.declared.Event.{Event}
 use Rattle.event.proofs.Answers.{Among, Given, none, one, among-cond, given-cond, given-fault, given-in, in-cond, in-first}

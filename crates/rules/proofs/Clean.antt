@@ -9,7 +9,7 @@ use Rattle.laws.proofs.Lists.{Each}
 use Rattle.event.specs.declared.Event.{Event}
 use Rattle.event.specs.Answer.{done, first}
 use Rattle.event.specs.declared.Answer.{Answer}
-use Rattle.event.specs.Kind.{isLoadKind}
+use Rattle.kinds.specs.Kind.{isLoadKind}
 use Rattle.rules.specs.Fault.{Item, crossed, fate, item, loadGone, storeGone, unlike, unsupported, wallGone}
 use Rattle.rules.specs.View.{View}
 use Rattle.rules.specs.Verdict.{firstFault, items, keepFault, targetItem, removalFault, sourceAnswer, sourceFault, targetAnswer, targetFault}

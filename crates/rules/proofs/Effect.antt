@@ -7,14 +7,15 @@ use Prim.Native.Nat.{ℕ, _<_}
 use lib.ListN.{length-set, length, getD, set}
 use lib.Seq.{set-getD}
 use lib.Dec.{T, eqb}
-use Rattle.event.specs.Kind.{used, row, lawful, plain, places}
-use Rattle.event.specs.Listed.{isRegister, steppedIn}
-use Rattle.event.specs.Memory.{after, latest, left, stepped}
-use Rattle.event.proofs.Lawful.{place-below}
-use Rattle.event.proofs.Table.{plain-load, plain-store}
+use Rattle.event.specs.Place.{places}
+use Rattle.kinds.specs.Kind.{used, row, lawful, plain}
+use Rattle.memory.specs.Listed.{isRegister, steppedIn}
+use Rattle.memory.specs.Memory.{after, latest, left, stepped}
+use Rattle.kinds.proofs.Lawful.{place-below}
+use Rattle.kinds.proofs.Table.{plain-load, plain-store}
 use Rattle.event.specs.declared.Event.{Event}
-use Rattle.event.specs.declared.memory.Memory.{Memory}
-use Rattle.event.specs.declared.memory.Stepped.{Stepped}
+use Rattle.memory.specs.declared.Memory.{Memory}
+use Rattle.memory.specs.declared.Stepped.{Stepped}
 use Rattle.laws.proofs.Cases.{by-cond}
 use Rattle.rules.specs.View.{view, viewIn, View, load, store, wall}
 use Rattle.rules.proofs.Truth.{T-true}

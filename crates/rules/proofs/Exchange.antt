@@ -4,7 +4,7 @@ use mathlib.Core.Path.{_≡_, sym, _∙_}
 use mathlib.Core.Bool.{Bool}
 use mathlib.Core.List.{List}
 use lib.Dec.{T, eqb→eq}
-use Rattle.event.specs.Kind.{row, cmpfail}
+use Rattle.kinds.specs.Kind.{row, cmpfail}
 use Rattle.event.specs.declared.Event.{Event}
 use Rattle.rules.specs.View.{wall, same, viewIn}
 use Rattle.rules.proofs.Same.{Shared, shared}

@@ -8,7 +8,7 @@ use Prim.Native.Nat.{ℕ, zero, suc, _+_, _<_, _≤_}
 use native.Mathlib.Omega.{arith}
 use lib.ListN.{length, getD, List·getD-eq-default}
 use Rattle.laws.proofs.Cases.{cases, side}
-use Rattle.event.specs.Kind.{has}
+use Rattle.laws.specs.Has.{has}
 use Rattle.event.specs.declared.Event.{Event}
 use Rattle.rules.specs.Run.{Tag, Traced, tagOf, old, new, origin, Ends}
 use Rattle.rules.specs.Fault.{fate, gone, stays, nth}

@@ -11,12 +11,13 @@ use lib.ListN.{length}
 use lib.Seq.{getD-set-same, getD-set-other}
 use borrow.Author.Tests.{eqb-true, eqb-false}
 use Rattle.laws.proofs.Lists.{Each}
-use Rattle.event.specs.Listed.{noneListed, steppedIn}
-use Rattle.event.specs.Memory.{stepped}
-use Rattle.event.specs.Kind.{lawful, places}
+use Rattle.memory.specs.Listed.{noneListed, steppedIn}
+use Rattle.memory.specs.Memory.{stepped}
+use Rattle.event.specs.Place.{places}
+use Rattle.kinds.specs.Kind.{lawful}
 use Rattle.event.specs.declared.Event.{Event}
-use Rattle.event.specs.declared.memory.Memory.{Memory}
-use Rattle.event.specs.declared.memory.Stepped.{Stepped}
+use Rattle.memory.specs.declared.Memory.{Memory}
+use Rattle.memory.specs.declared.Stepped.{Stepped}
 use Rattle.rules.specs.View.{View, load, store, wall}
 use Rattle.rules.specs.Demand.{right, rightIn}
 use Rattle.rules.specs.Fault.{Item, gone, item, stays, viewOf}

@@ -5,8 +5,8 @@ use mathlib.Core.List.{List, [], _∷_}
 use Prim.Native.Nat.{ℕ}
 use native.Mathlib.Omega.{arith}
 use Rattle.event.specs.Answer.{answer, done}
-use Rattle.event.specs.Kind.{row, takes, lawful}
-use Rattle.event.specs.Memory.{empty, after, latest, stepped}
+use Rattle.kinds.specs.Kind.{row, takes, lawful}
+use Rattle.memory.specs.Memory.{empty, after, latest, stepped}
 use Rattle.event.specs.declared.Answer.{Answer}
 use Rattle.rules.specs.View.{view}
 use Rattle.rules.specs.Moves.{remove, next, done as ended, step}

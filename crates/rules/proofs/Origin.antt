@@ -9,7 +9,7 @@ use native.Mathlib.Omega.{arith}
 use lib.Dec.{T, eqb, eqb-refl, T-not}
 use lib.ListN.{getD}
 use borrow.Author.Tests.{eqb-true}
-use Rattle.event.specs.Kind.{has}
+use Rattle.laws.specs.Has.{has}
 use Rattle.rules.specs.Run.{Tag, old, new, origin}
 use Rattle.rules.specs.Fault.{Fate, fate, nth, stays}
 use Rattle.rules.proofs.Entries.{From, Once, from-here, from-next}

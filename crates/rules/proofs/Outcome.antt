@@ -11,13 +11,13 @@ use lib.ListN.{length, getD, set}
 use lib.Seq.{ext-getD}
 use borrow.Author.Tests.{eqb-true}
 use Rattle.laws.proofs.Lists.{Each}
-use Rattle.event.specs.Kind.{lawful}
-use Rattle.event.specs.Listed.{listed, noneListed}
-use Rattle.event.specs.Memory.{stepped, after, left}
+use Rattle.kinds.specs.Kind.{lawful}
+use Rattle.memory.specs.Listed.{listed, noneListed}
+use Rattle.memory.specs.Memory.{stepped, after, left}
 use Rattle.event.specs.Answer.{answer, done as accepted}
 use Rattle.event.specs.declared.Answer.{Answer}
 use Rattle.event.specs.declared.Event.{Event}
-use Rattle.event.specs.declared.memory.Memory.{Memory}
+use Rattle.memory.specs.declared.Memory.{Memory}
 use Rattle.rules.specs.View.{view, viewIn, same}
 use Rattle.rules.specs.Run.{number, Traced, eventOf, Ends, Realises}
 use Rattle.rules.specs.Demand.{final, OutcomeIn, Passed}
@@ -29,7 +29,7 @@ use Rattle.rules.proofs.Latest.{all-lawful-in}
 use Rattle.rules.proofs.Theorem.{demand-3-in}
 use Rattle.rules.proofs.Chain.{by-end}
 use Rattle.rules.proofs.Along.{values-in}
-use Rattle.event.proofs.Unlisted.{none-listed}
+use Rattle.memory.proofs.Unlisted.{none-listed}
 use Rattle.rules.proofs.Unlisted.{verdict-none}
 
 -- ---- the same events leave the same memory

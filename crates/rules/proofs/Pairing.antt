@@ -10,7 +10,7 @@ use lib.Dec.{T, eqb, eqb-refl}
 use lib.ListN.{length, getD}
 use borrow.Author.Tests.{ne-eqb}
 use Rattle.laws.proofs.Lists.{Each}
-use Rattle.event.specs.Kind.{has}
+use Rattle.laws.specs.Has.{has}
 use Rattle.event.specs.declared.Event.{Event}
 use Rattle.event.specs.Room.{noEvent}
 use Rattle.rules.specs.View.{same, View}

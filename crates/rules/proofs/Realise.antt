@@ -5,7 +5,7 @@ use Prim.Native.Nat.{ℕ}
 use lib.Dec.{T}
 use lib.ListN.{length}
 use Rattle.laws.proofs.Lists.{Each}
-use Rattle.event.specs.Kind.{lawful}
+use Rattle.kinds.specs.Kind.{lawful}
 use Rattle.event.specs.declared.Event.{Event}
 use Rattle.event.specs.Room.{noEvent}
 use Rattle.rules.specs.Run.{Inserted, number, viewed, changes, Realises, Traced, Ends}

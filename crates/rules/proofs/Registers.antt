@@ -3,7 +3,7 @@
 use mathlib.Core.Path.{_≡_}
 use mathlib.Core.Bool.{Bool, true}
 use mathlib.Core.List.{List}
-use Rattle.event.specs.Listed.{isRegister}
+use Rattle.memory.specs.Listed.{isRegister}
 use Rattle.event.specs.declared.Event.{Event}
 use Rattle.rules.specs.View.{wall, viewIn}
 

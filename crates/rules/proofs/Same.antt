@@ -5,8 +5,8 @@ use mathlib.Core.List.{List}
 use Prim.Native.Nat.{ℕ}
 use lib.Dec.{T, eqb, eqb→eq, eqb-refl}
 use Rattle.event.specs.declared.Event.{Event}
-use Rattle.event.specs.Kind.{used, row, plain, isLoadKind}
-use Rattle.event.specs.Listed.{isRegister}
+use Rattle.kinds.specs.Kind.{used, row, plain, isLoadKind}
+use Rattle.memory.specs.Listed.{isRegister}
 use Rattle.rules.specs.View.{same, view, viewIn, load, store, wall}
 use Rattle.rules.proofs.Matching.{Alike, equal, marked}
 use Rattle.rules.proofs.Truth.{and, and-left, and-right, or-right}

@@ -4,13 +4,13 @@ use Prim.Native.Nat.{ℕ}
 use mathlib.Core.Bool.{Bool, true, false, not, cond, _&&_, _||_, false≢true, or-false, or-true}
 use mathlib.Core.List.{List}
 use mathlib.Core.Path.{_≡_, refl, sym, _∙_}
-use Rattle.event.specs.Kind.{row, takes, lawful, isLocation}
-use Rattle.event.specs.Listed.{isRegister}
+use Rattle.kinds.specs.Kind.{row, takes, lawful, isLocation}
+use Rattle.memory.specs.Listed.{isRegister}
 use Rattle.event.specs.declared.Event.{Event}
-use Rattle.event.specs.declared.kind.Orders.{Orders}
-use Rattle.event.specs.declared.kind.Orders.the-variants.{Bare, Marks, Reads, Writes, Updates, Fences, NoKind}
-use Rattle.event.proofs.Lawful.{order-of}
-use Rattle.event.proofs.Table.{each-row}
+use Rattle.kinds.specs.declared.Orders.{Orders}
+use Rattle.kinds.specs.declared.Orders.the-variants.{Bare, Marks, Reads, Writes, Updates, Fences, NoKind}
+use Rattle.kinds.proofs.Lawful.{order-of}
+use Rattle.kinds.proofs.Table.{each-row}
 use Rattle.rules.specs.View.{view, viewIn, View, wall, isWall}
 
 -- a kind at all

@@ -11,11 +11,11 @@ use mathlib.Core.Logic.{_↔_}
 use Prim.Native.Nat.{ℕ}
 use lib.Dec.{T, eqb}
 use lib.ListN.{length}
-use Rattle.event.specs.Listed.{noneListed}
+use Rattle.memory.specs.Listed.{noneListed}
 use Rattle.event.specs.declared.Event.{Event}
 use Rattle.event.specs.Answer.{done, first}
 use Rattle.event.specs.declared.Answer.{Answer}
-use Rattle.event.specs.declared.memory.Memory.{Memory}
+use Rattle.memory.specs.declared.Memory.{Memory}
 use Rattle.rules.specs.View.{View, view, viewIn}
 use Rattle.rules.specs.Verdict.{verdict, verdictIn, sourceAnswer, targetAnswer}
 use Rattle.rules.specs.Run.{Realises}

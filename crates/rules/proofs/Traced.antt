@@ -9,7 +9,8 @@ use native.Mathlib.Omega.{arith}
 use lib.Dec.{T}
 use lib.ListN.{length, getD}
 use Rattle.laws.proofs.Lists.{Each}
-use Rattle.event.specs.Kind.{has, lawful}
+use Rattle.laws.specs.Has.{has}
+use Rattle.kinds.specs.Kind.{lawful}
 use Rattle.event.specs.declared.Event.{Event}
 use Rattle.event.specs.Room.{noEvent}
 use Rattle.rules.specs.Run.{old, new, Traced, traced, tagOf, eventOf, Inserted, number, origin, Ends, viewed}

@@ -3,9 +3,9 @@ use mathlib.Core.Path.{_≡_, ap}
 use mathlib.Core.Bool.{cond}
 use mathlib.Core.List.{List}
 use Prim.Native.Nat.{ℕ}
-use Rattle.event.specs.Listed.{noneListed}
+use Rattle.memory.specs.Listed.{noneListed}
 use Rattle.event.specs.declared.Event.{Event}
-use Rattle.event.proofs.Unlisted.{no-register}
+use Rattle.memory.proofs.Unlisted.{no-register}
 use Rattle.rules.specs.View.{View, view, viewIn, wall}
 use Rattle.rules.specs.Verdict.{inOrder, startAnswer, verdict, verdictIn}
 

@@ -9,12 +9,12 @@ use Prim.Native.Nat.{ℕ}
 use lib.Dec.{T, eqb, eqb-refl, T-not}
 use lib.Seq.{getD-set-other, set-comm, set-set}
 use borrow.Author.Tests.{eqb-true, eqb-false}
-use Rattle.event.specs.Listed.{steppedIn}
-use Rattle.event.specs.Memory.{stepped}
-use Rattle.event.specs.Kind.{lawful}
+use Rattle.memory.specs.Listed.{steppedIn}
+use Rattle.memory.specs.Memory.{stepped}
+use Rattle.kinds.specs.Kind.{lawful}
 use Rattle.event.specs.declared.Event.{Event}
-use Rattle.event.specs.declared.memory.Memory.{Memory}
-use Rattle.event.specs.declared.memory.Stepped.{Stepped}
+use Rattle.memory.specs.declared.Memory.{Memory}
+use Rattle.memory.specs.declared.Stepped.{Stepped}
 use Rattle.rules.specs.Demand.{rightIn, final}
 use Rattle.rules.specs.View.{View, apart, load, store, wall}
 use Rattle.rules.specs.Moves.{Stores, group, near, extend}

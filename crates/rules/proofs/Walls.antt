@@ -5,7 +5,8 @@ use mathlib.Core.Option.{none}
 use mathlib.Core.List.{List, _∷_}
 use Prim.Native.Nat.{ℕ}
 use lib.Dec.{ltb}
-use Rattle.event.specs.Kind.{has, isLoadKind}
+use Rattle.laws.specs.Has.{has}
+use Rattle.kinds.specs.Kind.{isLoadKind}
 use Rattle.event.specs.declared.Event.{Event}
 use Rattle.rules.specs.View.{View, wall, load, store, apart}
 use Rattle.rules.specs.Moves.{near}

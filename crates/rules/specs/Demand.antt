@@ -7,12 +7,12 @@ use mathlib.Core.List.{List, [], _∷_, map}
 use Prim.Native.Nat.{ℕ}
 use lib.Dec.{T}
 use lib.ListN.{length, getD}
-use Rattle.event.specs.Memory.{stepped}
-use Rattle.event.specs.Listed.{listed, noneListed, steppedIn}
+use Rattle.memory.specs.Memory.{stepped}
+use Rattle.memory.specs.Listed.{listed, noneListed, steppedIn}
 use Rattle.event.specs.declared.Event.{Event}
 use Rattle.event.specs.Answer.{done}
-use Rattle.event.specs.declared.memory.Memory.{Memory}
-use Rattle.event.specs.Kind.{places}
+use Rattle.memory.specs.declared.Memory.{Memory}
+use Rattle.event.specs.Place.{places}
 use Rattle.rules.specs.View.{View, view, viewIn}
 use Rattle.rules.specs.Moves.{Run, By}
 use Rattle.rules.specs.Run.{Ends, Realises, Traced, changes, eventOf, new, old, tagOf}

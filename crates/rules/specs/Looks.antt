@@ -2,7 +2,7 @@
 -- its runs carry the numbers. Assumes nothing.
 use mathlib.Core.List.{List, [], _∷_}
 use lib.Dec.{T}
-use Rattle.event.specs.Kind.{made, used}
+use Rattle.kinds.specs.Kind.{made, used}
 use Rattle.event.specs.declared.Event.{Event}
 use Rattle.rules.specs.View.{same, view}
 use Rattle.rules.specs.Moves.{Run}

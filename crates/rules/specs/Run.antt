@@ -5,7 +5,7 @@ use mathlib.Core.Bool.{cond}
 use mathlib.Core.List.{List, [], _∷_}
 use Prim.Native.Nat.{ℕ, suc}
 use lib.Dec.{T, eqb}
-use Rattle.event.specs.Kind.{lawful}
+use Rattle.kinds.specs.Kind.{lawful}
 use Rattle.event.specs.declared.Event.{Event}
 use Rattle.rules.specs.View.{View, same}
 use Rattle.rules.specs.Moves.{Rules, Run, rules}

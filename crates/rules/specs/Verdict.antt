@@ -5,8 +5,9 @@ use mathlib.Core.List.{List, [], _∷_}
 use Prim.Native.Nat.{ℕ, suc}
 use lib.Dec.{eqb, ltb}
 use lib.ListN.{length}
-use Rattle.event.specs.Kind.{isLoadKind, has}
-use Rattle.event.specs.Listed.{listed, noneListed}
+use Rattle.laws.specs.Has.{has}
+use Rattle.kinds.specs.Kind.{isLoadKind}
+use Rattle.memory.specs.Listed.{listed, noneListed}
 use Rattle.event.specs.declared.Event.{Event}
 use Rattle.event.specs.declared.Answer.{Answer}
 use Rattle.event.specs.Answer.{answer, done, first}

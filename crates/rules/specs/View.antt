@@ -4,8 +4,8 @@ use mathlib.Core.Option.{Option, none, some}
 use mathlib.Core.List.{List}
 use Prim.Native.Nat.{ℕ}
 use lib.Dec.{eqb}
-use Rattle.event.specs.Kind.{used, row, plain, isLoadKind}
-use Rattle.event.specs.Listed.{isRegister}
+use Rattle.kinds.specs.Kind.{used, row, plain, isLoadKind}
+use Rattle.memory.specs.Listed.{isRegister}
 use Rattle.event.specs.declared.Event.{Event}
 
 -- A plain event is a load, which says whether its value is used, or a store; every synchronising event is a wall.

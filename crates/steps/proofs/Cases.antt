@@ -4,7 +4,7 @@ use mathlib.Core.Option.{Option, none, some}
 use mathlib.Core.List.{List, [], _∷_}
 use Prim.Native.Nat.{ℕ, zero, suc}
 use lib.ListN.{length}
-use Rattle.event.specs.Kind.{row, made, used, unused}
+use Rattle.kinds.specs.Kind.{row, made, used, unused}
 use Rattle.event.specs.declared.Event.{Event}
 use Rattle.rules.specs.View.{view}
 use Rattle.rules.specs.Run.{Traced, number}

@@ -9,7 +9,7 @@ use native.Mathlib.Omega.{arith}
 use lib.Dec.{eqb, T-not}
 use lib.ListN.{length}
 use borrow.Author.Tests.{eqb-true, eqb-false}
-use Rattle.event.specs.Kind.{has}
+use Rattle.laws.specs.Has.{has}
 use Rattle.event.specs.declared.Event.{Event}
 use Rattle.rules.specs.View.{View}
 use Rattle.rules.specs.Moves.{Run}

@@ -10,7 +10,8 @@ use lib.Dec.{T, eqb, ltb, T-not}
 use lib.ListN.{length, getD}
 use borrow.Author.Tests.{eqb-true, eqb-false, ne-eqb, eq-eqb, ltb-false}
 use Rattle.laws.proofs.Lists.{Each}
-use Rattle.event.specs.Kind.{has, lawful}
+use Rattle.laws.specs.Has.{has}
+use Rattle.kinds.specs.Kind.{lawful}
 use Rattle.event.specs.Room.{noEvent}
 use Rattle.event.specs.declared.Event.{Event}
 use Rattle.rules.specs.View.{View}

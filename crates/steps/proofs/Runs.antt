@@ -7,7 +7,7 @@ use Prim.Native.Nat.{ℕ, suc}
 use lib.Dec.{T, eqb, ltb}
 use lib.ListN.{length}
 use Rattle.laws.proofs.Lists.{Each}
-use Rattle.event.specs.Kind.{lawful}
+use Rattle.kinds.specs.Kind.{lawful}
 use Rattle.event.specs.declared.Event.{Event}
 use Rattle.rules.specs.View.{View}
 use Rattle.rules.specs.Moves.{one, two, Moves, Run, insert, swap, next, done, step}

@@ -7,7 +7,7 @@ use native.Mathlib.Omega.{arith}
 use lib.Dec.{T, ltb, ltb→lt, lt→ltb}
 use lib.ListN.{getD}
 use Rattle.laws.proofs.Lists.{Each}
-use Rattle.event.specs.Kind.{has}
+use Rattle.laws.specs.Has.{has}
 use Rattle.event.specs.declared.Event.{Event}
 use Rattle.rules.specs.View.{View}
 use Rattle.rules.specs.Run.{Tag, old, new, Traced, traced, tagOf, origin, Ends}

@@ -11,7 +11,7 @@ use lib.Seq.{take-at}
 use borrow.Author.Tests.{eqb-false, eqb-true, le-leb, ltb-false, ltb-true, ne-eqb}
 use Rattle.laws.proofs.Cases.{cases, either}
 use Rattle.event.specs.Answer.{done}
-use Rattle.event.specs.Listed.{noneListed}
+use Rattle.memory.specs.Listed.{noneListed}
 use Rattle.event.specs.declared.Answer.{Answer}
 use Rattle.event.specs.declared.Event.{Event}
 use Rattle.trace.specs.Reading.{eventLimit}

@@ -11,9 +11,9 @@ use lib.Dec.{T}
 use lib.ListN.{length}
 use Rattle.laws.specs.Each.{Each}
 use Rattle.event.specs.Answer.{done}
-use Rattle.event.specs.Kind.{lawful}
+use Rattle.kinds.specs.Kind.{lawful}
 use Rattle.event.specs.declared.Event.{Event}
-use Rattle.event.specs.declared.memory.Memory.{Memory}
+use Rattle.memory.specs.declared.Memory.{Memory}
 use Rattle.trace.specs.Reading.{eventLimit}
 use Rattle.rules.specs.View.{View, view, viewIn}
 use Rattle.rules.specs.Moves.{Move, Run}

@@ -15,7 +15,7 @@ use changes::Step;
 use changes::allowed::may_remove;
 use event::Entry;
 use event::Word;
-use event::listed::Listed;
+use memory::listed::Listed;
 
 // Whether a gone event remains.
 pub(crate) fn any_gone(tags: &[usize], entries: &[Entry]) -> bool

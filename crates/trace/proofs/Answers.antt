@@ -11,13 +11,13 @@ use lib.ListN.{length}
 use borrow.Author.Tests.{eq-eqb}
 use Rattle.laws.proofs.Cases.{by-cond, cases}
 use Rattle.laws.proofs.Lists.{every}
-use Rattle.event.specs.Kind.{has}
+use Rattle.laws.specs.Has.{has}
 use Rattle.event.specs.Answer.{answer, done, first, textSides, InTable}
-use Rattle.event.specs.Listed.{steppedIn}
-use Rattle.event.specs.Memory.{stepped}
+use Rattle.memory.specs.Listed.{steppedIn}
+use Rattle.memory.specs.Memory.{stepped}
 use Rattle.event.specs.declared.Answer.{Answer}
 use Rattle.event.specs.declared.Event.{Event}
-use Rattle.event.specs.declared.memory.Memory.{Memory}
+use Rattle.memory.specs.declared.Memory.{Memory}
 use Rattle.event.proofs.Answers.{Among, Given, none, one, among-first, among-more, given-among, given-cond, given-more, given-first, given-in, in-cond, in-first, ranked}
 use Rattle.text.specs.Line.{split, body}
 use Rattle.frame.specs.Reading.{headed, headFault, linesFault, textFault}

@@ -11,9 +11,9 @@ use borrow.Author.Tests.{eq-eqb, eqb-true, not-false}
 use Rattle.laws.proofs.Cases.{cases, either}
 use Rattle.laws.proofs.Lists.{Each, each-imp}
 use Rattle.event.specs.Answer.{done}
-use Rattle.event.specs.Kind.{lastValue}
+use Rattle.kinds.specs.Kind.{lastValue}
 use Rattle.event.specs.declared.Event.{Event}
-use Rattle.event.proofs.Lawful.{place-below}
+use Rattle.kinds.proofs.Lawful.{place-below}
 use Rattle.frame.proofs.Settled.{first-done}
 use Rattle.record.specs.Form.{silent}
 use Rattle.record.specs.Record.{Fit}

@@ -13,12 +13,13 @@ use Rattle.laws.proofs.Cases.{not-first}
 use Rattle.laws.proofs.Lists.{each-imp}
 use Rattle.laws.specs.Each.{Each}
 use Rattle.event.specs.Answer.{answer, done}
-use Rattle.event.specs.Kind.{lawful, places}
-use Rattle.event.specs.Memory.{stepped}
+use Rattle.event.specs.Place.{places}
+use Rattle.kinds.specs.Kind.{lawful}
+use Rattle.memory.specs.Memory.{stepped}
 use Rattle.event.specs.Room.{flat}
 use Rattle.event.specs.declared.Answer.{Answer}
 use Rattle.event.specs.declared.Event.{Event}
-use Rattle.event.specs.declared.memory.Memory.{Memory}
+use Rattle.memory.specs.declared.Memory.{Memory}
 use Rattle.event.proofs.Rooms.{flat-length, onward-flat}
 use Rattle.frame.proofs.Settled.{first-done}
 use Rattle.record.specs.Form.{loses}

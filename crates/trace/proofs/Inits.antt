@@ -13,7 +13,7 @@ use Rattle.laws.proofs.Cases.{cases, either, side}
 use Rattle.event.specs.Answer.{answer, first}
 use Rattle.event.specs.declared.Answer.{Answer}
 use Rattle.event.specs.declared.Event.{Event}
-use Rattle.event.specs.declared.memory.Memory.{Memory}
+use Rattle.memory.specs.declared.Memory.{Memory}
 use Rattle.text.specs.Line.{saidIn}
 use Rattle.text.proofs.Walk.{Some}
 use Rattle.frame.specs.Reading.{linesFault, settle}

@@ -11,12 +11,12 @@ use borrow.Author.Tests.{eqb-true}
 use Rattle.laws.proofs.Cases.{cases, either}
 use Rattle.laws.specs.Each.{Each}
 use Rattle.event.specs.Answer.{answer, done, first}
-use Rattle.event.specs.Listed.{steppedIn}
-use Rattle.event.specs.Memory.{stepped}
+use Rattle.memory.specs.Listed.{steppedIn}
+use Rattle.memory.specs.Memory.{stepped}
 use Rattle.event.specs.Room.{eventAt, onward}
 use Rattle.event.specs.declared.Answer.{Answer}
 use Rattle.event.specs.declared.Event.{Event}
-use Rattle.event.specs.declared.memory.Memory.{Memory}
+use Rattle.memory.specs.declared.Memory.{Memory}
 use Rattle.frame.proofs.Settled.{first-done}
 use Rattle.trace.specs.Fault.{clashesIn, faultAt, eventFaultIn, firstBad}
 

@@ -9,10 +9,11 @@ use native.Mathlib.Omega.{arith}
 use lib.ListN.{length, getD, length-append}
 use borrow.Author.Tests.{not-false}
 use Rattle.laws.specs.Each.{Each}
-use Rattle.event.specs.Kind.{lawful, places}
+use Rattle.event.specs.Place.{places}
+use Rattle.kinds.specs.Kind.{lawful}
 use Rattle.event.specs.Room.{inRoom, eventAt, onward}
 use Rattle.event.specs.declared.Event.{Event}
-use Rattle.event.specs.declared.memory.Memory.{Memory}
+use Rattle.memory.specs.declared.Memory.{Memory}
 use Rattle.record.specs.Form.{header, limitOf, loses}
 use Rattle.record.specs.Layout.{eventLine, initLine}
 use Rattle.record.specs.Record.{Fit, longestEvent, longestInit}

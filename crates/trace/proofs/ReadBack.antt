@@ -11,9 +11,9 @@ use borrow.Author.Tests.{eqb-true, eqb-false, le-ltb, lt-leb, not-true}
 use Rattle.laws.proofs.Cases.{cases, either}
 use Rattle.laws.proofs.Lists.{Each, Free, each-append, every, every-each}
 use Rattle.event.specs.Answer.{done}
-use Rattle.event.specs.Memory.{empty}
+use Rattle.memory.specs.Memory.{empty}
 use Rattle.event.specs.declared.Event.{Event}
-use Rattle.event.specs.declared.memory.Memory.{Memory}
+use Rattle.memory.specs.declared.Memory.{Memory}
 use Rattle.text.specs.Cut.{cut}
 use Rattle.text.specs.Line.{split, saidIn}
 use Rattle.text.specs.Word.{sameBytes}

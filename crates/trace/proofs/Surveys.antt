@@ -8,11 +8,11 @@ use lib.Dec.{eqb}
 use lib.ListN.{length}
 use borrow.Author.Tests.{le-leb, lt-leb, lt-ltb}
 use Rattle.event.specs.Answer.{answer, done, first}
-use Rattle.event.specs.Listed.{steppedIn}
-use Rattle.event.specs.Memory.{stepped}
+use Rattle.memory.specs.Listed.{steppedIn}
+use Rattle.memory.specs.Memory.{stepped}
 use Rattle.event.specs.declared.Answer.{Answer}
 use Rattle.event.specs.declared.Event.{Event}
-use Rattle.event.specs.declared.memory.Memory.{Memory}
+use Rattle.memory.specs.declared.Memory.{Memory}
 use Rattle.text.specs.Cut.{isEmpty}
 use Rattle.text.specs.Line.{saidIn}
 use Rattle.text.proofs.Walk.{Some}

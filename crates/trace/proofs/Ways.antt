@@ -11,7 +11,7 @@ use lib.Seq.{getD-set-same, getD-set-other}
 use borrow.Author.Tests.{eqb-true, eqb-false, eq-eqb, lt-ltb}
 use Rattle.laws.proofs.Cases.{cases, either, side}
 use Rattle.laws.specs.Each.{Each}
-use Rattle.event.specs.Kind.{row, isLocation, plain, atomic}
+use Rattle.kinds.specs.Kind.{row, isLocation, plain, atomic}
 use Rattle.event.specs.declared.Event.{Event}
 use Rattle.trace.specs.Cover.{touches, touched}
 use Rattle.trace.specs.Fault.{uses, clashes}

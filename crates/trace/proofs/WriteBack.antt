@@ -9,8 +9,8 @@ use lib.ListN.{length, set, replicate, length-set}
 use borrow.Author.Tests.{leb-false, ltb-false}
 use Rattle.laws.proofs.Cases.{not-first}
 use Rattle.laws.specs.Each.{Each}
-use Rattle.event.specs.Kind.{lastValue}
-use Rattle.event.specs.Memory.{empty}
+use Rattle.kinds.specs.Kind.{lastValue}
+use Rattle.memory.specs.Memory.{empty}
 use Rattle.text.specs.Line.{saidIn}
 use Rattle.text.proofs.Walk.{Some}
 use Rattle.frame.specs.Reading.{linesFault}

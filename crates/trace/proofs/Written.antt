@@ -11,7 +11,7 @@ use Rattle.laws.proofs.Cases.{cases, either}
 use Rattle.event.specs.Answer.{answer}
 use Rattle.event.specs.Room.{onward}
 use Rattle.event.specs.declared.Answer.{Answer}
-use Rattle.event.specs.declared.memory.Memory.{Memory}
+use Rattle.memory.specs.declared.Memory.{Memory}
 use Rattle.trace.specs.Reading.{eventLimit}
 use Rattle.trace.specs.Fault.{eventFaultIn}
 use Rattle.trace.specs.Writing.{countOf, layoutFault, roomFaultIn}

@@ -5,7 +5,7 @@ use mathlib.Core.Bool.{Bool, false, cond, not, _&&_, _||_}
 use mathlib.Core.List.{List, [], _∷_}
 use lib.Dec.{eqb}
 use Rattle.event.specs.Answer.{first}
-use Rattle.event.specs.Kind.{row, isLocation}
+use Rattle.kinds.specs.Kind.{row, isLocation}
 use Rattle.event.specs.declared.Answer.{Answer}
 use Rattle.event.specs.declared.Event.{Event}
 use Rattle.record.specs.Form.{silent}

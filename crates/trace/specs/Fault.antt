@@ -4,12 +4,12 @@ use mathlib.Core.Bool.{Bool, false, cond, _&&_, _||_}
 use mathlib.Core.List.{List, [], _∷_}
 use lib.Dec.{eqb}
 use Rattle.event.specs.Answer.{answer, done, first}
-use Rattle.event.specs.Kind.{plain, atomic}
-use Rattle.event.specs.Listed.{usesAtomically, steppedIn}
-use Rattle.event.specs.Memory.{stepped}
+use Rattle.kinds.specs.Kind.{plain, atomic}
+use Rattle.memory.specs.Listed.{usesAtomically, steppedIn}
+use Rattle.memory.specs.Memory.{stepped}
 use Rattle.event.specs.declared.Answer.{Answer}
 use Rattle.event.specs.declared.Event.{Event}
-use Rattle.event.specs.declared.memory.Memory.{Memory}
+use Rattle.memory.specs.declared.Memory.{Memory}
 
 -- The first of a list of which a test says that it is bad, the first of the list having the number k; an answer of this number and side.
 unfoldable pub firstBad : {A : Type 0} → (A → Bool) → ℕ → ℕ → ℕ → List A → Answer

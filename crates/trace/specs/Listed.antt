@@ -6,7 +6,7 @@ use mathlib.Core.List.{List}
 use lib.Dec.{eqb}
 use Rattle.event.specs.Answer.{first}
 use Rattle.event.specs.declared.Answer.{Answer}
-use Rattle.event.specs.declared.memory.Memory.{Memory}
+use Rattle.memory.specs.declared.Memory.{Memory}
 use Rattle.frame.specs.Reading.{settle}
 use Rattle.registers.specs.Reading.{listOf}
 use Rattle.record.specs.declared.form.Form.{Form}

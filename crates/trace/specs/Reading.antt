@@ -7,12 +7,12 @@ use mathlib.Core.List.{List, [], _∷_, _++_}
 use lib.Dec.{eqb, leb, ltb}
 use lib.ListN.{length, drop, set}
 use Rattle.event.specs.Answer.{done, first}
-use Rattle.event.specs.Listed.{noneListed}
-use Rattle.event.specs.Memory.{empty}
+use Rattle.memory.specs.Listed.{noneListed}
+use Rattle.memory.specs.Memory.{empty}
 use Rattle.event.specs.Room.{flat}
 use Rattle.event.specs.declared.Answer.{Answer}
 use Rattle.event.specs.declared.Event.{Event}
-use Rattle.event.specs.declared.memory.Memory.{Memory}
+use Rattle.memory.specs.declared.Memory.{Memory}
 use Rattle.text.specs.Line.{split, body, saidIn}
 use Rattle.frame.specs.Reading.{Layout, headed, textFault, settle, fitted}
 use Rattle.record.specs.Form.{header, limitOf}

@@ -4,7 +4,7 @@ use mathlib.Core.Bool.{Bool, false}
 use mathlib.Core.List.{List, [], _++_}
 use lib.ListN.{length, getD}
 use Rattle.event.specs.Answer.{first}
-use Rattle.event.specs.declared.memory.Memory.{Memory}
+use Rattle.memory.specs.declared.Memory.{Memory}
 use Rattle.frame.specs.Reading.{linesFault, settle}
 use Rattle.trace.specs.Cover.{Start, coverFault, starts}
 use Rattle.trace.specs.Fault.{eventFaultIn}

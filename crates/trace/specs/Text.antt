@@ -5,9 +5,10 @@ use mathlib.Core.List.{List}
 use mathlib.Core.Path.{_≡_}
 use lib.ListN.{length}
 use Rattle.laws.specs.Each.{Each}
-use Rattle.event.specs.Kind.{places, lastValue}
+use Rattle.event.specs.Place.{places}
+use Rattle.kinds.specs.Kind.{lastValue}
 use Rattle.event.specs.declared.Event.{Event}
-use Rattle.event.specs.declared.memory.Memory.{Memory}
+use Rattle.memory.specs.declared.Memory.{Memory}
 use Rattle.record.specs.Form.{header}
 use Rattle.record.specs.Record.{Fit, longestEvent, longestInit}
 use Rattle.record.specs.declared.form.Form.{Form}

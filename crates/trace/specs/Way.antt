@@ -5,7 +5,8 @@ use mathlib.Core.List.{List, [], _∷_}
 use lib.Dec.{eqb, ltb}
 use lib.ListN.{getD, set}
 use Rattle.event.specs.declared.Event.{Event}
-use Rattle.event.specs.Kind.{row, isLocation, places}
+use Rattle.event.specs.Place.{places}
+use Rattle.kinds.specs.Kind.{row, isLocation}
 
 -- 0 not at all, 1 by a plain event, 2 by an atomic one.
 unfoldable pub wayOf : ℕ → ℕ

@@ -6,12 +6,12 @@ use mathlib.Core.List.{List, [], _∷_, _++_, map}
 use lib.Dec.{eqb, leb, ltb}
 use lib.ListN.{length, drop}
 use Rattle.event.specs.Answer.{answer, done, first}
-use Rattle.event.specs.Kind.{lawful}
-use Rattle.event.specs.Listed.{noneListed}
+use Rattle.kinds.specs.Kind.{lawful}
+use Rattle.memory.specs.Listed.{noneListed}
 use Rattle.event.specs.Room.{onward}
 use Rattle.event.specs.declared.Answer.{Answer}
 use Rattle.event.specs.declared.Event.{Event}
-use Rattle.event.specs.declared.memory.Memory.{Memory}
+use Rattle.memory.specs.declared.Memory.{Memory}
 use Rattle.record.specs.Form.{header, loses, silent}
 use Rattle.record.specs.Layout.{initLine, eventLine}
 use Rattle.record.specs.declared.form.Form.{Form}

@@ -3,8 +3,8 @@ ghost use mathlib.Core.Path.{_≡_};
 ghost use mathlib.Core.Bool.{true, cond, _||_, not};
 ghost use Prim.Native.Nat.{_<_};
 ghost use Rattle.event.specs.Answer.{done, first};
-ghost use Rattle.event.specs.Kind.{lawful};
-ghost use Rattle.event.specs.Listed.{isRegister, usesAtomically};
+ghost use Rattle.kinds.specs.Kind.{lawful};
+ghost use Rattle.memory.specs.Listed.{isRegister, usesAtomically};
 ghost use Rattle.trace.specs.Fault.{faultAt};
 ghost use Rattle.trace.specs.Way.{wayOf, opposed, joined, clashing, waysAfter};
 use event::Answer;
@@ -12,11 +12,11 @@ use event::Event;
 use event::Number;
 use event::Word;
 use event::index_of;
-use event::kind::Place;
-use event::kind::row_of;
-use event::listed::Listed;
-use event::listed::is_listed;
-use event::listed::is_register;
+use kinds::Place;
+use kinds::row_of;
+use memory::listed::Listed;
+use memory::listed::is_listed;
+use memory::listed::is_register;
 
 // How a location is used: not at all, by plain events, by atomic ones.
 pub type Way = u8;

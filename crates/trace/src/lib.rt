@@ -11,7 +11,7 @@ ghost use mathlib.Core.Path.{_≡_};
 ghost use Rattle.trace.specs.Listed.{readListed, roomListed};
 ghost use Rattle.trace.specs.Reading.{readIn, roomAfterIn, readOf, roomAfter};
 use event::Word;
-use event::listed::Listed;
+use memory::listed::Listed;
 use reading::TraceRead;
 use reading::refusal;
 use reading::store;

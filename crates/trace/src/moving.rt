@@ -11,7 +11,7 @@ use crate::reading::TraceRead;
 use crate::reading::refusal;
 use crate::reading::survey;
 use event::Answer;
-use event::listed::Listed;
+use memory::listed::Listed;
 use record::Record;
 use record::form::Form;
 use record::form::does_lose;

@@ -14,11 +14,11 @@ use crate::reading::EVENT_LIMIT;
 use event::Answer;
 use event::WORDS;
 use event::Word;
-use event::kind::is_lawful;
-use event::listed::Listed;
-use event::memory::Memory;
-use event::memory::Stepped;
 use event::room::get;
+use kinds::is_lawful;
+use memory::Memory;
+use memory::Stepped;
+use memory::listed::Listed;
 use record::form::Form;
 use record::form::does_lose;
 

@@ -5,9 +5,9 @@ use mathlib.Core.Path.{_≡_}
 use mathlib.Core.List.{List, [], _∷_, _++_}
 use lib.ListN.{length}
 use lib.Seq.{sets}
-use Rattle.event.specs.Kind.{lawful}
+use Rattle.kinds.specs.Kind.{lawful}
 use Rattle.event.specs.declared.Event.{Event}
-use Rattle.event.specs.declared.memory.Memory.{Memory}
+use Rattle.memory.specs.declared.Memory.{Memory}
 use Rattle.record.specs.Form.{header}
 use Rattle.record.specs.Layout.{eventLine, initLine}
 use Rattle.record.specs.declared.form.Form.{Form}

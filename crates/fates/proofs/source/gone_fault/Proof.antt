@@ -5,7 +5,7 @@ use mathlib.Core.Option.{Option}
 use mathlib.Core.List.{List}
 use Prim.Native.Nat.{ℕ}
 use lib.Dec.{eqb}
-use Rattle.event.specs.Kind.{used}
+use Rattle.kinds.specs.Kind.{used}
 use Rattle.event.specs.declared.Event.{Event}
 use Rattle.rules.specs.View.{View, viewIn, isLoad, isWall}
 use Rattle.rules.specs.Fault.{is}

@@ -12,7 +12,7 @@ use lib.Seq.{drop-length}
 use borrow.Author.Tests.{lt-ltb, le-ltb}
 use Rattle.event.specs.Answer.{answer, done}
 use Rattle.event.specs.declared.Answer.{Answer}
-use Rattle.event.specs.Kind.{has}
+use Rattle.laws.specs.Has.{has}
 use Rattle.rules.specs.Fault.{isGone}
 use Rattle.rules.specs.Verdict.{entryAnswer}
 use Rattle.judge.specs.Pass.{Marked}

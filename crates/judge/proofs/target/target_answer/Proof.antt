@@ -10,7 +10,8 @@ use lib.ListN.{length, length-set}
 use Rattle.event.specs.Answer.{done}
 use Rattle.event.specs.declared.Answer.{Answer}
 use Rattle.event.specs.declared.Event.{Event}
-use Rattle.event.specs.Kind.{has, places}
+use Rattle.laws.specs.Has.{has}
+use Rattle.event.specs.Place.{places}
 use Rattle.event.specs.Room.{onward, capacity}
 use Rattle.rules.specs.View.{View, viewIn, isLoad, isWall}
 use Rattle.rules.specs.Fault.{Item, isNone, item, near, stays, unsupported}

@@ -4,7 +4,7 @@ use mathlib.Core.Bool.{Bool, true, false, cond, not, and-true, and-false}
 use mathlib.Core.Path.{_≡_, refl, sym, _∙_}
 use lib.Dec.{eqb}
 use borrow.Author.Needs.{needs}
-use Rattle.event.specs.Kind.{row, isLocation}
+use Rattle.kinds.specs.Kind.{row, isLocation}
 use Rattle.trace.specs.Way.{wayOf}
 use Rattle.trace.proofs.cover.lacks_line.Statement.{statement}
 use Rattle.trace.proofs.cover.lacks_line.Tie as tie

@@ -2,8 +2,8 @@
 use mathlib.Core.Bool.{Bool, true, false, cond}
 use mathlib.Core.Path.{_≡_, refl, sym, _∙_}
 use borrow.Author.Needs.{needs}
-use Rattle.event.specs.Kind.{lawful}
-use Rattle.event.specs.Listed.{isRegister}
+use Rattle.kinds.specs.Kind.{lawful}
+use Rattle.memory.specs.Listed.{isRegister}
 use Rattle.trace.proofs.fault.is_right.Statement.{statement}
 use Rattle.trace.proofs.fault.is_right.Tie as tie
 

@@ -4,7 +4,7 @@ use mathlib.Core.Bool.{Bool, true, false, cond, _&&_, _||_, and-true, and-false}
 use mathlib.Core.Path.{_≡_, refl, sym, _∙_}
 use lib.Dec.{eqb}
 use borrow.Author.Needs.{needs}
-use Rattle.event.specs.Kind.{row, isLocation, atomic}
+use Rattle.kinds.specs.Kind.{row, isLocation, atomic}
 use Rattle.trace.specs.Way.{wayOf}
 use Rattle.trace.proofs.fault.use_listed.Statement.{statement}
 use Rattle.trace.proofs.fault.use_listed.Tie as tie

@@ -6,10 +6,10 @@ use mathlib.Core.Path.{_≡_, refl}
 use native.Mathlib.Omega.{arith}
 use types.Run.{OneOf}
 use denote.Enum.Declared.{tagOf}
-use Rattle.event.proofs.kind.Place.{the-type}
-use Rattle.event.specs.Kind.{isLocation}
-use Rattle.event.specs.declared.kind.Place.{Place}
-use Rattle.event.specs.declared.kind.Place.the-variants.{Location, Mutex, Nowhere}
+use Rattle.kinds.proofs.Place.{the-type}
+use Rattle.kinds.specs.Kind.{isLocation}
+use Rattle.kinds.specs.declared.Place.{Place}
+use Rattle.kinds.specs.declared.Place.the-variants.{Location, Mutex, Nowhere}
 use Rattle.trace.specs.Way.{wayOf}
 use borrow.Author.Needs.{needs}
 use Rattle.trace.proofs.fault.way_of.Statement.{statement}

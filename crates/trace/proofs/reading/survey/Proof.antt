@@ -14,7 +14,7 @@ use Rattle.record.specs.Form.{header, limitOf}
 use Rattle.record.specs.declared.form.Form.{Form}
 use Rattle.record.specs.declared.form.Form.the-variants.{One, Two}
 use Rattle.trace.specs.Reading.{SoFar, formOf, traceLayout, faultIn, surveyIn, eventsOf, initsOf}
-use Rattle.event.specs.Memory.{empty}
+use Rattle.memory.specs.Memory.{empty}
 use Rattle.trace.specs.Survey.{marked, surveyInits}
 use Rattle.trace.proofs.Inits.{unmarked}
 use Rattle.trace.proofs.Starts.{starts-none}

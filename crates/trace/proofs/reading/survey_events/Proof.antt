@@ -12,11 +12,11 @@ use Rattle.laws.proofs.Cases.{cases}
 use Rattle.event.specs.Answer.{answer, done, first}
 use Rattle.event.specs.declared.Answer.{Answer}
 use Rattle.event.specs.declared.Event.{Event}
-use Rattle.event.specs.declared.memory.Memory.{Memory}
-use Rattle.event.specs.declared.memory.Stepped.{Stepped}
-use Rattle.event.specs.Kind.{lawful}
-use Rattle.event.specs.Listed.{isRegister, usesAtomically, steppedIn}
-use Rattle.event.proofs.Lawful.{place-below}
+use Rattle.memory.specs.declared.Memory.{Memory}
+use Rattle.memory.specs.declared.Stepped.{Stepped}
+use Rattle.kinds.specs.Kind.{lawful}
+use Rattle.memory.specs.Listed.{isRegister, usesAtomically, steppedIn}
+use Rattle.kinds.proofs.Lawful.{place-below}
 use Rattle.text.specs.Cut.{isEmpty}
 use Rattle.text.specs.Line.{splitFrom}
 use Rattle.text.proofs.Walk.{Next, next, last, rest-some, rest-none}

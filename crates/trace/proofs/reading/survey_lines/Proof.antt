@@ -8,8 +8,8 @@ use native.Mathlib.Omega.{arith}
 use borrow.Author.Needs.{needs}
 use lib.ListN.{length, take, drop, set, replicate, length-set}
 use lib.Seq.{getD-set-other}
-use Rattle.event.specs.Memory.{empty}
-use Rattle.event.specs.declared.memory.Memory.{Memory}
+use Rattle.memory.specs.Memory.{empty}
+use Rattle.memory.specs.declared.Memory.{Memory}
 use Rattle.text.specs.Line.{splitFrom}
 use Rattle.text.proofs.Walk.{Next, next, last}
 use Rattle.record.specs.Record.{recordOf}

@@ -10,14 +10,14 @@ use borrow.Author.Tests.{ne-eqb, not-false}
 use lib.Dec.{eqb}
 use lib.ListN.{length, length-set}
 use Rattle.event.specs.Answer.{done, first}
-use Rattle.event.specs.Kind.{lawful}
-use Rattle.event.specs.Listed.{isRegister, usesAtomically, steppedIn}
+use Rattle.kinds.specs.Kind.{lawful}
+use Rattle.memory.specs.Listed.{isRegister, usesAtomically, steppedIn}
 use Rattle.event.specs.Room.{onward}
 use Rattle.event.specs.declared.Answer.{Answer}
 use Rattle.event.specs.declared.Event.{Event}
-use Rattle.event.specs.declared.memory.Memory.{Memory}
-use Rattle.event.specs.declared.memory.Stepped.{Stepped}
-use Rattle.event.proofs.Lawful.{place-below}
+use Rattle.memory.specs.declared.Memory.{Memory}
+use Rattle.memory.specs.declared.Stepped.{Stepped}
+use Rattle.kinds.proofs.Lawful.{place-below}
 use Rattle.trace.specs.Fault.{clashesIn, faultAt, eventFaultIn}
 use Rattle.trace.specs.Writing.{layoutFault}
 use Rattle.trace.proofs.Judged.{event-next, onward-end, onward-all, bad-none, fault-next, fault-end, fault-free}

@@ -6,7 +6,7 @@ use mathlib.Core.Path.{_≡_, sym, _∙_, ap}
 use native.Mathlib.Omega.{arith}
 use borrow.Author.Needs.{needs}
 use borrow.Author.Tests.{not-true, not-false}
-use Rattle.event.specs.Kind.{lawful}
+use Rattle.kinds.specs.Kind.{lawful}
 use Rattle.event.specs.Room.{eventAt}
 use Rattle.event.specs.declared.Event.{Event}
 use Rattle.trace.proofs.Judged.{Sought, sought-start, sought-next, sought-here, sought-end}

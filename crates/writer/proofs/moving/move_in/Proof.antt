@@ -7,7 +7,7 @@ use native.Mathlib.Omega.{arith}
 use borrow.Author.Needs.{needs}
 use lib.ListN.{length}
 use Rattle.event.specs.declared.Answer.{Answer}
-use Rattle.event.specs.declared.memory.Memory.{Memory}
+use Rattle.memory.specs.declared.Memory.{Memory}
 use Rattle.record.specs.declared.form.Form.{Form}
 use Rattle.trace.specs.Moving.{movedText, moveFaultIn, moveIn, movedOutIn}
 use Rattle.writer.specs.Put.{Put, Small}

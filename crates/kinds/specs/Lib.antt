@@ -1,0 +1,2 @@
+-- What the contracts of this crate say: the fixed table of kinds. Assumes nothing.
+pub mod Kind
