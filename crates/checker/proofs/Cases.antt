@@ -10,8 +10,11 @@ use Rattle.text.specs.Number.{allDigits, valueOn, digitsOn, numberOf}
 use Rattle.text.specs.Word.{bytes, sameBytes}
 use Rattle.record.specs.Layout.{numberIn}
 use Rattle.record.specs.Record.{numberIf, orderIf, eventRest, initRest, unlessSilent, recordOf}
-use Rattle.trace.specs.Cover.{lined, coverFault}
-use Rattle.trace.specs.Fault.{uses, firstBad, eventFaultIn}
+use Rattle.uses.specs.Cover.{lined}
+use Rattle.trace.specs.Fault.{coverFault}
+use Rattle.uses.specs.Use.{uses}
+use Rattle.uses.specs.Bad.{firstBad}
+use Rattle.trace.specs.Fault.{eventFaultIn}
 use Rattle.trace.specs.Reading.{formOf, startIn, faultIn, surveyIn, eventsOf, initsOf, readIn}
 use Rattle.matching.specs.Entry.{keepRest, goneRest, entryOf}
 use Rattle.frame.specs.Reading.{headFault, linesFault, textFault}

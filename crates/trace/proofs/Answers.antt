@@ -27,8 +27,11 @@ use Rattle.record.specs.Record.{recordOf}
 use Rattle.record.specs.declared.form.Form.{Form}
 use Rattle.record.specs.declared.Record.{Record}
 use Rattle.record.specs.declared.Record.the-variants.{Init, AnEvent, Refused}
-use Rattle.trace.specs.Cover.{touched, lined, lacksLine, isIdle, coverFault}
-use Rattle.trace.specs.Fault.{clashesIn, faultAt, eventFaultIn, firstBad}
+use Rattle.uses.specs.Cover.{touched, lined, lacksLine, isIdle}
+use Rattle.trace.specs.Fault.{coverFault}
+use Rattle.uses.specs.Use.{clashesIn}
+use Rattle.trace.specs.Fault.{faultAt, eventFaultIn}
+use Rattle.uses.specs.Bad.{firstBad}
 use Rattle.trace.specs.Reading.{SoFar, formOf, eventLimit, lineFault, traceLayout, startOf, initsOf, eventsOf, faultIn, surveyIn, readIn}
 use Rattle.trace.specs.Moving.{movedText, moveHead, moveFaultIn, moveIn}
 use Rattle.trace.specs.Writing.{countOf, roomEvents, layoutFault, lost, traceText, roomFaultIn, inOut, writeFaultIn, writeIn}

@@ -19,12 +19,14 @@ use Rattle.record.specs.Form.{silent}
 use Rattle.record.specs.Record.{Fit}
 use Rattle.record.specs.declared.form.Form.{Form}
 use Rattle.record.specs.declared.form.Form.the-variants.{One, Two}
-use Rattle.trace.specs.Cover.{Start, touches, touched, lined, lacksLine, isIdle, coverFault, starts}
-use Rattle.trace.specs.Fault.{uses, firstBad}
+use Rattle.uses.specs.Cover.{Start, touches, touched, lined, lacksLine, isIdle, starts}
+use Rattle.trace.specs.Fault.{coverFault}
+use Rattle.uses.specs.Use.{uses}
+use Rattle.uses.specs.Bad.{firstBad}
 use Rattle.trace.specs.Text.{Valued}
 use Rattle.trace.specs.Writing.{hasLine}
-use Rattle.trace.proofs.Judged.{bad-done, bad-each}
-use Rattle.trace.proofs.Starts.{Agrees, lined-starts, starts-each}
+use Rattle.uses.proofs.Bad.{bad-done, bad-each}
+use Rattle.uses.proofs.Starts.{Agrees, lined-starts, starts-each}
 
 -- a starting value that has a line in a form: in range, and not a silent zero
 pub record Heard (f : Form) (i : Start) : Type 0 where

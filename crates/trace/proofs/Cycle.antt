@@ -33,7 +33,8 @@ use Rattle.trace.proofs.OneText.{text-whole, written-read}
 use Rattle.trace.proofs.Range.{onward-length, room-fits}
 use Rattle.trace.proofs.ReadBack.{read-written}
 use Rattle.trace.proofs.Readings.{counts, read-done}
-use Rattle.trace.proofs.Judged.{bad-done, fault-parts}
+use Rattle.uses.proofs.Bad.{bad-done}
+use Rattle.trace.proofs.Judged.{fault-parts}
 
 -- that no event is at fault does not hang on the side, nor on where the counting starts
 pub fault-none : (regs : List Bool) (side side′ k k′ : ℕ) (m : Memory) (before es : List Event) → eventFaultIn regs side k m before es .number ≡ 0

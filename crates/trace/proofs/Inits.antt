@@ -24,11 +24,14 @@ use Rattle.record.specs.declared.Record.the-variants.{Init, AnEvent, Refused}
 use Rattle.record.proofs.Records.{blank, init-place}
 use Rattle.record.specs.declared.form.Form.{Form}
 use Rattle.trace.specs.Fault.{eventFaultIn}
-use Rattle.trace.specs.Reading.{SoFar, lineFault, afterLine, traceLayout, eventsIn, initsIn, filled, startIn, readAs, refused}
-use Rattle.trace.specs.Cover.{Start, coverFault}
-use Rattle.trace.specs.Survey.{closed, marked, soFar, surveyInits, surveyEvents}
+use Rattle.trace.specs.Reading.{SoFar, lineFault, afterLine, traceLayout, eventsIn, initsIn, startIn, readAs, refused}
+use Rattle.uses.specs.Cover.{filled}
+use Rattle.uses.specs.Cover.{Start}
+use Rattle.trace.specs.Fault.{coverFault}
+use Rattle.trace.specs.Survey.{closed, surveyInits, surveyEvents}
+use Rattle.uses.specs.Cover.{marked, soFar}
 use Rattle.trace.specs.declared.reading.TraceRead.{TraceRead}
-use Rattle.trace.proofs.Starts.{starts-more}
+use Rattle.uses.proofs.Starts.{starts-more}
 
 -- before the first line no location has one
 pub unmarked : (j : ℕ) → marked (replicate 256 false) j ≡ false

@@ -1,7 +1,5 @@
 -- Laws that belong to no one function. Assumes nothing.
 pub mod Surveys
-pub mod Ways
-pub mod Starts
 pub mod Covered
 pub mod Inits
 pub mod Readings

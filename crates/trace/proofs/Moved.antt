@@ -24,14 +24,14 @@ use Rattle.record.specs.Form.{header, limitOf, loses, other}
 use Rattle.record.specs.Record.{Fit}
 use Rattle.record.specs.declared.form.Form.{Form}
 use Rattle.record.specs.declared.form.Form.the-variants.{One, Two}
-use Rattle.trace.specs.Cover.{touched}
+use Rattle.uses.specs.Cover.{touched}
 use Rattle.trace.specs.Moving.{movedText, moveHead, moveFaultIn, moveSurveyIn}
 use Rattle.trace.specs.Reading.{formOf, startOf, eventsOf, faultIn, refused, readAs, surveyIn}
 use Rattle.trace.specs.Text.{Fits, longestText}
 use Rattle.trace.specs.Writing.{lost, traceText}
 use Rattle.trace.specs.declared.reading.TraceRead.{TraceRead}
 use Rattle.trace.proofs.Cycle.{fault-none, lost-done}
-use Rattle.trace.proofs.Judged.{bad-none}
+use Rattle.uses.proofs.Bad.{bad-none}
 use Rattle.trace.proofs.OneText.{Sound, text-whole, line-one, memory-is, written-read}
 use Rattle.trace.proofs.ReadBack.{its-lines, some-lines, form-written, text-parts, read-written}
 use Rattle.trace.proofs.Range.{text-length, longest-short}

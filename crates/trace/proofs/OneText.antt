@@ -18,7 +18,8 @@ use Rattle.text.proofs.Walk.{Some}
 use Rattle.record.specs.Form.{header}
 use Rattle.record.specs.Layout.{eventLine}
 use Rattle.record.specs.declared.form.Form.{Form}
-use Rattle.trace.specs.Cover.{Start, touched, coverFault}
+use Rattle.uses.specs.Cover.{Start, touched}
+use Rattle.trace.specs.Fault.{coverFault}
 use Rattle.trace.specs.Fault.{eventFaultIn}
 use Rattle.frame.specs.Reading.{headed, linesFault, textFault}
 use Rattle.frame.proofs.Heads.{framed}

@@ -20,13 +20,13 @@ use Rattle.record.specs.Record.{Fit, longestEvent, longestInit}
 use Rattle.record.proofs.Prints.{event-length, init-length}
 use Rattle.record.specs.declared.form.Form.{Form}
 use Rattle.record.specs.declared.form.Form.the-variants.{One, Two}
-use Rattle.trace.specs.Cover.{Start, starts}
+use Rattle.uses.specs.Cover.{Start, starts}
 use Rattle.trace.specs.Reading.{eventLimit}
 use Rattle.trace.specs.Writing.{layoutFault, lost, textOf, hasLine, startLine, textBy}
 use Rattle.trace.specs.Text.{Valued, Fits, longestText}
 use Rattle.trace.proofs.Covered.{Heard, each-heard}
-use Rattle.trace.proofs.Judged.{bad-none}
-use Rattle.trace.proofs.Starts.{Rising, rising-starts}
+use Rattle.uses.proofs.Bad.{bad-none}
+use Rattle.uses.proofs.Starts.{Rising, rising-starts}
 
 -- each line has an LF after it
 events-length : (f : Form) (es : List Event) → Each (Fit f) es → length (textOf (map (eventLine f) es)) ≤ length es * suc (longestEvent f)

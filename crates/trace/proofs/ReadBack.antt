@@ -22,7 +22,8 @@ use Rattle.text.proofs.Walk.{Some}
 use Rattle.record.specs.Form.{header, limitOf}
 use Rattle.record.specs.Layout.{eventLine, initLine}
 use Rattle.record.specs.Record.{Fit, recordOf}
-use Rattle.trace.specs.Cover.{Start, touched, coverFault, starts}
+use Rattle.uses.specs.Cover.{Start, touched, starts}
+use Rattle.trace.specs.Fault.{coverFault}
 use Rattle.trace.specs.Fault.{eventFaultIn}
 use Rattle.frame.specs.Reading.{headed, linesFault}
 use Rattle.frame.proofs.Heads.{by-lines}
@@ -36,7 +37,7 @@ use Rattle.record.specs.declared.Record.the-variants.{Init, AnEvent}
 use Rattle.record.proofs.Layouts.{event-read, init-read}
 use Rattle.record.proofs.Prints.{event-no-lf, init-no-lf}
 use Rattle.trace.proofs.Covered.{Heard, each-heard, fit-inside, covered}
-use Rattle.trace.proofs.Starts.{Rising, rising-starts, filled-starts}
+use Rattle.uses.proofs.Starts.{Rising, rising-starts, filled-starts}
 use Rattle.trace.proofs.Range.{text-length, longest-short}
 use Rattle.trace.proofs.Readings.{read-done}
 use Rattle.record.proofs.Records.{blank}

@@ -10,7 +10,6 @@ use Rattle.trace.proofs.form.form_of.Reads as form-of
 use Rattle.trace.proofs.room.count_of.Reads as count-of
 use Rattle.trace.proofs.room.write_fault.Reads as write-fault
 use Rattle.trace.proofs.moving.survey_to.Reads as survey-to
-use Rattle.trace.proofs.cover.touch.Reads as touch
 
 read-one : OneAnswer read.Post
 read-one κ a x y s t h k = h .0 ∙ sym (k .0)
@@ -47,6 +46,3 @@ write-fault-one κ a x y s t h k = h ∙ sym k
 
 survey-to-one : OneAnswer survey-to.Post
 survey-to-one κ a x y s t h k = h ∙ sym k
-
-touch-ways : OneOf touch.Post (λ κ r s. s .0 .now)
-touch-ways κ a x y s t h k = h ∙ sym k

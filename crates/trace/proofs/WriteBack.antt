@@ -22,12 +22,13 @@ use Rattle.record.proofs.Layouts.{line-says, init-back}
 use Rattle.record.proofs.Records.{blank}
 use Rattle.record.specs.declared.form.Form.{Form}
 use Rattle.trace.specs.Reading.{SoFar, lineFault, afterLine, traceLayout, eventsIn, initsIn, startIn, startFrom, eventLimit}
-use Rattle.trace.specs.Cover.{touched, coverFault}
+use Rattle.uses.specs.Cover.{touched}
+use Rattle.trace.specs.Fault.{coverFault}
 use Rattle.trace.specs.Writing.{hasLine, startLine}
 use Rattle.trace.specs.Text.{Valued}
 use Rattle.trace.proofs.Covered.{Heard, agrees}
 use Rattle.trace.proofs.ReadBack.{tail, its-lines}
-use Rattle.trace.proofs.Starts.{Rising, rising-none, starts-filled}
+use Rattle.uses.proofs.Starts.{Rising, rising-none, starts-filled}
 
 set-valued : (cells : List ℕ) (p v : ℕ) → Valued cells → v ≤ lastValue → Valued (set cells p v)
 set-valued [] p v h k = tt

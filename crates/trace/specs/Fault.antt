@@ -1,33 +1,22 @@
--- Document 01, "Numbers that come back", and document 02, C-16: answers 5 and 6, event by event, under a list of registers. Assumes nothing.
+-- Document 01, "Numbers that come back", and document 02, C-15 and C-16: answers 20 and 21, and answers 5 and 6, event by event, under a list of registers.
+-- Assumes nothing.
 use Prim.Native.Nat.{ℕ, _+_}
-use mathlib.Core.Bool.{Bool, false, cond, _&&_, _||_}
+use mathlib.Core.Bool.{Bool, cond}
 use mathlib.Core.List.{List, [], _∷_}
-use lib.Dec.{eqb}
 use Rattle.event.specs.Answer.{answer, done, first}
-use Rattle.kinds.specs.Kind.{plain, atomic}
-use Rattle.memory.specs.Listed.{usesAtomically, steppedIn}
+use Rattle.memory.specs.Listed.{steppedIn}
 use Rattle.memory.specs.Memory.{stepped}
 use Rattle.event.specs.declared.Answer.{Answer}
 use Rattle.event.specs.declared.Event.{Event}
 use Rattle.memory.specs.declared.Memory.{Memory}
+use Rattle.record.specs.declared.form.Form.{Form}
+use Rattle.uses.specs.Bad.{firstBad}
+use Rattle.uses.specs.Cover.{Start, isIdle, lacksLine, lined, touched}
+use Rattle.uses.specs.Use.{clashesIn}
 
--- The first of a list of which a test says that it is bad, the first of the list having the number k; an answer of this number and side.
-unfoldable pub firstBad : {A : Type 0} → (A → Bool) → ℕ → ℕ → ℕ → List A → Answer
-firstBad bad number side k [] = done
-firstBad bad number side k (a ∷ bs) = cond (bad a) (answer number side k) (firstBad bad number side (k + 1) bs)
-
--- Whether some event of a list is of a class and at a location.
-unfoldable pub uses : (Event → Bool) → ℕ → List Event → Bool
-uses class l [] = false
-uses class l (e ∷ es) = (class e && eqb (e .place) l) || uses class l es
-
--- Whether an event clashes with an earlier one: one is plain and the other atomic, at one location.
-abbrev pub clashes : List Event → Event → Bool
-clashes before e = (plain e && uses atomic (e .place) before) || (atomic e && uses plain (e .place) before)
-
--- Under a list an atomic use of a listed location clashes by itself.
-abbrev pub clashesIn : List Bool → List Event → Event → Bool
-clashesIn regs before e = usesAtomically regs e || clashes before e
+-- 20 over all events, then 21 over all starting values, the first of which is on line 2.
+unfoldable pub coverFault : Form → ℕ → List Start → List Event → Answer
+coverFault f side is es = first (firstBad (lacksLine f (lined is)) 20 side 1 es) (firstBad (isIdle f (touched es)) 21 side 2 is)
 
 -- 5 or 6 of the event of number k, by whether it clashes and whether its value is the latest.
 abbrev pub faultAt : ℕ → ℕ → Bool → Bool → Answer

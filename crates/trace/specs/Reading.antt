@@ -5,7 +5,7 @@ use Prim.Native.Nat.{ℕ, _+_, _*_, _/_}
 use mathlib.Core.Bool.{Bool, cond}
 use mathlib.Core.List.{List, [], _∷_, _++_}
 use lib.Dec.{eqb, leb, ltb}
-use lib.ListN.{length, drop, set}
+use lib.ListN.{length, drop}
 use Rattle.event.specs.Answer.{done, first}
 use Rattle.memory.specs.Listed.{noneListed}
 use Rattle.memory.specs.Memory.{empty}
@@ -17,7 +17,8 @@ use Rattle.text.specs.Line.{split, body, saidIn}
 use Rattle.frame.specs.Reading.{Layout, headed, textFault, settle, fitted}
 use Rattle.record.specs.Form.{header, limitOf}
 use Rattle.record.specs.Record.{recordOf}
-use Rattle.trace.specs.Cover.{Start, coverFault}
+use Rattle.uses.specs.Cover.{Start, filled}
+use Rattle.trace.specs.Fault.{coverFault}
 use Rattle.trace.specs.Fault.{eventFaultIn}
 use Rattle.record.specs.declared.form.Form.{Form}
 use Rattle.record.specs.declared.form.Form.the-variants.{One, Two}
@@ -85,11 +86,7 @@ initsIn f ls = saidIn (λ l. initsOn (recordOf f l)) ls
 unfoldable pub initsOf : List ℕ → List Start
 initsOf t = initsIn (formOf t) (body (split t))
 
--- Cells with starting values in them, and those after the lines' starting values.
-abbrev pub filled : List ℕ → List Start → List ℕ
-filled cells [] = cells
-filled cells (i ∷ is) = filled (set cells (i .0) (i .1)) is
-
+-- The cells after the lines' starting values.
 unfoldable pub startIn : Form → List ℕ → List (List ℕ) → List ℕ
 startIn f cells ls = filled cells (initsIn f ls)
 

@@ -1,23 +1,17 @@
 -- The steps of a reading under a list of registers: the lines from some line on. Assumes nothing.
 use Prim.Native.Nat.{ℕ}
-use mathlib.Core.Bool.{Bool, false}
+use mathlib.Core.Bool.{Bool}
 use mathlib.Core.List.{List, [], _++_}
-use lib.ListN.{length, getD}
+use lib.ListN.{length}
 use Rattle.event.specs.Answer.{first}
 use Rattle.memory.specs.declared.Memory.{Memory}
 use Rattle.frame.specs.Reading.{linesFault, settle}
-use Rattle.trace.specs.Cover.{Start, coverFault, starts}
+use Rattle.uses.specs.Cover.{soFar}
+use Rattle.trace.specs.Fault.{coverFault}
 use Rattle.trace.specs.Fault.{eventFaultIn}
 use Rattle.trace.specs.Reading.{SoFar, traceLayout, eventsIn, initsIn, startFrom, refused, readAs}
 use Rattle.record.specs.declared.form.Form.{Form}
 use Rattle.trace.specs.declared.reading.TraceRead.{TraceRead}
-
--- The starting values that were read, by the cells and the marks of those that have a line.
-abbrev pub marked : List Bool → ℕ → Bool
-marked has l = getD has l false
-
-abbrev pub soFar : List Bool → List ℕ → List Start
-soFar has cells = starts (λ l v. marked has l) 0 cells
 
 -- Lines from line k on, before any event, where an `init` line may have the location `low` or above, and those before made the memory m.
 unfoldable pub surveyInits : List Bool → Form → ℕ → ℕ → ℕ → List Bool → Memory → List (List ℕ) → TraceRead

@@ -15,8 +15,9 @@ use Rattle.memory.specs.declared.Memory.{Memory}
 use Rattle.record.specs.Form.{header, loses, silent}
 use Rattle.record.specs.Layout.{initLine, eventLine}
 use Rattle.record.specs.declared.form.Form.{Form}
-use Rattle.trace.specs.Cover.{Start, touched, starts}
-use Rattle.trace.specs.Fault.{eventFaultIn, firstBad}
+use Rattle.uses.specs.Cover.{Start, touched, starts}
+use Rattle.trace.specs.Fault.{eventFaultIn}
+use Rattle.uses.specs.Bad.{firstBad}
 use Rattle.trace.specs.Reading.{eventLimit}
 
 -- How many events a part of a room has: one that is cut short at its end counts.

@@ -1,6 +1,5 @@
 // Trace texts read into a room (`read`), with a list of registers too (`read_listed`); and what refuses a room that is to be written (`room`) and a text
 // that is to be moved (`moving`).
-pub mod cover;
 pub mod fault;
 pub mod form;
 pub mod moving;

@@ -9,15 +9,10 @@ ghost use Rattle.text.specs.Line.{splitFrom};
 ghost use Rattle.frame.specs.Store.{putAll};
 ghost use Rattle.trace.specs.Reading.{surveyIn, refused, roomFor, eventsOn, eventsOf};
 ghost use Rattle.trace.specs.Survey.{surveyInits, surveyEvents};
-use crate::cover::idle_fault;
-use crate::cover::lacks_line;
-use crate::fault::UNTOUCHED;
-use crate::fault::Way;
 use crate::fault::fault_at;
 use crate::fault::first_of;
 use crate::fault::is_at_fault;
 use crate::fault::is_right;
-use crate::fault::use_listed;
 use crate::form::form_of;
 use crate::form::head_fault_of;
 use event::Answer;
@@ -36,6 +31,11 @@ use text::line::LineStep;
 use text::line::line_end;
 use text::line::line_two;
 use text::line::next_line;
+use uses::UNTOUCHED;
+use uses::Ways;
+use uses::cover::idle_fault;
+use uses::cover::lacks_line;
+use uses::use_listed;
 
 // The most events.
 pub const EVENT_LIMIT: usize = 800;
@@ -79,7 +79,7 @@ fn survey_events(
         memory: start,
         right: true,
     };
-    let mut ways: [Way; 256] = [UNTOUCHED; 256];
+    let mut ways: Ways = [UNTOUCHED; 256];
     let mut bare = Answer::new(0, 0, 0);
     let mut found = Answer::new(0, 0, 0);
     let mut at = from;

@@ -5,11 +5,8 @@ ghost use Prim.Native.Nat.{_≤_};
 ghost use Rattle.event.specs.Room.{onward};
 ghost use Rattle.trace.specs.Fault.{eventFaultIn};
 ghost use Rattle.trace.specs.Writing.{countOf, layoutFault, lost, roomFaultIn, writeFaultIn};
-use crate::fault::UNTOUCHED;
-use crate::fault::Way;
 use crate::fault::fault_at;
 use crate::fault::is_right;
-use crate::fault::use_listed;
 use crate::reading::EVENT_LIMIT;
 use event::Answer;
 use event::WORDS;
@@ -21,6 +18,9 @@ use memory::Stepped;
 use memory::listed::Listed;
 use record::form::Form;
 use record::form::does_lose;
+use uses::UNTOUCHED;
+use uses::Ways;
+use uses::use_listed;
 
 // How many events a part of a room has: one that is cut short at its end counts.
 pub fn count_of(room: &[Word]) -> usize
@@ -73,7 +73,7 @@ fn event_fault(listed: &Listed, start: Memory, room: &[Word], n: usize) -> Answe
         memory: start,
         right: true,
     };
-    let mut ways: [Way; 256] = [UNTOUCHED; 256];
+    let mut ways: Ways = [UNTOUCHED; 256];
     let none = Answer::new(0, 0, 0);
     let mut i: usize = 0;
     while i < n {

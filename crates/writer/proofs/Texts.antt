@@ -18,7 +18,7 @@ use Rattle.record.specs.declared.form.Form.{Form}
 use Rattle.writer.specs.Put.{tabIf, initPart, startText}
 use Rattle.trace.specs.Writing.{textOf, hasLine, initLines, textBy}
 use Rattle.writer.proofs.Puts.{all}
-use Rattle.trace.proofs.Starts.{starts-next, starts-end}
+use Rattle.uses.proofs.Starts.{starts-next, starts-end}
 use Rattle.trace.proofs.Judged.{onward-next, onward-end}
 
 -- fields that are there or not, each with the TAB before it

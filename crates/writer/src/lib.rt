@@ -15,10 +15,10 @@ use put::put_text;
 use put::size_of;
 use record::form::Form;
 use touch::touch_all;
-use trace::fault::UNTOUCHED;
-use trace::fault::Way;
 use trace::room::count_of;
 use trace::room::write_fault;
+use uses::UNTOUCHED;
+use uses::Ways;
 
 // A starting memory and the events of a part of a room, written under a list of registers as a text of a form at the front of the lent bytes; a refusal,
 // with side 0, changes nothing.
@@ -37,7 +37,7 @@ pub fn write_in(
         return fault;
     }
     let n = count_of(room);
-    let mut ways: [Way; 256] = [UNTOUCHED; 256];
+    let mut ways: Ways = [UNTOUCHED; 256];
     touch_all(&mut ways, room, n);
     let size = size_of(form, &ways, memory, room, n);
     if out.len() < size {

@@ -7,7 +7,7 @@ ghost use Rattle.record.specs.Layout.{eventLine};
 ghost use Rattle.trace.specs.Listed.{moveListed, movedListed};
 ghost use Rattle.trace.specs.Moving.{moveIn, movedOutIn, moveOf, movedOut};
 ghost use Rattle.trace.specs.Reading.{eventsOn, eventsOf};
-ghost use Rattle.trace.specs.Way.{isUsed, waysOf};
+ghost use Rattle.uses.specs.Way.{isUsed, waysOf};
 ghost use Rattle.trace.specs.Writing.{textOf, textBy};
 ghost use Rattle.writer.specs.Put.{Put, Small};
 use crate::put::put_event;
@@ -20,14 +20,14 @@ use record::form::Form;
 use record::record_of;
 use text::line::line_end;
 use text::line::line_two;
-use trace::cover::touch;
-use trace::fault::UNTOUCHED;
-use trace::fault::Way;
 use trace::form::form_of;
 use trace::moving::survey_to;
+use uses::UNTOUCHED;
+use uses::Ways;
+use uses::touch;
 
 // The ways after a record's event.
-fn touch_line(ways: &mut [Way; 256], line: Record)
+fn touch_line(ways: &mut Ways, line: Record)
     ensures { λ _. ⌜ now (ways .exit) ≡ waysOf (now (ways .entry)) (eventsOn line) ⌝ }
 {
     match line {
@@ -40,7 +40,7 @@ fn touch_line(ways: &mut [Way; 256], line: Record)
 }
 
 // The ways after the events of a text.
-fn touch_lines(ways: &mut [Way; 256], text: &[u8])
+fn touch_lines(ways: &mut Ways, text: &[u8])
     ensures { λ _. ⌜ now (ways .exit) ≡ waysOf (now (ways .entry)) (eventsOf (now (text .entry))) ⌝ }
 {
     let form = form_of(text);
@@ -81,7 +81,7 @@ fn put_lines(to: Form, out: &mut [u8], at: usize, text: &[u8]) -> usize
 }
 
 // The whole text in a form, with the starting memory and the ways at hand.
-fn put_moved(to: Form, out: &mut [u8], ways: &[Way; 256], memory: Memory, text: &[u8]) -> usize
+fn put_moved(to: Form, out: &mut [u8], ways: &Ways, memory: Memory, text: &[u8]) -> usize
     requires { ⌜ Small 0 (textBy to (isUsed (now ways)) memory (eventsOf (now text))) ⌝ }
     ensures { λ r. ⌜ Put (now (out .entry)) 0 (textBy to (isUsed (now (ways .entry))) memory (eventsOf (now (text .entry)))) (now (out .exit)) r ⌝ }
 {
@@ -90,7 +90,7 @@ fn put_moved(to: Form, out: &mut [u8], ways: &[Way; 256], memory: Memory, text: 
 }
 
 // How many bytes it has.
-fn moved_size(to: Form, ways: &[Way; 256], memory: Memory, text: &[u8]) -> usize
+fn moved_size(to: Form, ways: &Ways, memory: Memory, text: &[u8]) -> usize
     requires { ⌜ Small 0 (textBy to (isUsed (now ways)) memory (eventsOf (now text))) ⌝ }
     ensures { λ r. ⌜ r ≡ length (textBy to (isUsed (now (ways .entry))) memory (eventsOf (now (text .entry)))) ⌝ }
 {
@@ -108,7 +108,7 @@ pub fn move_in(listed: &Listed, to: Form, text: &[u8], out: &mut [u8]) -> Answer
         return fault;
     }
     let memory = surveyed.memory;
-    let mut ways: [Way; 256] = [UNTOUCHED; 256];
+    let mut ways: Ways = [UNTOUCHED; 256];
     touch_lines(&mut ways, text);
     let size = moved_size(to, &ways, memory, text);
     if out.len() < size {

@@ -8,7 +8,7 @@ ghost use Rattle.text.specs.Number.{decimal};
 ghost use Rattle.record.specs.Layout.{orderWords, wordAt, eventLine};
 ghost use Rattle.record.specs.Form.{header};
 ghost use Rattle.record.specs.Table.{wordIn};
-ghost use Rattle.trace.specs.Way.{isUsed};
+ghost use Rattle.uses.specs.Way.{isUsed};
 ghost use Rattle.trace.specs.Writing.{textOf, hasLine, initLines, textBy};
 ghost use Rattle.writer.specs.Put.{Put, Small, tabIf, bareLine, initPart, startText};
 use crate::touch::has_line;
@@ -26,7 +26,7 @@ use record::word::ROW;
 use record::word::word_in;
 use text::write::DIGITS;
 use text::write::put_number;
-use trace::fault::Way;
+use uses::Ways;
 
 // A byte at a place; none beyond the end.
 fn store_byte(out: &mut [u8], at: usize, b: u8)
@@ -150,7 +150,7 @@ fn put_init(has: bool, out: &mut [u8], at: usize, place: Word, value: Word) -> u
 }
 
 // The `init` lines of cells.
-fn put_inits(form: Form, out: &mut [u8], at: usize, ways: &[Way; 256], memory: Memory) -> usize
+fn put_inits(form: Form, out: &mut [u8], at: usize, ways: &Ways, memory: Memory) -> usize
     requires { ⌜ Small at (textOf (initLines (hasLine form (isUsed (now ways))) 0 (memory .cells))) ⌝ }
     ensures { λ r. ⌜ Put (now (out .entry)) at (textOf (initLines (hasLine form (isUsed (now (ways .entry)))) 0 (memory .cells))) (now (out .exit)) r ⌝ }
 {
@@ -189,7 +189,7 @@ fn put_header(form: Form, out: &mut [u8]) -> usize
 }
 
 // Line 1 and the `init` lines.
-pub(crate) fn put_start(form: Form, out: &mut [u8], ways: &[Way; 256], memory: Memory) -> usize
+pub(crate) fn put_start(form: Form, out: &mut [u8], ways: &Ways, memory: Memory) -> usize
     requires { ⌜ Small 0 (startText form (isUsed (now ways)) memory) ⌝ }
     ensures { λ r. ⌜ Put (now (out .entry)) 0 (startText form (isUsed (now (ways .entry))) memory) (now (out .exit)) r ⌝ }
 {
@@ -201,7 +201,7 @@ pub(crate) fn put_start(form: Form, out: &mut [u8], ways: &[Way; 256], memory: M
 pub(crate) fn put_text(
     form: Form,
     out: &mut [u8],
-    ways: &[Way; 256],
+    ways: &Ways,
     memory: Memory,
     room: &[Word],
     n: usize,
@@ -214,13 +214,7 @@ pub(crate) fn put_text(
 }
 
 // How many bytes the text has.
-pub(crate) fn size_of(
-    form: Form,
-    ways: &[Way; 256],
-    memory: Memory,
-    room: &[Word],
-    n: usize,
-) -> usize
+pub(crate) fn size_of(form: Form, ways: &Ways, memory: Memory, room: &[Word], n: usize) -> usize
     requires { ⌜ Small 0 (textBy form (isUsed (now ways)) memory (onward (now room) 0 n)) ⌝ }
     ensures { λ r. ⌜ r ≡ length (textBy form (isUsed (now (ways .entry))) memory (onward (now (room .entry)) 0 n)) ⌝ }
 {

@@ -3,15 +3,16 @@ ghost use mathlib.Core.Bool.{not};
 ghost use mathlib.Core.Path.{_≡_};
 ghost use lib.Dec.{eqb};
 ghost use Rattle.event.specs.Room.{onward};
-ghost use Rattle.trace.specs.Way.{waysOf};
+ghost use Rattle.uses.specs.Way.{waysOf};
 ghost use Rattle.trace.specs.Writing.{hasLine};
 use event::Word;
 use event::room::get;
 use record::form::Form;
 use record::form::is_silent;
-use trace::cover::touch;
-use trace::fault::UNTOUCHED;
-use trace::fault::Way;
+use uses::UNTOUCHED;
+use uses::Way;
+use uses::Ways;
+use uses::touch;
 
 // Whether a starting value has a line, by how its location is used.
 pub(crate) fn has_line(form: Form, way: Way, value: Word) -> bool
@@ -27,7 +28,7 @@ pub(crate) fn has_line(form: Form, way: Way, value: Word) -> bool
 }
 
 // The ways after the first n events of a room.
-pub(crate) fn touch_all(ways: &mut [Way; 256], room: &[Word], n: usize)
+pub(crate) fn touch_all(ways: &mut Ways, room: &[Word], n: usize)
     ensures { λ _. ⌜ now (ways .exit) ≡ waysOf (now (ways .entry)) (onward (now (room .entry)) 0 n) ⌝ }
 {
     let mut i: usize = 0;

@@ -12,9 +12,9 @@ use Rattle.frame.proofs.Settled.{first-done}
 use Rattle.trace.specs.Writing.{roomEvents, roomFaultIn, lost, writeFaultIn, textBy, traceText, writeIn, outAfterIn}
 use Rattle.writer.specs.Put.{Small}
 use Rattle.trace.specs.Text.{Fits}
-use Rattle.trace.specs.Way.{isUsed}
+use Rattle.uses.specs.Way.{isUsed}
 use Rattle.trace.proofs.Covered.{fit-inside}
-use Rattle.trace.proofs.Ways.{used-by}
+use Rattle.uses.proofs.Ways.{used-by}
 use Rattle.writer.proofs.Cells.{words-below}
 use Rattle.writer.proofs.Puts.{put-length, small-text}
 use Rattle.trace.proofs.Range.{text-length, room-fits}

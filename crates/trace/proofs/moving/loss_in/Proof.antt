@@ -13,7 +13,8 @@ use Rattle.text.proofs.Walk.{line-in}
 use Rattle.record.specs.declared.form.Form.{Form}
 use Rattle.trace.specs.Reading.{formOf, eventsOn, eventsOf}
 use Rattle.trace.specs.Writing.{lost}
-use Rattle.trace.proofs.Judged.{first-passes, bad-parted, bad-end}
+use Rattle.trace.proofs.Judged.{first-passes}
+use Rattle.uses.proofs.Bad.{bad-parted, bad-end}
 use Rattle.trace.proofs.Stores.{one-at-most}
 use Rattle.trace.proofs.Walks.{eventsFrom, events-start, events-line, events-none}
 use Rattle.trace.proofs.moving.loss_in.Statement.{statement}

@@ -1,7 +1,7 @@
 -- By what the line is. Assumes nothing.
 use mathlib.Core.Path.{sym, _∙_}
 use borrow.Author.Needs.{needs}
-use Rattle.trace.proofs.Judged.{bad-go, bad-here, bad-end}
+use Rattle.uses.proofs.Bad.{bad-go, bad-here, bad-end}
 use Rattle.trace.proofs.moving.loss_on.Statement.{statement}
 use Rattle.trace.proofs.moving.loss_on.Tie as tie
 

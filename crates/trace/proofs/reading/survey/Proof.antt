@@ -15,9 +15,10 @@ use Rattle.record.specs.declared.form.Form.{Form}
 use Rattle.record.specs.declared.form.Form.the-variants.{One, Two}
 use Rattle.trace.specs.Reading.{SoFar, formOf, traceLayout, faultIn, surveyIn, eventsOf, initsOf}
 use Rattle.memory.specs.Memory.{empty}
-use Rattle.trace.specs.Survey.{marked, surveyInits}
+use Rattle.uses.specs.Cover.{marked}
+use Rattle.trace.specs.Survey.{surveyInits}
 use Rattle.trace.proofs.Inits.{unmarked}
-use Rattle.trace.proofs.Starts.{starts-none}
+use Rattle.uses.proofs.Starts.{starts-none}
 use Rattle.trace.proofs.reading.survey.Statement.{statement}
 use Rattle.trace.proofs.reading.survey.Tie as tie
 

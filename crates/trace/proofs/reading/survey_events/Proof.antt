@@ -6,10 +6,11 @@ use mathlib.Core.List.{List, [], _∷_}
 use mathlib.Core.Path.{_≡_, refl, sym, _∙_, ap, fun-ext}
 use native.Mathlib.Omega.{arith}
 use borrow.Author.Needs.{needs}
-use borrow.Author.Tests.{ne-eqb}
+use borrow.Author.Tests.{ne-eqb, le-leb}
 use lib.ListN.{length, take, drop, length-set, length-map, drop-of-length-le}
 use Rattle.laws.proofs.Cases.{cases}
 use Rattle.event.specs.Answer.{answer, done, first}
+use Rattle.event.specs.Place.{lastPlace}
 use Rattle.event.specs.declared.Answer.{Answer}
 use Rattle.event.specs.declared.Event.{Event}
 use Rattle.memory.specs.declared.Memory.{Memory}
@@ -26,15 +27,19 @@ use Rattle.record.specs.declared.Record.{Record}
 use Rattle.record.specs.declared.Record.the-variants.{AnEvent}
 use Rattle.record.proofs.Records.{line-lawful}
 use Rattle.record.specs.declared.form.Form.{Form}
-use Rattle.trace.specs.Cover.{touched, lined, lacksLine, isIdle}
-use Rattle.trace.specs.Fault.{firstBad, clashesIn, faultAt}
+use Rattle.uses.specs.Cover.{touched, lined, lacksLine, isIdle}
+use Rattle.uses.specs.Bad.{firstBad}
+use Rattle.uses.specs.Use.{clashesIn}
+use Rattle.trace.specs.Fault.{faultAt}
+use Rattle.uses.specs.Way.{clashing, waysAfter}
 use Rattle.trace.specs.Reading.{refused}
-use Rattle.trace.specs.Survey.{marked, soFar, surveyEvents}
+use Rattle.uses.specs.Cover.{marked, soFar}
+use Rattle.trace.specs.Survey.{surveyEvents}
 use Rattle.trace.specs.declared.reading.TraceRead.{TraceRead}
 use Rattle.trace.proofs.Judged.{fault-free, faultless, first-stays}
-use Rattle.trace.proofs.Starts.{lined-starts}
+use Rattle.uses.proofs.Starts.{lined-starts}
 use Rattle.trace.proofs.Surveys.{surveyOn, on-start, on-open, on-bare, on-idle, on-found, on-end, on-bad, on-init, on-full, on-go}
-use Rattle.trace.proofs.Ways.{or-right, Marks, marks-start, marks-told, clash, marks-next, Touch, touch-told, touch-start, touch-next}
+use Rattle.uses.proofs.Ways.{or-right, with-inside, clash-inside, Marks, marks-start, marks-told, clash, marks-next, Touch, touch-told, touch-start, touch-next}
 use Rattle.trace.proofs.reading.survey_events.Statement.{statement}
 use Rattle.trace.proofs.reading.survey_events.Tie as tie
 
@@ -162,7 +167,7 @@ module _ (c : tie.Joined2 Inv-loop μ-loop) where
   lacks-is : asked .lacks-line .result ≡ lacking
   lacks-is =
       asked .lacks-line .ensures
-      ∙ rw (lined-starts (λ j v. marked (has d) j) (begin d .args .t8 .cells) (event y .place) (omega (arith, inside y, size d)))
+      ∙ rw (le-leb (event y .place) lastPlace (omega (arith, inside y)), lined-starts (λ j v. marked (has d) j) (begin d .args .t8 .cells) (event y .place) (omega (arith, inside y, size d)))
 
   bare-told : c .if2 .bare ≡ cond lacking (first (d .before .loop .bare) (answer 20 (begin d .args .side) (d .before .loop .n + 1))) (d .before .loop .bare)
   bare-told =
@@ -202,9 +207,16 @@ module _ (c : tie.Joined3 Inv-loop μ-loop) where
   abbrev after : Answer
   after = c .if3 .found
 
+  -- it is at a location
+  clash-told : u .use-listed .result ≡ (usesAtomically (regs p) (event v) || clashing ways (event v))
+  clash-told = u .use-listed .ensures .0 ∙ clash-inside (regs p) ways (event v) (inside v)
+
+  ways-told : u .use-listed .last .1 .0 ≡ waysAfter ways (event v)
+  ways-told = u .use-listed .ensures .1 ∙ with-inside ways (event v) (inside v)
+
   clash-is : found .number ≡ 0 → u .use-listed .result ≡ clashesIn (regs p) (inv p .before) (event v)
   clash-is z =
-      u .use-listed .ensures .0
+      clash-told
       ∙ ap (λ (b : Bool). usesAtomically (regs p) (event v) || b) (sym (clash ways (inv p .before) (event v) (inside v) (inv p .marks z)))
 
   right-is : right-now ≡ steppedIn (regs p) (memory p) (event v) .right
@@ -233,13 +245,13 @@ module _ (c : tie.Joined3 Inv-loop μ-loop) where
   marks-after z =
       let f = first-done found _ (ap (λ (a : Answer). a .number) (sym told) ∙ z) in
       let none = fault-free (begin p .args .side) (p .before .loop .n + 1) (u .use-listed .result) right-now (f .1) .0 in
-      let free = or-right (usesAtomically (regs p) (event v)) _ (sym (u .use-listed .ensures .0) ∙ none) in
-      marks-told (event v ∷ inv p .before) (u .use-listed .ensures .1)
+      let free = or-right (usesAtomically (regs p) (event v)) _ (sym clash-told ∙ none) in
+      marks-told (event v ∷ inv p .before) ways-told
       (marks-next ways (inv p .before) (event v) (inside v) (inv p .marks (f .0)) (inv p .size) free)
 
   touch-after : Touch (u .use-listed .last .1 .0) (event v ∷ inv p .before)
   touch-after =
-      touch-told (event v ∷ inv p .before) (u .use-listed .ensures .1) (touch-next ways (event v) (inside v) (inv p .size) (inv p .before) (inv p .touch))
+      touch-told (event v ∷ inv p .before) ways-told (touch-next ways (event v) (inside v) (inv p .size) (inv p .before) (inv p .touch))
 
 loop-holds : tie.Need-loop-holds Inv-loop μ-loop
 loop-holds c = record {
@@ -279,7 +291,7 @@ loop-again c =
       within = omega (arith, n);
       lined = omega (arith, n, inv (p c));
       counted = omega (arith, n, inv (p c));
-      size = ap length (u c .use-listed .ensures .1) ∙ simp length-set (inv (p c) .size);
+      size = ap length (ways-told c) ∙ simp length-set (inv (p c) .size);
       before = event (v c) ∷ inv (p c) .before;
       none = none-after c;
       marks = marks-after c;
@@ -383,10 +395,10 @@ survey-events-spec =
     (search needs)
     returns-3
     (λ c. omega arith)
-    (λ c κs. inside (c .before .before))
     (search needs)
     (search needs)
-    (λ c κs. inside (y (c .before)))
+    (search needs)
+    (search needs)
     (search needs)
     (λ c κs. line-lawful _ _ _ (its (y (c .before .before .before))))
     (search needs)

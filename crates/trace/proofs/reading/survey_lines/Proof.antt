@@ -18,7 +18,8 @@ use Rattle.record.specs.declared.Record.the-variants.{Init}
 use Rattle.record.proofs.Records.{init-place}
 use Rattle.record.specs.declared.form.Form.{Form}
 use Rattle.trace.specs.Reading.{refused}
-use Rattle.trace.specs.Survey.{marked, surveyInits, surveyEvents}
+use Rattle.uses.specs.Cover.{marked}
+use Rattle.trace.specs.Survey.{surveyInits, surveyEvents}
 use Rattle.trace.specs.declared.reading.TraceRead.{TraceRead}
 use Rattle.trace.proofs.Inits.{unmarked, inits-last, inits-refused, inits-event, inits-low, inits-go}
 use Rattle.trace.proofs.reading.survey_lines.Statement.{statement}

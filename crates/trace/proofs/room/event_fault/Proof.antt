@@ -18,10 +18,13 @@ use Rattle.event.specs.declared.Event.{Event}
 use Rattle.memory.specs.declared.Memory.{Memory}
 use Rattle.memory.specs.declared.Stepped.{Stepped}
 use Rattle.kinds.proofs.Lawful.{place-below}
-use Rattle.trace.specs.Fault.{clashesIn, faultAt, eventFaultIn}
+use Rattle.uses.specs.Use.{clashesIn}
+use Rattle.trace.specs.Fault.{faultAt, eventFaultIn}
 use Rattle.trace.specs.Writing.{layoutFault}
-use Rattle.trace.proofs.Judged.{event-next, onward-end, onward-all, bad-none, fault-next, fault-end, fault-free}
-use Rattle.trace.proofs.Ways.{or-right, Marks, marks-start, marks-told, clash, marks-next}
+use Rattle.uses.specs.Way.{clashing, clashingIn, waysAfter, waysWith}
+use Rattle.trace.proofs.Judged.{event-next, onward-end, onward-all, fault-next, fault-end, fault-free}
+use Rattle.uses.proofs.Bad.{bad-none}
+use Rattle.uses.proofs.Ways.{or-right, with-inside, clash-inside, Marks, marks-start, marks-told, clash, marks-next}
 use Rattle.trace.proofs.room.event_fault.Statement.{statement}
 use Rattle.trace.proofs.room.event_fault.Tie as tie
 
@@ -87,6 +90,13 @@ module _ (c : tie.After-get Inv-loop μ-loop) where
   inside : e .place < 256
   inside = place-below e (sound .0)
 
+  -- it is at a location
+  told : {b : Bool} → b ≡ clashingIn regs (l .loop .ways) e → b ≡ (usesAtomically regs e || clashing (l .loop .ways) e)
+  told q = q ∙ clash-inside regs (l .loop .ways) e inside
+
+  ways-told : {ways : List ℕ} → ways ≡ waysWith (l .loop .ways) e → ways ≡ waysAfter (l .loop .ways) e
+  ways-told q = q ∙ with-inside (l .loop .ways) e inside
+
 -- judged
 module _ (c : tie.After-fault-at Inv-loop μ-loop) where
   abbrev judged : tie.After-is-right Inv-loop μ-loop
@@ -109,7 +119,7 @@ module _ (c : tie.After-fault-at Inv-loop μ-loop) where
 
   clash-is : u .use-listed .result ≡ clash-now
   clash-is =
-      u .use-listed .ensures .0
+      told g (u .use-listed .ensures .0)
       ∙ ap (λ (b : Bool). usesAtomically (regs g) (e g) || b) (sym (clash (l g .loop .ways) (inv g .before) (e g) (inside g) (inv g .marks)))
 
   right-is : judged .is-right .result ≡ right-now
@@ -141,14 +151,14 @@ loop-again c =
     let f = c .before .before in
     let z = ap (λ (a : Answer). a .number) (sym (found-is f)) ∙ c .if1 .left in
     let none = clash-is f ∙ fault-free 0 (i (g f) + 1) (clash-now f) (right-now f) z .0 in
-    let free = or-right (usesAtomically (regs (g f)) (e (g f))) _ (sym (u f .use-listed .ensures .0) ∙ none) in
+    let free = or-right (usesAtomically (regs (g f)) (e (g f))) _ (sym (told (g f) (u f .use-listed .ensures .0)) ∙ none) in
     record {
       within = omega arith;
-      size = ap length (u f .use-listed .ensures .1) ∙ simp length-set (inv (g f) .size);
+      size = ap length (ways-told (g f) (u f .use-listed .ensures .1)) ∙ simp length-set (inv (g f) .size);
       sound = sound (g f) .1;
       before = e (g f) ∷ inv (g f) .before;
       marks =
-          marks-told (e (g f) ∷ inv (g f) .before) (u f .use-listed .ensures .1)
+          marks-told (e (g f) ∷ inv (g f) .before) (ways-told (g f) (u f .use-listed .ensures .1))
           (marks-next (l (g f) .loop .ways) (inv (g f) .before) (e (g f)) (inside (g f)) (inv (g f) .marks) (inv (g f) .size) free);
       same = whole f ∙ rw z;
     }
@@ -168,7 +178,7 @@ event-fault-spec =
     (search needs)
     loop-holds
     (search needs)
-    (λ c κs. inside (c .before))
+    (search needs)
     (search needs)
     (λ c κs. sound (c .before .before .before) .0)
     (λ c. omega arith)

@@ -12,13 +12,13 @@ use Rattle.record.specs.declared.form.Form.{Form}
 use Rattle.trace.specs.Moving.{movedText, moveFaultIn, moveIn, movedOutIn}
 use Rattle.writer.specs.Put.{Put, Small}
 use Rattle.trace.specs.Reading.{startOf, eventsOf}
-use Rattle.trace.specs.Way.{isUsed}
+use Rattle.uses.specs.Way.{isUsed}
 use Rattle.trace.specs.Writing.{textBy, traceText}
 use Rattle.trace.specs.declared.reading.TraceRead.{TraceRead}
 use Rattle.trace.proofs.Covered.{fit-inside}
 use Rattle.trace.proofs.Moved.{found-fault, found-none, moved-fits, moved-length}
 use Rattle.writer.proofs.Puts.{put-length, small-text}
-use Rattle.trace.proofs.Ways.{used-by}
+use Rattle.uses.proofs.Ways.{used-by}
 use Rattle.writer.proofs.Answered.{refused, short, written}
 use Rattle.writer.proofs.moving.move_in.Statement.{statement}
 use Rattle.writer.proofs.moving.move_in.Tie as tie

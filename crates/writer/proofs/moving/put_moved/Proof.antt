@@ -4,7 +4,7 @@ use mathlib.Core.List.{List, _++_, map}
 use Rattle.record.specs.Layout.{eventLine}
 use Rattle.writer.specs.Put.{Put, Small, startText}
 use Rattle.trace.specs.Reading.{eventsOf}
-use Rattle.trace.specs.Way.{isUsed}
+use Rattle.uses.specs.Way.{isUsed}
 use Rattle.trace.specs.Writing.{textOf, textBy}
 use Rattle.writer.proofs.Puts.{then, small-first, small-then, put-length}
 use Rattle.writer.proofs.Texts.{trace-parts}

@@ -1,7 +1,7 @@
 -- Only an event uses a location. Assumes nothing.
 use mathlib.Core.Path.{_≡_}
 use borrow.Author.Needs.{needs}
-use Rattle.trace.specs.Way.{waysOf}
+use Rattle.uses.specs.Way.{waysOf}
 use Rattle.writer.proofs.moving.touch_line.Statement.{statement}
 use Rattle.writer.proofs.moving.touch_line.Tie as tie
 

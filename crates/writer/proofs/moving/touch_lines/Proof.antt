@@ -8,7 +8,7 @@ use lib.ListN.{length}
 use Rattle.event.specs.declared.Event.{Event}
 use Rattle.text.proofs.Walk.{line-in}
 use Rattle.trace.specs.Reading.{formOf, eventsOn, eventsOf}
-use Rattle.trace.specs.Way.{waysWith, waysOf}
+use Rattle.uses.specs.Way.{waysWith, waysOf}
 use Rattle.trace.proofs.Walks.{eventsFrom, events-start, events-line, events-none}
 use Rattle.writer.proofs.moving.touch_lines.Statement.{statement}
 use Rattle.writer.proofs.moving.touch_lines.Tie as tie

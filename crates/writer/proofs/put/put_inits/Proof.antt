@@ -9,7 +9,7 @@ use lib.ListN.{length, getD, drop, length-map}
 use Rattle.memory.specs.declared.Memory.{Memory}
 use Rattle.record.specs.declared.form.Form.{Form}
 use Rattle.writer.specs.Put.{Put, initPart}
-use Rattle.trace.specs.Way.{isUsed}
+use Rattle.uses.specs.Way.{isUsed}
 use Rattle.trace.specs.Writing.{textOf, hasLine, initLines}
 use Rattle.writer.proofs.Puts.{Going, going, going-next, going-on, going-end, left-small, put-length}
 use Rattle.writer.proofs.Texts.{inits-next, inits-end}

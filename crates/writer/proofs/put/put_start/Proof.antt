@@ -4,7 +4,7 @@ use mathlib.Core.List.{List}
 use mathlib.Core.Path.{_≡_}
 use lib.ListN.{drop}
 use Rattle.writer.specs.Put.{Put, startText}
-use Rattle.trace.specs.Way.{isUsed}
+use Rattle.uses.specs.Way.{isUsed}
 use Rattle.writer.proofs.Puts.{Left, left-all, left-next, left-none, left-small, put-length}
 use Rattle.writer.proofs.Texts.{startParts, start-parts}
 use Rattle.writer.proofs.put.put_start.Statement.{statement}

@@ -5,7 +5,7 @@ use mathlib.Core.Path.{_≡_, sym, _∙_}
 use native.Mathlib.Omega.{arith}
 use borrow.Author.Needs.{needs}
 use Rattle.event.specs.Room.{onward}
-use Rattle.trace.specs.Way.{waysOf}
+use Rattle.uses.specs.Way.{waysOf}
 use Rattle.trace.proofs.Judged.{event-next, onward-end, onward-all}
 use Rattle.writer.proofs.touch.touch_all.Statement.{statement}
 use Rattle.writer.proofs.touch.touch_all.Tie as tie
