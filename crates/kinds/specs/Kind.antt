@@ -94,9 +94,18 @@ rows =
     ∷ accessRow Reads 1 Bits64 true Nothing true  -- 11 cmpfail
     ∷ []
 
--- the numbers of an atomic load and of a compare exchange that fails, which is one
+-- the numbers of the kinds that other pages name; a compare exchange that fails is an atomic load
+abbrev pub load : ℕ
+load = 1
+
+abbrev pub store : ℕ
+store = 2
+
 abbrev pub aload : ℕ
 aload = 3
+
+abbrev pub add64 : ℕ
+add64 = 10
 
 abbrev pub cmpfail : ℕ
 cmpfail = 11

@@ -10,7 +10,7 @@ use lib.ListN.{length, length-append}
 use borrow.Author.Tests.{leb-true}
 use Rattle.laws.proofs.Lists.{Each, Free, each-append}
 use Rattle.event.specs.Place.{lastPlace}
-use Rattle.kinds.specs.Kind.{row, rlx, lastValue, lastCode, made}
+use Rattle.kinds.specs.Kind.{row, rlx, lastValue, lastCode, made, add64}
 use Rattle.event.specs.declared.Event.{Event}
 use Rattle.kinds.proofs.Lawful.{first-of, second-of, code-of}
 use Rattle.text.specs.Cut.{glue}
@@ -145,7 +145,7 @@ digits = (
 )
 
 abbrev longest : Form → Event
-longest f = made 10 lastPlace rlx lastValue lastValue (cond (coded f) lastCode 0)
+longest f = made add64 lastPlace rlx lastValue lastValue (cond (coded f) lastCode 0)
 
 pub event-longest : (f : Form) → length (eventLine f (longest f)) ≡ longestEvent f
 unfolding eventLine eventFields row

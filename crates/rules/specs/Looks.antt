@@ -2,7 +2,7 @@
 -- its runs carry the numbers. Assumes nothing.
 use mathlib.Core.List.{List, [], _∷_}
 use lib.Dec.{T}
-use Rattle.kinds.specs.Kind.{made, used}
+use Rattle.kinds.specs.Kind.{load, made, used}
 use Rattle.event.specs.declared.Event.{Event}
 use Rattle.rules.specs.View.{same, view}
 use Rattle.rules.specs.Moves.{Run}
@@ -21,7 +21,7 @@ RealisedByLooks s t = (u : List Traced) × Run (changes view) (number 1 s) u × 
 
 -- P3: two loads, of which one is left.
 abbrev pub aLoad : Event
-aLoad = made 1 1 used 0 0 0
+aLoad = made load 1 used 0 0 0
 
 abbrev pub twoLoads : List Event
 twoLoads = aLoad ∷ aLoad ∷ []

@@ -4,7 +4,7 @@ use mathlib.Core.Option.{Option, none, some}
 use mathlib.Core.List.{List, [], _∷_}
 use Prim.Native.Nat.{ℕ, zero, suc}
 use lib.ListN.{length}
-use Rattle.kinds.specs.Kind.{row, made, used, unused}
+use Rattle.kinds.specs.Kind.{row, made, used, unused, load as load-kind, store as store-kind}
 use Rattle.event.specs.declared.Event.{Event}
 use Rattle.rules.specs.View.{view}
 use Rattle.rules.specs.Run.{Traced, number}
@@ -24,13 +24,13 @@ abbrev steps : List Event → List Event → List ℕ → List Step
 steps s t ns = listed 9 ns t (some (number 1 s))
 
 abbrev load : ℕ → ℕ → Event
-load l v = made 1 l used v 0 0
+load l v = made load-kind l used v 0 0
 
 abbrev idle : ℕ → ℕ → Event
-idle l v = made 1 l unused v 0 0
+idle l v = made load-kind l unused v 0 0
 
 abbrev store : ℕ → ℕ → Event
-store l v = made 2 l 0 v 0 0
+store l v = made store-kind l 0 v 0 0
 
 p1 : steps [] [] [] ≡ Done ∷ []
 unfolding row
