@@ -12,6 +12,7 @@ use changes::Run;
 use changes::Step;
 use changes::apply_listed;
 use event::Answer;
+use event::EVENT_LIMIT;
 use event::Entry;
 use event::Word;
 use files::run::LINE;
@@ -27,7 +28,6 @@ use steps::Started;
 use steps::next_listed;
 use steps::swap_place;
 use text::word::same_bytes;
-use trace::reading::EVENT_LIMIT;
 
 // How many steps were applied whose lines stand in the text in turn, and whether these are all, of the text and of the run.
 struct Followed {

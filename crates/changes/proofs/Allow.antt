@@ -12,7 +12,6 @@ use Rattle.kinds.specs.Kind.{lawful}
 use Rattle.event.specs.Room.{noEvent}
 use Rattle.event.specs.declared.Event.{Event}
 use Rattle.rules.specs.View.{View}
-use Rattle.trace.specs.Reading.{eventLimit}
 use Rattle.rules.specs.Moves.{Phase, one, two, Move, remove, insert, swap, next}
 use Rattle.rules.specs.Run.{new, Traced, traced, tagOf, Inserted, viewed, changes}
 use Rattle.rules.proofs.Truth.{and-left, and-right}
@@ -21,6 +20,7 @@ use Rattle.changes.specs.Change.{isSource, under, at, removed, swapped, 
 use Rattle.changes.specs.declared.Step.{Step}
 use Rattle.changes.specs.declared.Step.the-variants.{Remove, Swap, Insert, Done, Stuck}
 use Rattle.changes.proofs.May.{if-removable, if-insertable}
+use Rattle.event.specs.Limit.{eventLimit}
 
 -- what a test lets through
 pub through : {A : Type 0} (c : Bool) (x y : A) → cond c (some x) none ≡ some y → T c × (x ≡ y)

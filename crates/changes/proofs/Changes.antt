@@ -11,7 +11,6 @@ use lib.Seq.{length-take-le}
 use borrow.Author.Tests.{leb-true}
 use Rattle.laws.proofs.Bools.{and-right}
 use Rattle.event.specs.declared.Event.{Event}
-use Rattle.trace.specs.Reading.{eventLimit}
 use Rattle.rules.specs.View.{View}
 use Rattle.rules.specs.Run.{Traced}
 use Rattle.changes.specs.Inner.{exchanged, withNew, without}
@@ -22,6 +21,7 @@ use Rattle.changes.specs.declared.Applied.{Applied}
 use Rattle.changes.specs.declared.Run.{Run}
 use Rattle.changes.specs.declared.Step.{Step}
 use Rattle.changes.proofs.Traces.{codes-trace, length-trace}
+use Rattle.event.specs.Limit.{eventLimit}
 
 module _ (r : Run) (A : List ℕ) (o : Option (List Traced)) (b : Bool) (v : List Traced) (e : o ≡ cond b (some v) none) where
   pub refuses : {result : Applied} → b ≡ false → result ≡ appliedOf r none → Applies r A o result A

@@ -11,7 +11,6 @@ use lib.Seq.{getD-take, length-take-le}
 use borrow.Author.Tests.{le-ltb, lt-ltb}
 use Rattle.event.specs.Room.{noEvent}
 use Rattle.event.specs.declared.Event.{Event}
-use Rattle.trace.specs.Reading.{eventLimit}
 use Rattle.rules.specs.View.{viewIn, apart}
 use Rattle.rules.specs.Run.{new, Traced, traced, tagOf, viewed}
 use Rattle.changes.specs.Allowed.{mayInsert, mayRemove}
@@ -23,6 +22,7 @@ use Rattle.changes.specs.declared.Step.the-variants.{Remove, Swap, Inser
 use Rattle.changes.proofs.Near.{removable-in}
 use Rattle.changes.proofs.Seam.{insert-seam, remove-seam, swap-seam}
 use Rattle.changes.proofs.Traces.{length-trace, trace-append, trace-at, trace-drop, trace-take}
+use Rattle.event.specs.Limit.{eventLimit}
 
 -- ---- past the end nothing happens
 

@@ -10,10 +10,10 @@ use lib.ListN.{length, getD, take, drop, List·getD-map, drop-of-length-le}
 use lib.Seq.{drop-cons}
 use borrow.Author.Tests.{ltb-false}
 use Rattle.event.specs.declared.Event.{Event}
-use Rattle.trace.specs.Reading.{eventLimit}
 use Rattle.rules.specs.Run.{old, new}
 use Rattle.changes.specs.Tags.{behind, code, codes, decoded, trace, tracedFor}
 use Rattle.changes.proofs.Seam.{behind-next}
+use Rattle.event.specs.Limit.{eventLimit}
 
 -- ---- a number is that of its event
 

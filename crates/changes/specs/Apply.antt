@@ -8,7 +8,6 @@ use Prim.Native.Nat.{ℕ, suc}
 use lib.Dec.{leb, ltb}
 use lib.ListN.{length, getD, take, drop}
 use Rattle.event.specs.declared.Event.{Event}
-use Rattle.trace.specs.Reading.{eventLimit}
 use Rattle.rules.specs.View.{View, view, viewIn}
 use Rattle.rules.specs.Run.{Traced, viewed}
 use Rattle.changes.specs.Allowed.{mayRemove}
@@ -17,6 +16,7 @@ use Rattle.changes.specs.Tags.{behind, codes, eventFor, trace}
 use Rattle.changes.specs.declared.Step.{Step}
 use Rattle.changes.specs.declared.Run.{Run}
 use Rattle.changes.specs.declared.Applied.{Applied}
+use Rattle.event.specs.Limit.{eventLimit}
 
 -- A run has begun and its trace is no longer than the array.
 abbrev pub isOpen : Run → Bool

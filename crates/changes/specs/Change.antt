@@ -7,13 +7,13 @@ use lib.Dec.{eqb, ltb}
 use lib.ListN.{length, getD}
 use Rattle.event.specs.Room.{noEvent}
 use Rattle.event.specs.declared.Event.{Event}
-use Rattle.trace.specs.Reading.{eventLimit}
 use Rattle.rules.specs.View.{View}
 use Rattle.rules.specs.Moves.{Phase, one, two}
 use Rattle.rules.specs.Run.{Tag, old, new, Traced, traced, tagOf, viewed}
 use Rattle.changes.specs.Allowed.{mayRemove, mayInsert, maySwap}
 use Rattle.changes.specs.declared.Step.{Step}
 use Rattle.changes.specs.declared.Step.the-variants.{Remove, Swap, Insert, Done, Stuck}
+use Rattle.event.specs.Limit.{eventLimit}
 
 -- An event is the source event of a number.
 abbrev pub isSource : ℕ → Tag → Bool

@@ -7,8 +7,8 @@ use lib.Dec.{ltb}
 use lib.ListN.{getD}
 use Rattle.event.specs.Room.{noEvent}
 use Rattle.event.specs.declared.Event.{Event}
-use Rattle.trace.specs.Reading.{eventLimit}
 use Rattle.rules.specs.Run.{Tag, old, new, Traced, traced, tagOf}
+use Rattle.event.specs.Limit.{eventLimit}
 
 -- Where the event of a number comes from, and the number again.
 abbrev pub decoded : ℕ → Tag

@@ -15,8 +15,10 @@ ghost use Rattle.changes.specs.Change.{applied};
 ghost use Rattle.changes.specs.Apply.{removableAt};
 ghost use Rattle.changes.specs.Inner.{exchanged, withNew, without};
 ghost use Rattle.changes.specs.declared.Step.the-variants.{Remove, Swap, Insert};
+ghost use Rattle.event.specs.Limit.{eventLimit};
 use crate::tag::event_of;
 use crate::tag::is_source;
+use event::EVENT_LIMIT;
 use event::Event;
 use event::WORDS;
 use event::Word;
@@ -25,7 +27,6 @@ use fates::view::is_load_in;
 use fates::view::is_wall_in;
 use kinds::USED;
 use memory::listed::Listed;
-use trace::reading::EVENT_LIMIT;
 
 // Whether the near access to a location before an index has a value.
 fn holds_before(
@@ -212,8 +213,8 @@ pub(crate) fn can_insert(
     ensures { λ r. ⌜ applied (viewIn (now (listed .entry))) (wholeEvents (now (target .entry))) (Insert place)
         (trace (wholeEvents (now (source .entry))) (wholeEvents (now (target .entry))) (take standing (now (tags .entry))))
         ≡ cond r (some (trace (wholeEvents (now (source .entry))) (wholeEvents (now (target .entry)))
-        (withNew (place - 1) (800 + (place - 1)) (take standing (now (tags .entry)))))) none ⌝ }
-    ensures { λ r. ⌜ (r ≡ true → (0 < place) × (place - 1 ≤ standing) × (standing < 800)) ⌝ }
+        (withNew (place - 1) (eventLimit + (place - 1)) (take standing (now (tags .entry)))))) none ⌝ }
+    ensures { λ r. ⌜ (r ≡ true → (0 < place) × (place - 1 ≤ standing) × (standing < eventLimit)) ⌝ }
 {
     if place == 0 {
         return false;

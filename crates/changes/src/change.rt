@@ -9,14 +9,15 @@ ghost use Rattle.changes.specs.Inner.{withNew, without};
 ghost use Rattle.changes.specs.Apply.{Applies, appliedOf, front, leaving, stands};
 ghost use Rattle.changes.specs.Change.{applied};
 ghost use Rattle.changes.specs.declared.Step.the-variants.{Remove, Swap, Insert};
+ghost use Rattle.event.specs.Limit.{eventLimit};
 use crate::Applied;
 use crate::Run;
 use crate::allowed::can_insert;
 use crate::allowed::can_remove;
 use crate::allowed::can_swap;
+use event::EVENT_LIMIT;
 use event::Word;
 use memory::listed::Listed;
-use trace::reading::EVENT_LIMIT;
 
 // The number at an index taken out of those up to `last`.
 fn shift_left(tags: &mut [usize], i: usize, last: usize)
@@ -123,7 +124,7 @@ pub(crate) fn insert(
     place: usize,
 ) -> Applied
     requires { ⌜ run .standing ≤ length (now tags) ⌝ }
-    requires { ⌜ 800 ≤ length (now tags) ⌝ }
+    requires { ⌜ eventLimit ≤ length (now tags) ⌝ }
     ensures { λ r. ⌜ Applies run (now (tags .entry))
         (applied (viewIn (now (listed .entry))) (wholeEvents (now (target .entry))) (Insert place)
         (stands (wholeEvents (now (source .entry))) (wholeEvents (now (target .entry))) run (now (tags .entry)))) r (now (tags .exit)) ⌝ }

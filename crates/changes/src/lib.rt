@@ -8,13 +8,15 @@ ghost use lib.ListN.{length};
 ghost use Rattle.event.specs.Room.{wholeEvents};
 ghost use Rattle.rules.specs.View.{viewIn};
 ghost use Rattle.changes.specs.Apply.{Applies, isOpen, outcome, outcomeBy};
+ghost use Rattle.event.specs.Limit.{eventLimit};
 use change::insert;
 use change::refuse;
 use change::remove;
 use change::swap;
+use event::EVENT_LIMIT;
+use event::PLACES;
 use event::Word;
 use memory::listed::Listed;
-use trace::reading::EVENT_LIMIT;
 
 // A step of a run: places count from 1 in the trace as it stands, `number` is the source event's; an inserted event's place is its target number.
 pub enum Step {
@@ -55,7 +57,7 @@ fn apply_in(
     target: &[Word],
     step: Step,
 ) -> Applied
-    requires { ⌜ length (now tags) ≡ 800 ⌝ }
+    requires { ⌜ length (now tags) ≡ eventLimit ⌝ }
     ensures { λ r. ⌜ Applies run (now (tags .entry))
         (outcomeBy (viewIn (now (listed .entry))) (wholeEvents (now (source .entry))) (wholeEvents (now (target .entry))) run (now (tags .entry)) step) r (now (tags .exit)) ⌝ }
 {
@@ -107,6 +109,6 @@ pub fn apply(
     ensures { λ r. ⌜ Applies run (now (tags .entry))
         (outcome (wholeEvents (now (source .entry))) (wholeEvents (now (target .entry))) run (now (tags .entry)) step) r (now (tags .exit)) ⌝ }
 {
-    let listed: Listed = [false; 256];
+    let listed: Listed = [false; PLACES];
     apply_listed(&listed, run, tags, source, target, step)
 }

@@ -3,10 +3,10 @@ ghost use mathlib.Core.Path.{_≡_};
 ghost use Rattle.event.specs.Room.{wholeEvents};
 ghost use Rattle.changes.specs.Change.{isSource};
 ghost use Rattle.changes.specs.Tags.{decoded, eventFor};
+use event::EVENT_LIMIT;
 use event::Event;
 use event::Word;
 use event::room::get;
-use trace::reading::EVENT_LIMIT;
 
 // The event of a number.
 pub(crate) fn event_of(source: &[Word], target: &[Word], tag: usize) -> Event

@@ -6,7 +6,7 @@ use mathlib.Core.Bool.{Bool}
 use mathlib.Core.List.{List, [], _∷_}
 use lib.Dec.{T}
 use lib.ListN.{length}
-use Rattle.event.specs.Place.{places}
+use Rattle.event.specs.Limit.{places}
 use Rattle.memory.specs.Listed.{noneListed}
 use Rattle.memory.specs.Memory.{stepped}
 use Rattle.event.specs.declared.Event.{Event}

@@ -11,7 +11,7 @@ use Rattle.event.specs.Room.{flat, onward, Placed, capacity, eventWords}
 use Rattle.event.specs.declared.Event.{Event}
 use Rattle.event.proofs.Rooms.{flat-length, onward-flat, each-event}
 use Rattle.kinds.proofs.Lawful.{place-below}
-use Rattle.event.specs.Place.{places}
+use Rattle.event.specs.Limit.{places}
 use Rattle.record.specs.Record.{Fit}
 use Rattle.trace.specs.Reading.{formOf, eventsOf, surveyIn, front, readIn}
 use Rattle.trace.specs.Text.{Fits}

@@ -6,8 +6,10 @@ ghost use Prim.Native.Nat.{_*_, _≤_};
 ghost use lib.ListN.{length, take};
 ghost use Rattle.event.specs.Room.{Placed, eventWords};
 ghost use Rattle.checker.specs.Check.{Checks, ChecksIn, ChecksListed, heldOf, judgedIn, lent, refused};
+ghost use Rattle.event.specs.Limit.{eventLimit};
 use event::Answer;
 use event::Entry;
+use event::PLACES;
 use event::WORDS;
 use event::Word;
 use judge::judge;
@@ -59,7 +61,7 @@ fn judged(
     requires { ⌜ source .events * eventWords ≤ length (now «source_room») ⌝ }
     requires { ⌜ target .events * eventWords ≤ length (now «target_room») ⌝ }
     requires { ⌜ entries ≤ length (now «entry_room») ⌝ }
-    requires { ⌜ (source .events ≤ 800) × (target .events ≤ 800) ⌝ }
+    requires { ⌜ (source .events ≤ eventLimit) × (target .events ≤ eventLimit) ⌝ }
     requires { ⌜ Placed (take (source .events * eventWords) (now «source_room»)) ⌝ }
     requires { ⌜ Placed (take (target .events * eventWords) (now «target_room»)) ⌝ }
     ensures { λ r. ⌜ r ≡ judgedIn (now (listed .entry)) source target entries
@@ -154,7 +156,7 @@ pub fn check(
         (now («source_room» .entry)) (now («target_room» .entry)) (now («entry_room» .entry)))
         r (now («source_room» .exit)) (now («target_room» .exit)) (now («entry_room» .exit)) ⌝ }
 {
-    let listed: Listed = [false; 256];
+    let listed: Listed = [false; PLACES];
     check_in(
         &listed,
         source,

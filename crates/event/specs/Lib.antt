@@ -1,4 +1,4 @@
--- What the contracts of this crate say, by page: the places of events, answers, events in a room. Assumes nothing.
-pub mod Place
+-- What the contracts of this crate say, by page: the most places and events, answers, events in a room. Assumes nothing.
+pub mod Limit
 pub mod Answer
 pub mod Room

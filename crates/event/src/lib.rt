@@ -13,6 +13,12 @@ pub type Number = u32;
 // An entry of a matching: the target number that a source event is kept as, or 0 for gone.
 pub type Entry = Number;
 
+// The locations that there are, and the mutexes.
+pub const PLACES: usize = 256;
+
+// The most events of a trace.
+pub const EVENT_LIMIT: usize = 800;
+
 // The words of an event in a room.
 pub const WORDS: usize = 6;
 

@@ -25,6 +25,7 @@ use checker::line::offending_span;
 use event::Answer;
 use event::Entry;
 use event::Number;
+use event::PLACES;
 use event::Word;
 use event::number_index;
 use memory::Memory;
@@ -60,7 +61,7 @@ pub extern "C" fn laprunto_trace_form(text: &[u8]) -> Number
 pub extern "C" fn laprunto_read_trace(
     text: &[u8],
     room: &mut [Word],
-    memory: &mut [Word; 256],
+    memory: &mut [Word; PLACES],
     result: &mut [usize; 4],
 )
     ensures { λ _. ⌜ now (result .exit) ≡ traceNumbers (readOf 1 (now (text .entry)) (now (room .entry))) ⌝ }
@@ -100,7 +101,7 @@ pub extern "C" fn laprunto_read_matching(text: &[u8], room: &mut [Entry], result
 #[no_mangle]
 pub extern "C" fn laprunto_write_trace(
     form: Number,
-    memory: &[Word; 256],
+    memory: &[Word; PLACES],
     room: &[Word],
     out: &mut [u8],
     result: &mut [usize; 3],
@@ -145,8 +146,8 @@ pub extern "C" fn laprunto_check(
     source_room: &mut [Word],
     target_room: &mut [Word],
     entry_room: &mut [Entry],
-    source_memory: &mut [Word; 256],
-    target_memory: &mut [Word; 256],
+    source_memory: &mut [Word; PLACES],
+    target_memory: &mut [Word; PLACES],
     result: &mut [usize; 6],
 )
     ensures { λ _. ⌜ Leaves
@@ -155,7 +156,7 @@ pub extern "C" fn laprunto_check(
         (now (result .exit)) (now («source_memory» .exit)) (now («target_memory» .exit))
         (now («source_room» .exit)) (now («target_room» .exit)) (now («entry_room» .exit)) ⌝ }
 {
-    let listed: Listed = [false; 256];
+    let listed: Listed = [false; PLACES];
     let checked = check_in(
         &listed,
         source,

@@ -20,8 +20,10 @@ use crate::run::step_numbered;
 use crate::run::step_numbers;
 use changes::apply_listed;
 use checker::check_listed;
+use event::EVENT_LIMIT;
 use event::Entry;
 use event::Number;
+use event::PLACES;
 use event::Word;
 use event::number_index;
 use memory::Memory;
@@ -33,12 +35,12 @@ use writer::moving::move_listed;
 use writer::write_listed;
 
 // A number for each mark, 1 if it is set, else 0.
-fn marks_of(listed: Listed) -> [u8; 256]
+fn marks_of(listed: Listed) -> [u8; PLACES]
     ensures { λ r. ⌜ r ≡ marks listed ⌝ }
 {
-    let mut numbers: [u8; 256] = [0; 256];
+    let mut numbers: [u8; PLACES] = [0; PLACES];
     let mut i: usize = 0;
-    while i < 256 {
+    while i < PLACES {
         numbers[i] = listed[i] as u8;
         i += 1;
     }
@@ -46,12 +48,12 @@ fn marks_of(listed: Listed) -> [u8; 256]
 }
 
 // A mark for each number, set unless it is 0.
-fn listed_of(numbers: [u8; 256]) -> Listed
+fn listed_of(numbers: [u8; PLACES]) -> Listed
     ensures { λ r. ⌜ r ≡ listing numbers ⌝ }
 {
-    let mut listed: Listed = [false; 256];
+    let mut listed: Listed = [false; PLACES];
     let mut place: usize = 0;
-    while place < 256 {
+    while place < PLACES {
         listed[place] = numbers[place] != 0;
         place += 1;
     }
@@ -60,7 +62,11 @@ fn listed_of(numbers: [u8; 256]) -> Listed
 
 // A list text read alone: number, side and place, and a mark for each location.
 #[no_mangle]
-pub extern "C" fn laprunto_read_list(list: &[u8], result: &mut [usize; 3], listed: &mut [u8; 256])
+pub extern "C" fn laprunto_read_list(
+    list: &[u8],
+    result: &mut [usize; 3],
+    listed: &mut [u8; PLACES],
+)
     ensures { λ _. ⌜ now (result .exit) ≡ answerNumbers (listOf (now (list .entry)) .answer) ⌝ }
     ensures { λ _. ⌜ now (listed .exit) ≡ marks (listOf (now (list .entry)) .listed) ⌝ }
 {
@@ -81,7 +87,7 @@ pub extern "C" fn laprunto_read_trace_listed(
     list: &[u8],
     text: &[u8],
     room: &mut [Word],
-    memory: &mut [Word; 256],
+    memory: &mut [Word; PLACES],
     result: &mut [usize; 4],
 )
     ensures { λ _. ⌜ now (result .exit) ≡ traceNumbers (readListed (now (list .entry)) (now (text .entry)) (now (room .entry))) ⌝ }
@@ -106,7 +112,7 @@ pub extern "C" fn laprunto_read_trace_listed(
 pub extern "C" fn laprunto_write_trace_listed(
     list: &[u8],
     form: Number,
-    memory: &[Word; 256],
+    memory: &[Word; PLACES],
     room: &[Word],
     out: &mut [u8],
     result: &mut [usize; 3],
@@ -155,8 +161,8 @@ pub extern "C" fn laprunto_check_listed(
     source_room: &mut [Word],
     target_room: &mut [Word],
     entry_room: &mut [Entry],
-    source_memory: &mut [Word; 256],
-    target_memory: &mut [Word; 256],
+    source_memory: &mut [Word; PLACES],
+    target_memory: &mut [Word; PLACES],
     result: &mut [usize; 6],
 )
     ensures { λ _. ⌜ LeavesListed (now (list .entry))
@@ -203,7 +209,7 @@ pub extern "C" fn laprunto_start_listed(
     source_room: &mut [Word],
     target_room: &mut [Word],
     entry_room: &mut [Entry],
-    tags: &mut [usize; 800],
+    tags: &mut [usize; EVENT_LIMIT],
     run: &mut [usize; 2],
     result: &mut [usize; 7],
 )
@@ -231,9 +237,9 @@ pub extern "C" fn laprunto_start_listed(
 // `laprunto_next` with the marks of a list, as `laprunto_read_list` leaves them.
 #[no_mangle]
 pub extern "C" fn laprunto_next_listed(
-    listed: &[u8; 256],
+    listed: &[u8; PLACES],
     run: &[usize; 2],
-    tags: &[usize; 800],
+    tags: &[usize; EVENT_LIMIT],
     source: &[Word],
     target: &[Word],
     entries: &[Entry],
@@ -260,9 +266,9 @@ pub extern "C" fn laprunto_next_listed(
 // `laprunto_apply` with the marks of a list.
 #[no_mangle]
 pub extern "C" fn laprunto_apply_listed(
-    listed: &[u8; 256],
+    listed: &[u8; PLACES],
     run: &mut [usize; 2],
-    tags: &mut [usize; 800],
+    tags: &mut [usize; EVENT_LIMIT],
     source: &[Word],
     target: &[Word],
     kind: usize,

@@ -10,6 +10,7 @@ ghost use Rattle.export.specs.Runs.{Begins, Leaves, runNumbered, runNumb
 use changes::Run;
 use changes::Step;
 use changes::apply;
+use event::EVENT_LIMIT;
 use event::Entry;
 use event::Word;
 use event::number_index;
@@ -93,7 +94,7 @@ pub extern "C" fn laprunto_start(
     source_room: &mut [Word],
     target_room: &mut [Word],
     entry_room: &mut [Entry],
-    tags: &mut [usize; 800],
+    tags: &mut [usize; EVENT_LIMIT],
     run: &mut [usize; 2],
     result: &mut [usize; 7],
 )
@@ -121,7 +122,7 @@ pub extern "C" fn laprunto_start(
 #[no_mangle]
 pub extern "C" fn laprunto_next(
     run: &[usize; 2],
-    tags: &[usize; 800],
+    tags: &[usize; EVENT_LIMIT],
     source: &[Word],
     target: &[Word],
     entries: &[Entry],
@@ -146,7 +147,7 @@ pub extern "C" fn laprunto_next(
 #[no_mangle]
 pub extern "C" fn laprunto_apply(
     run: &mut [usize; 2],
-    tags: &mut [usize; 800],
+    tags: &mut [usize; EVENT_LIMIT],
     source: &[Word],
     target: &[Word],
     kind: usize,

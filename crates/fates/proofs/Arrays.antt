@@ -10,7 +10,7 @@ use lib.ListN.{length, getD, set, replicate, getD-replicate}
 use lib.Seq.{getD-set-same, getD-set-other}
 use borrow.Author.Tests.{eqb-true, eqb-false, eq-eqb}
 use Rattle.laws.proofs.Cases.{cases, either}
-use Rattle.event.specs.Place.{places}
+use Rattle.event.specs.Limit.{places}
 use Rattle.rules.specs.View.{View, isWall}
 use Rattle.rules.specs.Fault.{Fate, Item, isGone, isNone, item, near}
 use Rattle.fates.proofs.Passes.{PlainAt, none-at, walled}

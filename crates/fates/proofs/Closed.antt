@@ -12,7 +12,7 @@ use borrow.Author.Tests.{eqb-false, eqb-true}
 use Rattle.laws.proofs.Cases.{cases, either}
 use Rattle.event.specs.Room.{eventAt, onward, capacity}
 use Rattle.event.specs.declared.Event.{Event}
-use Rattle.event.specs.Place.{places}
+use Rattle.event.specs.Limit.{places}
 use Rattle.rules.specs.View.{View, viewIn, isLoad, isWall}
 use Rattle.rules.specs.Fault.{Fate, Item, closing, fate, group, item}
 use Rattle.fates.specs.Pass.{closingAfter, closingAt, itemsFrom}

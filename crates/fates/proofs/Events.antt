@@ -9,7 +9,7 @@ use lib.ListN.{length, getD, drop}
 use lib.Seq.{drop-cons}
 use borrow.Author.Tests.{le-ltb}
 use Rattle.laws.proofs.Cases.{cases, side}
-use Rattle.event.specs.Place.{places}
+use Rattle.event.specs.Limit.{places}
 use Rattle.event.specs.Room.{Placed, eventAt, onward, noEvent, capacity}
 use Rattle.event.specs.declared.Event.{Event}
 

@@ -11,7 +11,7 @@ use lib.ListN.{length, getD, set, replicate, getD-replicate, length-set}
 use lib.Seq.{getD-set-same, getD-set-other}
 use borrow.Author.Tests.{eq-eqb, eqb-false, eqb-true}
 use Rattle.laws.proofs.Cases.{cases, either}
-use Rattle.event.specs.Place.{places}
+use Rattle.event.specs.Limit.{places}
 use Rattle.rules.specs.View.{View, isLoad, isWall}
 use Rattle.rules.specs.Fault.{Item, closing, fate, group, item, witness}
 use Rattle.fates.specs.Pass.{cellOf, takesOver, topAfter, topsOf, witnessOf, witnessed}

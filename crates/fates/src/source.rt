@@ -10,15 +10,18 @@ ghost use Rattle.rules.specs.View.{viewIn};
 ghost use Rattle.rules.specs.Fault.{fate, is, isGone, unlike};
 ghost use Rattle.rules.specs.Verdict.{sourceAnswer};
 ghost use Rattle.fates.specs.Pass.{Flagged, cellOf, closingAfter, crossedBy, sourceFaultBy, goneFault, keepFaultBy, removalFaultBy, takesOver, topAfter, topsOf, witnessOf, witnessed};
+ghost use Rattle.event.specs.Limit.{eventLimit};
 use crate::is_gone;
 use crate::view::both;
 use crate::view::is_load_in;
 use crate::view::is_same;
 use crate::view::is_wall_in;
 use event::Answer;
+use event::EVENT_LIMIT;
 use event::Entry;
 use event::Event;
 use event::Number;
+use event::PLACES;
 use event::Word;
 use event::index_of;
 use event::number_index;
@@ -40,14 +43,14 @@ fn closing_after(load: bool, entry: Entry, closing: bool) -> bool
 }
 
 // For each source event, whether a store to its location there is closing.
-fn closing_flags(listed: &Listed, source: &[Word], entries: &[Entry]) -> [bool; 800]
-    requires { ⌜ capacity (now source) ≤ 800 ⌝ }
+fn closing_flags(listed: &Listed, source: &[Word], entries: &[Entry]) -> [bool; EVENT_LIMIT]
+    requires { ⌜ capacity (now source) ≤ eventLimit ⌝ }
     requires { ⌜ Placed (now source) ⌝ }
     requires { ⌜ length (now entries) ≡ capacity (now source) ⌝ }
     ensures { λ r. ⌜ Flagged (now (listed .entry)) r (now (source .entry)) (now (entries .entry)) ⌝ }
 {
-    let mut closing: [bool; 256] = [true; 256];
-    let mut flags: [bool; 800] = [false; 800];
+    let mut closing: [bool; PLACES] = [true; PLACES];
+    let mut flags: [bool; EVENT_LIMIT] = [false; EVENT_LIMIT];
     let mut i = entries.len();
     while 0 < i {
         i -= 1;
@@ -56,7 +59,7 @@ fn closing_flags(listed: &Listed, source: &[Word], entries: &[Entry]) -> [bool; 
         let was = closing[place];
         flags[i] = was;
         if is_wall_in(listed, e) {
-            closing = [true; 256];
+            closing = [true; PLACES];
             continue;
         }
         closing[place] = closing_after(is_load_in(listed, e), entries[i], was);
@@ -247,19 +250,19 @@ fn source_pass(
     source: &[Word],
     target: &[Word],
     entries: &[Entry],
-    flags: &[bool; 800],
+    flags: &[bool; EVENT_LIMIT],
 ) -> Answer
-    requires { ⌜ capacity (now source) ≤ 800 ⌝ }
+    requires { ⌜ capacity (now source) ≤ eventLimit ⌝ }
     requires { ⌜ Placed (now source) ⌝ }
     requires { ⌜ length (now entries) ≡ capacity (now source) ⌝ }
     requires { ⌜ Flagged (now listed) (now flags) (now source) (now entries) ⌝ }
     ensures { λ r. ⌜ r ≡ sourceAnswer (viewIn (now (listed .entry)))
         (wholeEvents (now (target .entry))) 1 [] (wholeEvents (now (source .entry))) (now (entries .entry)) ⌝ }
 {
-    let mut fresh: [bool; 256] = [true; 256];
-    let mut present: [bool; 256] = [false; 256];
-    let mut value: [Word; 256] = [0; 256];
-    let mut here: [Entry; 256] = [0; 256];
+    let mut fresh: [bool; PLACES] = [true; PLACES];
+    let mut present: [bool; PLACES] = [false; PLACES];
+    let mut value: [Word; PLACES] = [0; PLACES];
+    let mut here: [Entry; PLACES] = [0; PLACES];
     let mut all: Entry = 0;
     let mut walls: Entry = 0;
     let mut i: usize = 0;
@@ -279,8 +282,8 @@ fn source_pass(
         all = top_after(n, all);
         if is_wall_in(listed, e) {
             walls = top_after(n, walls);
-            fresh = [true; 256];
-            present = [false; 256];
+            fresh = [true; PLACES];
+            present = [false; PLACES];
             continue;
         }
         let after = witness_after(
@@ -297,7 +300,7 @@ fn source_pass(
 }
 
 pub fn source_answer(listed: &Listed, source: &[Word], target: &[Word], entries: &[Entry]) -> Answer
-    requires { ⌜ capacity (now source) ≤ 800 ⌝ }
+    requires { ⌜ capacity (now source) ≤ eventLimit ⌝ }
     requires { ⌜ Placed (now source) ⌝ }
     requires { ⌜ length (now entries) ≡ capacity (now source) ⌝ }
     ensures { λ r. ⌜ r ≡ sourceAnswer (viewIn (now (listed .entry)))

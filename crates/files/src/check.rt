@@ -4,6 +4,7 @@ use crate::print::print_line;
 use checker::check_in;
 use checker::line::offending_line;
 use event::Answer;
+use event::EVENT_LIMIT;
 use event::Entry;
 use event::Word;
 use memory::listed::Listed;
@@ -22,7 +23,7 @@ pub(crate) fn print_check<'a>(
 ) {
     let mut source_room: [Word; 4800] = [0; 4800];
     let mut target_room: [Word; 4800] = [0; 4800];
-    let mut entry_room: [Entry; 800] = [0; 800];
+    let mut entry_room: [Entry; EVENT_LIMIT] = [0; EVENT_LIMIT];
     let checked = check_in(
         listed,
         source,

@@ -2,13 +2,14 @@
 use crate::read::read_file;
 use crate::read::text_buffer;
 use event::Answer;
+use event::PLACES;
 use registers::ListRead;
 
 // Without a list nothing is refused, and none is listed.
 pub fn no_list() -> ListRead {
     ListRead {
         answer: Answer::new(0, 0, 0),
-        listed: [false; 256],
+        listed: [false; PLACES],
     }
 }
 

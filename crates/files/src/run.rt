@@ -6,6 +6,7 @@ use crate::print::print;
 use changes::Run;
 use changes::Step;
 use changes::apply_listed;
+use event::EVENT_LIMIT;
 use event::Entry;
 use event::WORDS;
 use event::Word;
@@ -14,7 +15,6 @@ use steps::Started;
 use steps::next_listed;
 use steps::start_in;
 use steps::swap_place;
-use trace::reading::EVENT_LIMIT;
 use writer::put::write_event;
 
 // The most bytes of a step's line.
@@ -143,14 +143,14 @@ pub struct Begun {
     pub started: Started,
     pub source: [Word; 4800],
     pub target: [Word; 4800],
-    pub entries: [Entry; 800],
+    pub entries: [Entry; EVENT_LIMIT],
     pub tags: [usize; EVENT_LIMIT],
 }
 
 pub fn begin(listed: &Listed, source: &[u8], target: &[u8], matching: &[u8]) -> Begun {
     let mut source_room: [Word; 4800] = [0; 4800];
     let mut target_room: [Word; 4800] = [0; 4800];
-    let mut entry_room: [Entry; 800] = [0; 800];
+    let mut entry_room: [Entry; EVENT_LIMIT] = [0; EVENT_LIMIT];
     let mut tags: [usize; EVENT_LIMIT] = [0; EVENT_LIMIT];
     let started = start_in(
         listed,

@@ -5,6 +5,7 @@ ghost use Prim.Native.Nat.{_≤_};
 ghost use lib.ListN.{replicate};
 ghost use Rattle.rules.specs.Verdict.{entryAnswer};
 ghost use Rattle.judge.specs.Pass.{Marked};
+ghost use Rattle.event.specs.Limit.{eventLimit};
 use crate::marks::is_marked;
 use crate::marks::mark;
 use event::Answer;
@@ -14,7 +15,7 @@ use fates::is_gone;
 
 // The answer; where it is no refusal, the numbers that the entries name are marked.
 pub(crate) fn entry_answer(entries: &[Entry], targets: usize, marks: &mut [u64; 13]) -> Answer
-    requires { ⌜ targets ≤ 800 ⌝ }
+    requires { ⌜ targets ≤ eventLimit ⌝ }
     requires { ⌜ now marks ≡ replicate 13 0 ⌝ }
     ensures { λ r. ⌜ (r ≡ entryAnswer targets 1 [] (now (entries .entry))) × (r .number ≡ 0 → Marked (now (marks .exit)) (now (entries .entry))) ⌝ }
 {

@@ -8,6 +8,7 @@ ghost use mathlib.Core.Path.{_≡_};
 ghost use Prim.Native.Nat.{_≤_};
 ghost use Rattle.event.specs.Room.{Placed, wholeEvents, capacity};
 ghost use Rattle.rules.specs.Verdict.{verdictIn};
+ghost use Rattle.event.specs.Limit.{eventLimit};
 use entries::entry_answer;
 use event::Answer;
 use event::Entry;
@@ -28,9 +29,9 @@ pub fn judge(
     target: &[Word],
     entries: &[Entry],
 ) -> Answer
-    requires { ⌜ capacity (now source) ≤ 800 ⌝ }
+    requires { ⌜ capacity (now source) ≤ eventLimit ⌝ }
     requires { ⌜ Placed (now source) ⌝ }
-    requires { ⌜ capacity (now target) ≤ 800 ⌝ }
+    requires { ⌜ capacity (now target) ≤ eventLimit ⌝ }
     requires { ⌜ Placed (now target) ⌝ }
     ensures { λ r. ⌜ r ≡ verdictIn (now (listed .entry)) (start .cells) («target_start» .cells)
         (wholeEvents (now (source .entry))) (wholeEvents (now (target .entry))) (now (entries .entry)) ⌝ }

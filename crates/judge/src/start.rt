@@ -2,6 +2,7 @@
 ghost use mathlib.Core.Path.{_≡_};
 ghost use Rattle.rules.specs.Verdict.{startAnswerIn};
 use event::Answer;
+use event::PLACES;
 use memory::Memory;
 use memory::listed::Listed;
 
@@ -11,7 +12,7 @@ pub(crate) fn start_answer(listed: &Listed, start: Memory, target_start: Memory)
     let cells = start.cells;
     let target_cells = target_start.cells;
     let mut i: usize = 0;
-    while i < 256 {
+    while i < PLACES {
         let at = i;
         i += 1;
         if cells[at] == target_cells[at] {

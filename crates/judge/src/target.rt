@@ -6,9 +6,11 @@ ghost use Rattle.event.specs.Room.{Placed, wholeEvents, capacity};
 ghost use Rattle.rules.specs.View.{viewIn};
 ghost use Rattle.rules.specs.Verdict.{targetAnswer};
 ghost use Rattle.judge.specs.Pass.{Marked, targetFaultBy, unsupportedBy};
+ghost use Rattle.event.specs.Limit.{eventLimit};
 use crate::marks::is_marked;
 use event::Answer;
 use event::Number;
+use event::PLACES;
 use event::WORDS;
 use event::Word;
 use event::index_of;
@@ -46,12 +48,12 @@ fn target_fault(kind: Word, unsupported: bool) -> Number
 }
 
 pub(crate) fn target_answer(listed: &Listed, target: &[Word], marks: &[u64; 13]) -> Answer
-    requires { ⌜ capacity (now target) ≤ 800 ⌝ }
+    requires { ⌜ capacity (now target) ≤ eventLimit ⌝ }
     requires { ⌜ Placed (now target) ⌝ }
     ensures { λ r. ⌜ ((ns : List ℕ) → Marked (now (marks .entry)) ns
         → r ≡ targetAnswer (viewIn (now (listed .entry))) ns 1 [] (wholeEvents (now (target .entry)))) ⌝ }
 {
-    let mut fresh: [bool; 256] = [true; 256];
+    let mut fresh: [bool; PLACES] = [true; PLACES];
     let mut k: usize = 0;
     while k < target.len() / WORDS {
         let e = get(target, k);
@@ -63,7 +65,7 @@ pub(crate) fn target_answer(listed: &Listed, target: &[Word], marks: &[u64; 13])
         }
         k += 1;
         if is_wall_in(listed, e) {
-            fresh = [true; 256];
+            fresh = [true; PLACES];
             continue;
         }
         fresh[at] = false;

@@ -6,7 +6,7 @@ use mathlib.Core.List.{List}
 use mathlib.Core.Path.{_≡_, refl, _∙_, ap}
 use lib.Dec.{leb}
 use lib.ListN.{getD, replicate}
-use Rattle.event.specs.Place.{places, lastPlace}
+use Rattle.event.specs.Limit.{places, lastPlace}
 use Rattle.kinds.specs.Kind.{lawful, plain}
 use Rattle.memory.specs.Memory.{stepped}
 use Rattle.memory.specs.Listed.{listed, noneListed, isRegister, steppedIn}

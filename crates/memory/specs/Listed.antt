@@ -4,7 +4,7 @@ use mathlib.Core.Bool.{Bool, false, cond, _&&_}
 use mathlib.Core.List.{List}
 use lib.Dec.{leb}
 use lib.ListN.{getD, replicate}
-use Rattle.event.specs.Place.{places, lastPlace}
+use Rattle.event.specs.Limit.{places, lastPlace}
 use Rattle.kinds.specs.Kind.{lawful, plain, atomic}
 use Rattle.memory.specs.Memory.{stepped}
 use Rattle.event.specs.declared.Event.{Event}

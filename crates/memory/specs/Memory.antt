@@ -4,6 +4,7 @@ use mathlib.Core.Bool.{Bool, true, false, cond}
 use mathlib.Core.List.{List}
 use lib.Dec.{eqb}
 use lib.ListN.{getD, set, replicate}
+use Rattle.event.specs.Limit.{places}
 use Rattle.kinds.specs.Kind.{row, bitsOf, lawful}
 use Rattle.kinds.specs.declared.Width.{Width}
 use Rattle.kinds.specs.declared.Sets.{Sets}
@@ -12,9 +13,9 @@ use Rattle.event.specs.declared.Event.{Event}
 use Rattle.memory.specs.declared.Memory.{Memory}
 use Rattle.memory.specs.declared.Stepped.{Stepped}
 
--- the starting memory before the first line is read: 256 cells, all 0
+-- the starting memory before the first line is read: a cell for each location, all 0
 abbrev pub empty : Memory
-empty = record { cells = replicate 256 0 }
+empty = record { cells = replicate places 0 }
 
 -- the sum of two numbers as a counter of some width has it
 abbrev pub wrapSum : ℕ → ℕ → ℕ → ℕ

@@ -7,6 +7,7 @@ ghost use lib.Dec.{eqb};
 ghost use Rattle.kinds.specs.Kind.{bitsOf};
 ghost use Rattle.memory.specs.Memory.{empty as emptyMemory, leaves, stepped, wrapSum};
 use event::Event;
+use event::PLACES;
 use event::Word;
 use event::index_of;
 use kinds::Sets;
@@ -15,7 +16,7 @@ use kinds::is_lawful;
 use kinds::row_of;
 
 pub struct Memory {
-    pub cells: [Word; 256],
+    pub cells: [Word; PLACES],
 }
 
 // The memory after an event, and whether the event's value is the latest.
@@ -74,7 +75,7 @@ impl Memory {
     pub fn empty() -> Self
         ensures { λ r. ⌜ r ≡ emptyMemory ⌝ }
     {
-        Memory { cells: [0; 256] }
+        Memory { cells: [0; PLACES] }
     }
 
     pub fn step(mut self, e: Event) -> Stepped

@@ -2,13 +2,14 @@
 ghost use mathlib.Core.Path.{_≡_};
 ghost use Rattle.memory.specs.Listed.{listed as isListed, isRegister};
 use event::Event;
+use event::PLACES;
 use event::Word;
 use event::index_of;
 use kinds::LAST_PLACE;
 use kinds::is_plain;
 
 // A mark for each location; a call without a list marks none.
-pub type Listed = [bool; 256];
+pub type Listed = [bool; PLACES];
 
 // Whether a location is listed; a number beyond the last location is not.
 pub fn is_listed(listed: &Listed, place: Word) -> bool

@@ -9,7 +9,7 @@ use lib.Dec.{eqb}
 use lib.ListN.{length}
 use borrow.Author.Tests.{eqb-true, eqb-false, ne-eqb, not-false}
 use Rattle.laws.proofs.Lists.{Each, Free}
-use Rattle.event.specs.Place.{lastPlace}
+use Rattle.event.specs.Limit.{lastPlace}
 use Rattle.kinds.specs.Kind.{lawful, lastValue, lastCode, made}
 use Rattle.event.specs.declared.Event.{Event}
 use Rattle.kinds.proofs.Lawful.{first-of, second-of, code-of}

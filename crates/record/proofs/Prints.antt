@@ -9,7 +9,7 @@ use lib.Dec.{leb}
 use lib.ListN.{length, length-append}
 use borrow.Author.Tests.{leb-true}
 use Rattle.laws.proofs.Lists.{Each, Free, each-append}
-use Rattle.event.specs.Place.{lastPlace}
+use Rattle.event.specs.Limit.{lastPlace}
 use Rattle.kinds.specs.Kind.{row, rlx, lastValue, lastCode, made, add64}
 use Rattle.event.specs.declared.Event.{Event}
 use Rattle.kinds.proofs.Lawful.{first-of, second-of, code-of}

@@ -3,7 +3,7 @@ use Prim.Native.Nat.{ℕ, _≤_}
 use mathlib.Core.Path.{_≡_, refl}
 use mathlib.Core.Bool.{true}
 use mathlib.Core.List.{List, []}
-use Rattle.event.specs.Place.{lastPlace}
+use Rattle.event.specs.Limit.{lastPlace}
 use Rattle.kinds.specs.Kind.{row, lawful, takes}
 use Rattle.event.specs.declared.Event.{Event}
 use Rattle.text.specs.Cut.{cut}

@@ -11,7 +11,7 @@ use Rattle.laws.proofs.Bools.{and-left, and-right}
 use Rattle.laws.proofs.Cases.{cases, either, side}
 use Rattle.laws.proofs.Has.{has-every}
 use Rattle.laws.specs.Has.{has}
-use Rattle.event.specs.Place.{lastPlace}
+use Rattle.event.specs.Limit.{lastPlace}
 use Rattle.kinds.specs.Kind.{isMarks, row, rows, noKind, ordersOf, takes, fitsPlace, lawful}
 use Rattle.event.specs.declared.Event.{Event}
 use Rattle.kinds.specs.declared.Orders.{Orders}

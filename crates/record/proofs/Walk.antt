@@ -6,7 +6,7 @@ use mathlib.Core.Bool.{true}
 use mathlib.Core.List.{List}
 use native.Mathlib.Omega.{arith}
 use lib.ListN.{length, take, drop}
-use Rattle.event.specs.Place.{lastPlace}
+use Rattle.event.specs.Limit.{lastPlace}
 use Rattle.kinds.specs.Kind.{lastValue}
 use Rattle.text.specs.Field.{fieldAt, fieldsFrom, onEnd}
 use Rattle.text.specs.Number.{numberOf, onNumber}

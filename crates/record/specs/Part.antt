@@ -4,7 +4,7 @@ use Prim.Native.Nat.{ℕ, _+_, _-_, _≤_}
 use mathlib.Core.Bool.{Bool, true, false}
 use mathlib.Core.List.{List}
 use lib.ListN.{length, take, drop}
-use Rattle.event.specs.Place.{lastPlace}
+use Rattle.event.specs.Limit.{lastPlace}
 use Rattle.kinds.specs.Kind.{lastValue}
 use Rattle.text.specs.Field.{fieldAt, fieldsFrom, onEnd}
 use Rattle.text.specs.Take.{onStep}

@@ -3,7 +3,7 @@ use Prim.Native.Nat.{ℕ}
 use mathlib.Core.Bool.{Bool, true, false, cond}
 use mathlib.Core.List.{List}
 use mathlib.Core.Path.{_≡_}
-use Rattle.event.specs.Place.{lastPlace}
+use Rattle.event.specs.Limit.{lastPlace}
 use Rattle.kinds.specs.Kind.{lastValue, lastCode, made, lawful}
 use Rattle.event.specs.declared.Event.{Event}
 use Rattle.text.specs.Field.{fields, onField, onEnd}

@@ -11,7 +11,7 @@ use borrow.Author.Tests.{eqb-true, eqb-false, eq-eqb, ne-eqb}
 use Rattle.memory.specs.Listed.{noneListed}
 use Rattle.laws.proofs.Cases.{cases, either, side}
 use Rattle.laws.specs.Has.{has}
-use Rattle.event.specs.Place.{places}
+use Rattle.event.specs.Limit.{places}
 use Rattle.registers.specs.Reading.{marked, marksOf}
 use Rattle.registers.specs.Text.{Ascending}
 

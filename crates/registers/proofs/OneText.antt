@@ -12,7 +12,7 @@ use Rattle.memory.specs.Listed.{noneListed}
 use Rattle.laws.specs.Each.{Each}
 use Rattle.laws.proofs.Cases.{not-first}
 use Rattle.laws.proofs.Lists.{Free}
-use Rattle.event.specs.Place.{lastPlace}
+use Rattle.event.specs.Limit.{lastPlace}
 use Rattle.text.specs.Cut.{glue}
 use Rattle.text.specs.Line.{split, body, saidIn}
 use Rattle.text.proofs.Decimals.{length-below}

@@ -7,7 +7,7 @@ use mathlib.Core.List.{List, [], _∷_}
 use native.Mathlib.Omega.{arith}
 use Rattle.laws.proofs.Cases.{cases, either}
 use Rattle.laws.proofs.Lists.{Free}
-use Rattle.event.specs.Place.{lastPlace}
+use Rattle.event.specs.Limit.{lastPlace}
 use Rattle.text.specs.Field.{fields, join, onEnd, onField}
 use Rattle.text.specs.Number.{decimal, numberOf, onNumber}
 use Rattle.text.specs.Word.{sameBytes}

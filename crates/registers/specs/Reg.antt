@@ -2,7 +2,7 @@
 use Prim.Native.Nat.{ℕ}
 use mathlib.Core.Bool.{cond}
 use mathlib.Core.List.{List, [], _∷_}
-use Rattle.event.specs.Place.{lastPlace}
+use Rattle.event.specs.Limit.{lastPlace}
 use Rattle.text.specs.Field.{fields, onField, onEnd, join}
 use Rattle.text.specs.Number.{numberOf, onNumber, decimal}
 use Rattle.text.specs.Word.{bytes, sameBytes}

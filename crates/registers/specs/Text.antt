@@ -2,7 +2,7 @@
 use Prim.Native.Nat.{ℕ, _+_, _≤_}
 use mathlib.Core.List.{List, [], _∷_, _++_, map}
 use lib.ListN.{length}
-use Rattle.event.specs.Place.{lastPlace}
+use Rattle.event.specs.Limit.{lastPlace}
 use Rattle.text.specs.Line.{unsplit}
 use Rattle.registers.specs.Reg.{header, regLine}
 use Rattle.registers.specs.Reading.{regLimit}

@@ -11,6 +11,7 @@ ghost use Rattle.text.specs.Line.{splitFrom};
 ghost use Rattle.registers.specs.Reading.{regLimit, nothing, refused, listOf};
 ghost use Rattle.registers.specs.Lines.{linesRead};
 use event::Answer;
+use event::PLACES;
 use event::Word;
 use event::index_of;
 use frame::head_fault;
@@ -29,7 +30,7 @@ const REG_LIMIT: usize = 32;
 // What a reading hands back: its answer, and which locations are listed, none under a refusal.
 pub struct ListRead {
     pub answer: Answer,
-    pub listed: [bool; 256],
+    pub listed: [bool; PLACES],
 }
 
 fn refusal(answer: Answer) -> ListRead
@@ -37,7 +38,7 @@ fn refusal(answer: Answer) -> ListRead
 {
     ListRead {
         answer,
-        listed: [false; 256],
+        listed: [false; PLACES],
     }
 }
 
@@ -57,7 +58,7 @@ fn read_lines(text: &[u8], from: usize) -> ListRead
     requires { ⌜ 2 ≤ from ⌝ }
     ensures { λ r. ⌜ r ≡ linesRead nothing noneListed (splitFrom (now (text .entry)) from) ⌝ }
 {
-    let mut listed: [bool; 256] = [false; 256];
+    let mut listed: [bool; PLACES] = [false; PLACES];
     let mut at = from;
     let mut low: Word = 0;
     let mut n: usize = 0;

@@ -12,7 +12,7 @@ use lib.Seq.{set-getD}
 use borrow.Author.Tests.{eqb-true}
 use Rattle.memory.specs.Listed.{noneListed, steppedIn}
 use Rattle.memory.specs.Memory.{stepped}
-use Rattle.event.specs.Place.{places}
+use Rattle.event.specs.Limit.{places}
 use Rattle.kinds.specs.Kind.{lawful}
 use Rattle.event.specs.declared.Event.{Event}
 use Rattle.memory.specs.declared.Memory.{Memory}

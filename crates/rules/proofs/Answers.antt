@@ -9,7 +9,7 @@ use borrow.Author.Tests.{le-leb}
 use lib.Dec.{eqb, ltb}
 use lib.ListN.{length}
 use Rattle.laws.specs.Has.{has}
-use Rattle.event.specs.Place.{places}
+use Rattle.event.specs.Limit.{places}
 use Rattle.kinds.specs.Kind.{isLoadKind}
 use Rattle.memory.specs.Listed.{listed, noneListed}
 use Rattle.event.specs.Answer.{first, InTable}

@@ -7,7 +7,7 @@ use Prim.Native.Nat.{ℕ, _<_}
 use lib.ListN.{length-set, length, getD, set}
 use lib.Seq.{set-getD}
 use lib.Dec.{T, eqb}
-use Rattle.event.specs.Place.{places}
+use Rattle.event.specs.Limit.{places}
 use Rattle.kinds.specs.Kind.{used, row, lawful, plain}
 use Rattle.memory.specs.Listed.{isRegister, steppedIn}
 use Rattle.memory.specs.Memory.{after, latest, left, stepped}

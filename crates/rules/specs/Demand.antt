@@ -12,7 +12,7 @@ use Rattle.memory.specs.Listed.{listed, noneListed, steppedIn}
 use Rattle.event.specs.declared.Event.{Event}
 use Rattle.event.specs.Answer.{done}
 use Rattle.memory.specs.declared.Memory.{Memory}
-use Rattle.event.specs.Place.{places}
+use Rattle.event.specs.Limit.{places}
 use Rattle.rules.specs.View.{View, view, viewIn}
 use Rattle.rules.specs.Moves.{Run, By}
 use Rattle.rules.specs.Run.{Ends, Realises, Traced, changes, eventOf, new, old, tagOf}

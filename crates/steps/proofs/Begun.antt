@@ -7,7 +7,7 @@ use native.Mathlib.Omega.{arith}
 use lib.ListN.{length, take}
 use borrow.Author.Tests.{eq-eqb, ne-eqb}
 use Rattle.laws.specs.Has.{has}
-use Rattle.trace.specs.Reading.{eventLimit, eventsOf, readIn, surveyIn}
+use Rattle.trace.specs.Reading.{eventsOf, readIn, surveyIn}
 use Rattle.trace.proofs.OneText.{text-whole}
 use Rattle.trace.proofs.Readings.{counts, read-passed}
 use Rattle.rules.proofs.Entries.{entries}
@@ -22,6 +22,7 @@ use Rattle.changes.specs.Apply.{front}
 use Rattle.steps.specs.Cost.{cost}
 use Rattle.steps.specs.Play.{StartsIn, StartsListed, notBegun, startedIn, startedListed, counted}
 use Rattle.steps.specs.declared.Started.{Started}
+use Rattle.event.specs.Limit.{eventLimit}
 
 -- ---- what was read
 

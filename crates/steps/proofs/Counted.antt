@@ -9,11 +9,11 @@ use lib.ListN.{length}
 use borrow.Author.Tests.{lt-ltb}
 use Rattle.event.specs.Room.{noEvent}
 use Rattle.event.specs.declared.Event.{Event}
-use Rattle.trace.specs.Reading.{eventLimit}
 use Rattle.rules.specs.Run.{number}
 use Rattle.rules.proofs.Entries.{From, from-here, from-next, from-start}
 use Rattle.changes.specs.Tags.{trace}
 use Rattle.steps.specs.Play.{counted}
+use Rattle.event.specs.Limit.{eventLimit}
 
 pub counted-length : (i n : ℕ) → length (counted i n) ≡ n
 counted-length i zero = refl

@@ -11,7 +11,6 @@ use borrow.Author.Tests.{le-ltb, lt-ltb, ne-eqb, eq-eqb}
 use Rattle.laws.proofs.Lists.{Each}
 use Rattle.event.specs.Room.{noEvent}
 use Rattle.event.specs.declared.Event.{Event}
-use Rattle.trace.specs.Reading.{eventLimit}
 use Rattle.rules.specs.View.{View}
 use Rattle.rules.specs.Moves.{Insertable, Rules}
 use Rattle.rules.specs.Run.{old, new, Traced, traced, tagOf, viewed, Inserted, changes, Ends}
@@ -25,6 +24,7 @@ use Rattle.changes.proofs.May.{if-insertable}
 use Rattle.steps.specs.Step.{leaves, targetNumber, against, missing, nextStep, Replays, ended, stepped}
 use Rattle.steps.proofs.Counts.{below, inverted, total}
 use Rattle.steps.proofs.Tags.{Numbers, Stands, none-gone, numbers, stand, ended-at}
+use Rattle.event.specs.Limit.{eventLimit}
 
 -- what stands behind b, with b in front of it again
 abbrev pub onto : List Traced → List Traced → List Traced

@@ -13,7 +13,6 @@ use borrow.Author.Tests.{le-leb}
 use Rattle.laws.proofs.Lists.{Each}
 use Rattle.event.specs.Room.{noEvent}
 use Rattle.event.specs.declared.Event.{Event}
-use Rattle.trace.specs.Reading.{eventLimit}
 use Rattle.rules.specs.View.{View}
 use Rattle.rules.specs.Run.{new, Traced, traced, tagOf, viewed}
 use Rattle.rules.proofs.Truth.{and-right}
@@ -27,6 +26,7 @@ use Rattle.changes.specs.declared.Step.the-variants.{Remove, Swap, Insert, Done
 use Rattle.changes.proofs.Allow.{passed, through}
 use Rattle.changes.proofs.Outcomes.{new-one}
 use Rattle.changes.proofs.Traces.{code-decoded}
+use Rattle.event.specs.Limit.{eventLimit}
 
 -- a relation that holds where a step happens holds of the whole
 at-rel : (R : List Traced → List Traced → Type 0) → ((x : Traced) (u v : List Traced) → R u v → R (x ∷ u) (x ∷ v))

@@ -8,11 +8,11 @@ use native.Mathlib.Omega.{arith}
 use lib.ListN.{getD, length}
 use borrow.Author.Tests.{ltb-true}
 use Rattle.event.specs.declared.Event.{Event}
-use Rattle.trace.specs.Reading.{eventLimit}
 use Rattle.rules.specs.Fault.{isGone}
 use Rattle.rules.specs.Run.{old, new}
 use Rattle.changes.specs.Tags.{decoded, trace}
 use Rattle.steps.specs.Step.{leaves, numberAt, sourceNumber, targetNumber}
+use Rattle.event.specs.Limit.{eventLimit}
 
 zero-gone : (n : ℕ) → isGone n ≡ eqb n 0
 zero-gone zero = refl

@@ -7,7 +7,6 @@ use Prim.Native.Nat.{ℕ, zero, suc, _+_, _-_, _≤_, _<_}
 use native.Mathlib.Omega.{arith}
 use lib.ListN.{length, take}
 use Rattle.event.specs.declared.Event.{Event}
-use Rattle.trace.specs.Reading.{eventLimit}
 use Rattle.rules.specs.View.{View}
 use Rattle.rules.specs.Run.{Traced}
 use Rattle.changes.specs.Apply.{Applies, front, isOpen, outcomeBy, stands}
@@ -23,6 +22,7 @@ use Rattle.steps.specs.Step.{nextStep}
 use Rattle.steps.specs.declared.Replayed.{Replayed}
 use Rattle.steps.proofs.Kept.{coded-applied, few-applied, open-running, running, stands-front}
 use Rattle.steps.proofs.Resume.{resumed}
+use Rattle.event.specs.Limit.{eventLimit}
 
 -- ---- what was applied, and what was not
 

@@ -9,7 +9,6 @@ use native.Mathlib.Omega.{arith}
 use lib.ListN.{length}
 use Rattle.event.specs.declared.Event.{Event}
 use Rattle.memory.specs.declared.Memory.{Memory}
-use Rattle.trace.specs.Reading.{eventLimit}
 use Rattle.rules.specs.View.{View, viewIn}
 use Rattle.rules.specs.Run.{number, changes}
 use Rattle.rules.specs.Demand.{PassedIn}
@@ -29,6 +28,7 @@ use Rattle.steps.proofs.Tags.{Stands, numbers, stand}
 use Rattle.steps.proofs.Remove.{removing}
 use Rattle.steps.proofs.Sort.{lows-back, sorting}
 use Rattle.steps.proofs.Insert.{inserting, fill-back, inverted-rises, rises-fill}
+use Rattle.event.specs.Limit.{eventLimit}
 
 -- the fixed order is a replay
 pub replayed : (view : Event → View) (s t : List Event) (ns : List ℕ) → length ns ≡ length s → (o : FixedOrder view s t ns) → length t ≤ eventLimit

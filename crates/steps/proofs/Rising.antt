@@ -15,7 +15,6 @@ use Rattle.kinds.specs.Kind.{lawful}
 use Rattle.event.specs.Room.{noEvent}
 use Rattle.event.specs.declared.Event.{Event}
 use Rattle.rules.specs.View.{View}
-use Rattle.trace.specs.Reading.{eventLimit}
 use Rattle.rules.specs.Run.{new, Traced, traced, tagOf, number, viewed}
 use Rattle.rules.specs.Fault.{isGone}
 use Rattle.rules.proofs.Entries.{Once, from-start}
@@ -34,6 +33,7 @@ use Rattle.steps.proofs.Counts.{total, begins}
 use Rattle.steps.proofs.Weigh.{less-one}
 use Rattle.steps.proofs.Words.{Along, here, on, targets, least-missing}
 use Rattle.rules.specs.Moves.{one, two}
+use Rattle.event.specs.Limit.{eventLimit}
 
 -- ---- a number comes once among the entries
 

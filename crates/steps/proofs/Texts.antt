@@ -14,7 +14,6 @@ use Rattle.event.specs.Answer.{done}
 use Rattle.memory.specs.Listed.{noneListed}
 use Rattle.event.specs.declared.Answer.{Answer}
 use Rattle.event.specs.declared.Event.{Event}
-use Rattle.trace.specs.Reading.{eventLimit}
 use Rattle.registers.specs.Reading.{listOf}
 use Rattle.rules.specs.View.{View, viewIn}
 use Rattle.rules.specs.Moves.{Run as RunOf}
@@ -46,6 +45,7 @@ use Rattle.steps.proofs.Plays.{next-open, open-after, play-off, play-on
 use Rattle.steps.proofs.Printed.{as-many, no-fewer, printed}
 use Rattle.steps.proofs.Resume.{resumed}
 use Rattle.steps.proofs.Counted.{counted-length, trace-source}
+use Rattle.event.specs.Limit.{eventLimit}
 
 -- ---- a replay in the array is a replay
 

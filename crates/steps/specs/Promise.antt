@@ -14,7 +14,6 @@ use Rattle.event.specs.Answer.{done}
 use Rattle.kinds.specs.Kind.{lawful}
 use Rattle.event.specs.declared.Event.{Event}
 use Rattle.memory.specs.declared.Memory.{Memory}
-use Rattle.trace.specs.Reading.{eventLimit}
 use Rattle.rules.specs.View.{View, view, viewIn}
 use Rattle.rules.specs.Moves.{Move, Run}
 use Rattle.rules.specs.Run.{Traced, number, changes, Ends}
@@ -31,6 +30,7 @@ use Rattle.steps.specs.Cost.{cost, stepsOf}
 use Rattle.steps.specs.Play.{Played, nextBy, nextFromBy, playBy, startedIn, startedListed, startedOf, swapPlace, tagsIn, tagsListed, tagsOf}
 use Rattle.steps.specs.Step.{Replays, nextStep}
 use Rattle.steps.specs.declared.Started.{Started}
+use Rattle.event.specs.Limit.{eventLimit}
 
 -- The pairs among n events.
 abbrev pub pairs : ℕ → ℕ

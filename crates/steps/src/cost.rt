@@ -3,6 +3,7 @@ ghost use mathlib.Core.Path.{_≡_};
 ghost use Prim.Native.Nat.{_≤_};
 ghost use lib.ListN.{length};
 ghost use Rattle.steps.specs.Cost.{bit, cost, isReversed, many};
+ghost use Rattle.event.specs.Limit.{eventLimit};
 use event::Entry;
 
 // 1 for an event and a later one, both kept, of which the later comes first in the target; else 0.
@@ -33,8 +34,8 @@ fn reversed_with(number: Entry, later: &[Entry]) -> usize
 
 // Those of a matching to a target of so many events.
 pub(crate) fn cost_of(entries: &[Entry], targets: usize) -> usize
-    requires { ⌜ length (now entries) ≤ 800 ⌝ }
-    requires { ⌜ targets ≤ 800 ⌝ }
+    requires { ⌜ length (now entries) ≤ eventLimit ⌝ }
+    requires { ⌜ targets ≤ eventLimit ⌝ }
     ensures { λ r. ⌜ r ≡ cost targets (now (entries .entry)) ⌝ }
 {
     let count = entries.len();

@@ -6,9 +6,9 @@ ghost use Rattle.changes.specs.Apply.{front};
 ghost use Rattle.changes.specs.Tags.{decoded};
 ghost use Rattle.steps.specs.Step.{leaves, overtakes, targetNumber};
 ghost use Rattle.steps.specs.Play.{counted};
+use event::EVENT_LIMIT;
 use event::Entry;
 use event::number_index;
-use trace::reading::EVENT_LIMIT;
 
 // The target number of its event; 0 if it is gone.
 pub(crate) fn target_number(entries: &[Entry], tag: usize) -> usize

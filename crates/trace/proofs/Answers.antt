@@ -32,10 +32,11 @@ use Rattle.trace.specs.Fault.{coverFault}
 use Rattle.uses.specs.Use.{clashesIn}
 use Rattle.trace.specs.Fault.{faultAt, eventFaultIn}
 use Rattle.uses.specs.Bad.{firstBad}
-use Rattle.trace.specs.Reading.{SoFar, formOf, eventLimit, lineFault, traceLayout, startOf, initsOf, eventsOf, faultIn, surveyIn, readIn}
+use Rattle.trace.specs.Reading.{SoFar, formOf, lineFault, traceLayout, startOf, initsOf, eventsOf, faultIn, surveyIn, readIn}
 use Rattle.trace.specs.Moving.{movedText, moveHead, moveFaultIn, moveIn}
 use Rattle.trace.specs.Writing.{countOf, roomEvents, layoutFault, lost, traceText, roomFaultIn, inOut, writeFaultIn, writeIn}
 use Rattle.trace.specs.declared.reading.TraceRead.{TraceRead}
+use Rattle.event.specs.Limit.{eventLimit}
 
 -- the numbers of a reading's refusals, and those of lines, of starting values and of events
 abbrev pub traceFaults : List ℕ

@@ -13,7 +13,7 @@ use Rattle.laws.proofs.Cases.{not-first}
 use Rattle.laws.proofs.Lists.{each-imp}
 use Rattle.laws.specs.Each.{Each}
 use Rattle.event.specs.Answer.{answer, done}
-use Rattle.event.specs.Place.{places}
+use Rattle.event.specs.Limit.{places, eventLimit}
 use Rattle.kinds.specs.Kind.{lawful}
 use Rattle.memory.specs.Memory.{stepped}
 use Rattle.event.specs.Room.{flat}
@@ -26,7 +26,7 @@ use Rattle.record.specs.Form.{loses}
 use Rattle.record.specs.Record.{Fit}
 use Rattle.record.specs.declared.form.Form.{Form}
 use Rattle.trace.specs.Fault.{eventFaultIn}
-use Rattle.trace.specs.Reading.{formOf, eventLimit, readAs, surveyIn, eventsOf, roomAfterIn}
+use Rattle.trace.specs.Reading.{formOf, readAs, surveyIn, eventsOf, roomAfterIn}
 use Rattle.trace.specs.Writing.{countOf, roomEvents, layoutFault, lost, traceText, roomFaultIn, inOut, writeFaultIn, writeIn, outAfterIn}
 use Rattle.trace.specs.Text.{Valued, Fits}
 use Rattle.trace.proofs.OneText.{text-whole, written-read}

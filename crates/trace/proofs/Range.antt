@@ -9,7 +9,7 @@ use native.Mathlib.Omega.{arith}
 use lib.ListN.{length, getD, length-append}
 use borrow.Author.Tests.{not-false}
 use Rattle.laws.specs.Each.{Each}
-use Rattle.event.specs.Place.{places}
+use Rattle.event.specs.Limit.{places, eventLimit}
 use Rattle.kinds.specs.Kind.{lawful}
 use Rattle.event.specs.Room.{inRoom, eventAt, onward}
 use Rattle.event.specs.declared.Event.{Event}
@@ -21,7 +21,6 @@ use Rattle.record.proofs.Prints.{event-length, init-length}
 use Rattle.record.specs.declared.form.Form.{Form}
 use Rattle.record.specs.declared.form.Form.the-variants.{One, Two}
 use Rattle.uses.specs.Cover.{Start, starts}
-use Rattle.trace.specs.Reading.{eventLimit}
 use Rattle.trace.specs.Writing.{layoutFault, lost, textOf, hasLine, startLine, textBy}
 use Rattle.trace.specs.Text.{Valued, Fits, longestText}
 use Rattle.trace.proofs.Covered.{Heard, each-heard}

@@ -28,7 +28,7 @@ use Rattle.trace.specs.Fault.{eventFaultIn}
 use Rattle.frame.specs.Reading.{headed, linesFault}
 use Rattle.frame.proofs.Heads.{by-lines}
 use Rattle.frame.proofs.Lines.{lines-end, lines-go}
-use Rattle.trace.specs.Reading.{SoFar, formOf, traceLayout, eventsIn, initsIn, startIn, readAs, faultIn, surveyIn, eventsOf, initsOf, readIn, front, roomAfterIn, eventLimit}
+use Rattle.trace.specs.Reading.{SoFar, formOf, traceLayout, eventsIn, initsIn, startIn, readAs, faultIn, surveyIn, eventsOf, initsOf, readIn, front, roomAfterIn}
 use Rattle.trace.specs.Writing.{textOf, hasLine, startLine, textBy, traceText}
 use Rattle.trace.specs.Text.{Fits}
 use Rattle.record.specs.declared.form.Form.{Form}
@@ -41,6 +41,7 @@ use Rattle.uses.proofs.Starts.{Rising, rising-starts, filled-starts}
 use Rattle.trace.proofs.Range.{text-length, longest-short}
 use Rattle.trace.proofs.Readings.{read-done}
 use Rattle.record.proofs.Records.{blank}
+use Rattle.event.specs.Limit.{eventLimit}
 
 some-end : (ls : List (List ℕ)) → Some (ls ++ ([] ∷ []))
 some-end [] = tt

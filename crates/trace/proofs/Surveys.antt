@@ -27,12 +27,13 @@ use Rattle.trace.specs.Fault.{coverFault}
 use Rattle.uses.specs.Use.{uses, clashesIn}
 use Rattle.uses.specs.Bad.{firstBad}
 use Rattle.trace.specs.Fault.{faultAt, eventFaultIn}
-use Rattle.trace.specs.Reading.{traceLayout, eventsIn, refused, readAs, eventLimit}
+use Rattle.trace.specs.Reading.{traceLayout, eventsIn, refused, readAs}
 use Rattle.trace.specs.Survey.{closed, surveyEvents}
 use Rattle.uses.specs.Cover.{soFar}
 use Rattle.trace.specs.declared.reading.TraceRead.{TraceRead}
 use Rattle.uses.proofs.Bad.{bad-found}
 use Rattle.trace.proofs.Judged.{fault-next, fault-end, first-assoc, first-same, others-fault}
+use Rattle.event.specs.Limit.{eventLimit}
 
 -- 20 and 21 of what is left, after n events `before`, of which `bare` is the first that lacks its line; and 5 and 6, of which `found` is the first
 abbrev pub coverOn : Form → ℕ → List Start → ℕ → List Event → Answer → List Event → Answer

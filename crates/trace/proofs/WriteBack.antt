@@ -21,7 +21,7 @@ use Rattle.record.specs.declared.Record.the-variants.{Init, AnEvent, Refused}
 use Rattle.record.proofs.Layouts.{line-says, init-back}
 use Rattle.record.proofs.Records.{blank}
 use Rattle.record.specs.declared.form.Form.{Form}
-use Rattle.trace.specs.Reading.{SoFar, lineFault, afterLine, traceLayout, eventsIn, initsIn, startIn, startFrom, eventLimit}
+use Rattle.trace.specs.Reading.{SoFar, lineFault, afterLine, traceLayout, eventsIn, initsIn, startIn, startFrom}
 use Rattle.uses.specs.Cover.{touched}
 use Rattle.trace.specs.Fault.{coverFault}
 use Rattle.trace.specs.Writing.{hasLine, startLine}
@@ -29,6 +29,7 @@ use Rattle.trace.specs.Text.{Valued}
 use Rattle.trace.proofs.Covered.{Heard, agrees}
 use Rattle.trace.proofs.ReadBack.{tail, its-lines}
 use Rattle.uses.proofs.Starts.{Rising, rising-none, starts-filled}
+use Rattle.event.specs.Limit.{eventLimit}
 
 set-valued : (cells : List ℕ) (p v : ℕ) → Valued cells → v ≤ lastValue → Valued (set cells p v)
 set-valued [] p v h k = tt

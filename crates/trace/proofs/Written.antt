@@ -12,9 +12,9 @@ use Rattle.event.specs.Answer.{answer}
 use Rattle.event.specs.Room.{onward}
 use Rattle.event.specs.declared.Answer.{Answer}
 use Rattle.memory.specs.declared.Memory.{Memory}
-use Rattle.trace.specs.Reading.{eventLimit}
 use Rattle.trace.specs.Fault.{eventFaultIn}
 use Rattle.trace.specs.Writing.{countOf, layoutFault, roomFaultIn}
+use Rattle.event.specs.Limit.{eventLimit}
 
 module _ (regs : List Bool) (m : Memory) (room : List ℕ) {n : ℕ} (c : n ≡ countOf room) where
   pub room-full : eventLimit < n → roomFaultIn regs m room ≡ answer 3 0 (eventLimit + 1)

@@ -9,7 +9,8 @@ use lib.ListN.{length, drop}
 use Rattle.event.specs.Answer.{done, first}
 use Rattle.memory.specs.Listed.{noneListed}
 use Rattle.memory.specs.Memory.{empty}
-use Rattle.event.specs.Room.{flat}
+use Rattle.event.specs.Limit.{places, eventLimit}
+use Rattle.event.specs.Room.{eventWords, flat}
 use Rattle.event.specs.declared.Answer.{Answer}
 use Rattle.event.specs.declared.Event.{Event}
 use Rattle.memory.specs.declared.Memory.{Memory}
@@ -30,11 +31,7 @@ use Rattle.trace.specs.declared.reading.TraceRead.{TraceRead}
 unfoldable pub formOf : List ℕ → Form
 formOf t = cond (headed (header Two) (split t)) Two One
 
--- The most events.
-abbrev pub eventLimit : ℕ
-eventLimit = 800
-
--- What is known of the lines so far: the lowest location that an `init` line may have, 256 (which none has) once an event has come; and the
+-- What is known of the lines so far: the lowest location that an `init` line may have, one that none has once an event has come; and the
 -- number of events.
 pub record SoFar : Type 0 where
   pub low : ℕ
@@ -50,7 +47,7 @@ lineFault s (AnEvent e) = cond (leb eventLimit (s .events)) 3 0
 abbrev pub afterLine : SoFar → Record → SoFar
 afterLine s Refused = s
 afterLine s (Init p v) = record { low = p + 1; events = s .events }
-afterLine s (AnEvent e) = record { low = 256; events = s .events + 1 }
+afterLine s (AnEvent e) = record { low = places; events = s .events + 1 }
 
 -- The layout of a trace, by its form.
 abbrev pub traceLayout : Form → Layout SoFar
@@ -119,7 +116,7 @@ surveyOf = surveyIn noneListed
 
 -- 17, after the others: a room of so many words does not hold the events.
 abbrev pub roomFor : ℕ → ℕ → TraceRead → TraceRead
-roomFor side words r = fitted refused side (r .events) (words / 6) r
+roomFor side words r = fitted refused side (r .events) (words / eventWords) r
 
 -- A reading, by its text and the room lent.
 unfoldable pub readIn : List Bool → ℕ → List ℕ → List ℕ → TraceRead
@@ -130,7 +127,7 @@ readOf = readIn noneListed
 
 -- A room with events at its front.
 abbrev pub front : List Event → List ℕ → List ℕ
-front es room = flat es ++ drop (length es * 6) room
+front es room = flat es ++ drop (length es * eventWords) room
 
 -- The room afterwards: unchanged by a refusal, else with the events at its front.
 unfoldable pub roomAfterIn : List Bool → ℕ → List ℕ → List ℕ → List ℕ

@@ -4,6 +4,7 @@ use mathlib.Core.Bool.{Bool}
 use mathlib.Core.List.{List, [], _++_}
 use lib.ListN.{length}
 use Rattle.event.specs.Answer.{first}
+use Rattle.event.specs.Limit.{places}
 use Rattle.memory.specs.declared.Memory.{Memory}
 use Rattle.frame.specs.Reading.{linesFault, settle}
 use Rattle.uses.specs.Cover.{soFar}
@@ -23,7 +24,7 @@ surveyInits regs f side k low has m ls =
 
 -- Where no `init` line may come after n events.
 abbrev pub closed : ℕ → SoFar
-closed n = record { low = 256; events = n }
+closed n = record { low = places; events = n }
 
 -- Lines from line k on, all of which are to be events.
 unfoldable pub surveyEvents : List Bool → Form → ℕ → ℕ → List Bool → Memory → List (List ℕ) → TraceRead

@@ -5,14 +5,13 @@ use mathlib.Core.List.{List}
 use mathlib.Core.Path.{_≡_}
 use lib.ListN.{length}
 use Rattle.laws.specs.Each.{Each}
-use Rattle.event.specs.Place.{places}
+use Rattle.event.specs.Limit.{places, eventLimit}
 use Rattle.kinds.specs.Kind.{lastValue}
 use Rattle.event.specs.declared.Event.{Event}
 use Rattle.memory.specs.declared.Memory.{Memory}
 use Rattle.record.specs.Form.{header}
 use Rattle.record.specs.Record.{Fit, longestEvent, longestInit}
 use Rattle.record.specs.declared.form.Form.{Form}
-use Rattle.trace.specs.Reading.{eventLimit}
 
 -- Values in range, as the cells of a memory.
 abbrev pub Valued : List ℕ → Type 0

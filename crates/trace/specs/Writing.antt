@@ -1,6 +1,6 @@
 -- Document 01, "Lent room" and "The writer", and document 02, C-11, C-15 and C-16: a starting memory and a room written as a text of a form, under a list of
 -- registers. Assumes nothing.
-use Prim.Native.Nat.{ℕ, _+_, _/_}
+use Prim.Native.Nat.{ℕ, _+_, _-_, _/_}
 use mathlib.Core.Bool.{Bool, cond, not, _&&_, _||_}
 use mathlib.Core.List.{List, [], _∷_, _++_, map}
 use lib.Dec.{eqb, leb, ltb}
@@ -8,7 +8,7 @@ use lib.ListN.{length, drop}
 use Rattle.event.specs.Answer.{answer, done, first}
 use Rattle.kinds.specs.Kind.{lawful}
 use Rattle.memory.specs.Listed.{noneListed}
-use Rattle.event.specs.Room.{onward}
+use Rattle.event.specs.Room.{eventWords, onward}
 use Rattle.event.specs.declared.Answer.{Answer}
 use Rattle.event.specs.declared.Event.{Event}
 use Rattle.memory.specs.declared.Memory.{Memory}
@@ -18,11 +18,11 @@ use Rattle.record.specs.declared.form.Form.{Form}
 use Rattle.uses.specs.Cover.{Start, touched, starts}
 use Rattle.trace.specs.Fault.{eventFaultIn}
 use Rattle.uses.specs.Bad.{firstBad}
-use Rattle.trace.specs.Reading.{eventLimit}
+use Rattle.event.specs.Limit.{eventLimit}
 
 -- How many events a part of a room has: one that is cut short at its end counts.
 abbrev pub countOf : List ℕ → ℕ
-countOf room = (length room + 5) / 6
+countOf room = (length room + (eventWords - 1)) / eventWords
 
 -- Its events; one that is cut short is no event, which is not lawful.
 abbrev pub roomEvents : List ℕ → List Event

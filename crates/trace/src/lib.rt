@@ -9,6 +9,7 @@ pub mod room;
 ghost use mathlib.Core.Path.{_≡_};
 ghost use Rattle.trace.specs.Listed.{readListed, roomListed};
 ghost use Rattle.trace.specs.Reading.{readIn, roomAfterIn, readOf, roomAfter};
+use event::PLACES;
 use event::Word;
 use memory::listed::Listed;
 use reading::TraceRead;
@@ -33,7 +34,7 @@ pub fn read_in(listed: &Listed, text: &[u8], room: &mut [Word]) -> TraceRead
 pub fn read(text: &[u8], room: &mut [Word]) -> TraceRead
     ensures { λ r. ⌜ (r ≡ readOf 1 (now (text .entry)) (now (room .entry))) × (now (room .exit) ≡ roomAfter 1 (now (text .entry)) (now (room .entry))) ⌝ }
 {
-    let listed: Listed = [false; 256];
+    let listed: Listed = [false; PLACES];
     read_in(&listed, text, room)
 }
 

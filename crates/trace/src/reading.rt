@@ -9,6 +9,7 @@ ghost use Rattle.text.specs.Line.{splitFrom};
 ghost use Rattle.frame.specs.Store.{putAll};
 ghost use Rattle.trace.specs.Reading.{surveyIn, refused, roomFor, eventsOn, eventsOf};
 ghost use Rattle.trace.specs.Survey.{surveyInits, surveyEvents};
+ghost use Rattle.event.specs.Limit.{places};
 use crate::fault::fault_at;
 use crate::fault::first_of;
 use crate::fault::is_at_fault;
@@ -16,7 +17,9 @@ use crate::fault::is_right;
 use crate::form::form_of;
 use crate::form::head_fault_of;
 use event::Answer;
+use event::EVENT_LIMIT;
 use event::Number;
+use event::PLACES;
 use event::WORDS;
 use event::Word;
 use event::index_of;
@@ -36,9 +39,6 @@ use uses::Ways;
 use uses::cover::idle_fault;
 use uses::cover::lacks_line;
 use uses::use_listed;
-
-// The most events.
-pub const EVENT_LIMIT: usize = 800;
 
 // What a reading hands back: its answer, the number of events and the starting memory, both 0 under a refusal.
 pub struct TraceRead {
@@ -67,7 +67,7 @@ fn survey_events(
     from: usize,
     line: usize,
     side: Number,
-    has: &[bool; 256],
+    has: &[bool; PLACES],
     start: Memory,
 ) -> TraceRead
     requires { ⌜ from ≤ length (now text) ⌝ }
@@ -79,7 +79,7 @@ fn survey_events(
         memory: start,
         right: true,
     };
-    let mut ways: Ways = [UNTOUCHED; 256];
+    let mut ways: Ways = [UNTOUCHED; PLACES];
     let mut bare = Answer::new(0, 0, 0);
     let mut found = Answer::new(0, 0, 0);
     let mut at = from;
@@ -138,10 +138,10 @@ fn survey_events(
 fn survey_lines(listed: &Listed, form: Form, text: &[u8], from: usize, side: Number) -> TraceRead
     requires { ⌜ from ≤ length (now text) ⌝ }
     requires { ⌜ 2 ≤ from ⌝ }
-    ensures { λ r. ⌜ r ≡ surveyInits (now (listed .entry)) form side 2 0 (replicate 256 false) emptyMemory (splitFrom (now (text .entry)) from) ⌝ }
+    ensures { λ r. ⌜ r ≡ surveyInits (now (listed .entry)) form side 2 0 (replicate places false) emptyMemory (splitFrom (now (text .entry)) from) ⌝ }
 {
     let mut start = Memory::empty();
-    let mut has: [bool; 256] = [false; 256];
+    let mut has: [bool; PLACES] = [false; PLACES];
     let mut at = from;
     let mut k: usize = 2;
     let mut low: Word = 0;

@@ -5,10 +5,12 @@ ghost use Prim.Native.Nat.{_≤_};
 ghost use Rattle.event.specs.Room.{onward};
 ghost use Rattle.trace.specs.Fault.{eventFaultIn};
 ghost use Rattle.trace.specs.Writing.{countOf, layoutFault, lost, roomFaultIn, writeFaultIn};
+ghost use Rattle.event.specs.Limit.{eventLimit};
 use crate::fault::fault_at;
 use crate::fault::is_right;
-use crate::reading::EVENT_LIMIT;
 use event::Answer;
+use event::EVENT_LIMIT;
+use event::PLACES;
 use event::WORDS;
 use event::Word;
 use event::room::get;
@@ -35,7 +37,7 @@ pub fn count_of(room: &[Word]) -> usize
 
 // 18: the first event that is outside the layout.
 fn layout_fault(room: &[Word], n: usize) -> Answer
-    requires { ⌜ n ≤ 800 ⌝ }
+    requires { ⌜ n ≤ eventLimit ⌝ }
     ensures { λ r. ⌜ r ≡ layoutFault 1 (onward (now (room .entry)) 0 n) ⌝ }
 {
     let mut i: usize = 0;
@@ -50,7 +52,7 @@ fn layout_fault(room: &[Word], n: usize) -> Answer
 
 // 19: the first event whose code line a form would lose.
 fn loss_of(form: Form, room: &[Word], n: usize) -> Answer
-    requires { ⌜ n ≤ 800 ⌝ }
+    requires { ⌜ n ≤ eventLimit ⌝ }
     ensures { λ r. ⌜ r ≡ lost form 0 1 (onward (now (room .entry)) 0 n) ⌝ }
 {
     let mut i: usize = 0;
@@ -65,7 +67,7 @@ fn loss_of(form: Form, room: &[Word], n: usize) -> Answer
 
 // 5 and 6, event by event.
 fn event_fault(listed: &Listed, start: Memory, room: &[Word], n: usize) -> Answer
-    requires { ⌜ n ≤ 800 ⌝ }
+    requires { ⌜ n ≤ eventLimit ⌝ }
     requires { ⌜ layoutFault 1 (onward (now room) 0 n) .number ≡ 0 ⌝ }
     ensures { λ r. ⌜ r ≡ eventFaultIn (now (listed .entry)) 0 1 start [] (onward (now (room .entry)) 0 n) ⌝ }
 {
@@ -73,7 +75,7 @@ fn event_fault(listed: &Listed, start: Memory, room: &[Word], n: usize) -> Answe
         memory: start,
         right: true,
     };
-    let mut ways: Ways = [UNTOUCHED; 256];
+    let mut ways: Ways = [UNTOUCHED; PLACES];
     let none = Answer::new(0, 0, 0);
     let mut i: usize = 0;
     while i < n {

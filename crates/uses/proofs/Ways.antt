@@ -12,7 +12,7 @@ use borrow.Author.Tests.{eqb-true, eqb-false, eq-eqb, lt-ltb}
 use Rattle.laws.proofs.Cases.{cases, either, side}
 use Rattle.laws.specs.Each.{Each}
 use Rattle.kinds.specs.Kind.{row, isLocation, plain, atomic}
-use Rattle.event.specs.Place.{places}
+use Rattle.event.specs.Limit.{places}
 use Rattle.event.specs.declared.Event.{Event}
 use Rattle.memory.specs.Listed.{usesAtomically}
 use Rattle.uses.specs.Cover.{touches, touched}

@@ -8,6 +8,7 @@ ghost use Rattle.memory.specs.Listed.{listed};
 ghost use Rattle.uses.specs.Cover.{lacksLine, isIdle, soFar};
 ghost use Rattle.uses.specs.Bad.{firstBad};
 ghost use Rattle.uses.specs.Way.{isUsed};
+ghost use Rattle.event.specs.Limit.{places};
 use crate::UNTOUCHED;
 use crate::Way;
 use crate::Ways;
@@ -15,6 +16,7 @@ use crate::way_of;
 use event::Answer;
 use event::Event;
 use event::Number;
+use event::PLACES;
 use event::Word;
 use memory::listed::Listed;
 use memory::listed::is_listed;
@@ -49,10 +51,10 @@ pub fn idle_fault(
     form: Form,
     side: Number,
     has: &Listed,
-    cells: &[Word; 256],
+    cells: &[Word; PLACES],
     ways: &Ways,
 ) -> Answer
-    requires { ⌜ length (now cells) ≡ 256 ⌝ }
+    requires { ⌜ length (now cells) ≡ places ⌝ }
     ensures { λ r. ⌜ r ≡ firstBad (isIdle form (isUsed (now (ways .entry)))) 21 side 2 (soFar (now (has .entry)) (now (cells .entry))) ⌝ }
 {
     if is_silent(form, 0) {
@@ -60,7 +62,7 @@ pub fn idle_fault(
     }
     let mut line: usize = 2;
     let mut l: usize = 0;
-    while l < 256 {
+    while l < PLACES {
         if has[l] {
             if is_idle(cells[l], ways[l]) {
                 return Answer::new(21, side, line);

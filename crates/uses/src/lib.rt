@@ -4,9 +4,10 @@ pub mod cover;
 ghost use mathlib.Core.Path.{_≡_};
 ghost use mathlib.Core.Bool.{_||_};
 ghost use Prim.Native.Nat.{_<_};
-ghost use Rattle.event.specs.Place.{places};
+ghost use Rattle.event.specs.Limit.{places};
 ghost use Rattle.uses.specs.Way.{wayOf, opposed, joined, clashing, clashingIn, waysAfter, waysWith};
 use event::Event;
+use event::PLACES;
 use event::Word;
 use event::index_of;
 use kinds::LAST_PLACE;
@@ -19,7 +20,7 @@ use memory::listed::is_listed;
 pub type Way = u8;
 
 // The way of each location.
-pub type Ways = [Way; 256];
+pub type Ways = [Way; PLACES];
 
 pub const UNTOUCHED: Way = 0;
 

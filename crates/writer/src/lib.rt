@@ -8,6 +8,7 @@ ghost use mathlib.Core.Path.{_≡_};
 ghost use Rattle.trace.specs.Listed.{writeListed, outListed};
 ghost use Rattle.trace.specs.Writing.{writeIn, outAfterIn, writeOf, outAfter};
 use event::Answer;
+use event::PLACES;
 use event::Word;
 use memory::Memory;
 use memory::listed::Listed;
@@ -37,7 +38,7 @@ pub fn write_in(
         return fault;
     }
     let n = count_of(room);
-    let mut ways: Ways = [UNTOUCHED; 256];
+    let mut ways: Ways = [UNTOUCHED; PLACES];
     touch_all(&mut ways, room, n);
     let size = size_of(form, &ways, memory, room, n);
     if out.len() < size {
@@ -51,7 +52,7 @@ pub fn write_in(
 pub fn write(form: Form, memory: Memory, room: &[Word], out: &mut [u8]) -> Answer
     ensures { λ r. ⌜ (r ≡ writeOf form memory (now (room .entry)) (now (out .entry))) × (now (out .exit) ≡ outAfter form memory (now (room .entry)) (now (out .entry))) ⌝ }
 {
-    let listed: Listed = [false; 256];
+    let listed: Listed = [false; PLACES];
     write_in(&listed, form, memory, room, out)
 }
 

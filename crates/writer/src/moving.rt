@@ -13,6 +13,7 @@ ghost use Rattle.writer.specs.Put.{Put, Small};
 use crate::put::put_event;
 use crate::put::put_start;
 use event::Answer;
+use event::PLACES;
 use memory::Memory;
 use memory::listed::Listed;
 use record::Record;
@@ -108,7 +109,7 @@ pub fn move_in(listed: &Listed, to: Form, text: &[u8], out: &mut [u8]) -> Answer
         return fault;
     }
     let memory = surveyed.memory;
-    let mut ways: Ways = [UNTOUCHED; 256];
+    let mut ways: Ways = [UNTOUCHED; PLACES];
     touch_lines(&mut ways, text);
     let size = moved_size(to, &ways, memory, text);
     if out.len() < size {
@@ -122,7 +123,7 @@ pub fn move_in(listed: &Listed, to: Form, text: &[u8], out: &mut [u8]) -> Answer
 pub fn move_to(to: Form, text: &[u8], out: &mut [u8]) -> Answer
     ensures { λ r. ⌜ (r ≡ moveOf to (now (text .entry)) (now (out .entry))) × (now (out .exit) ≡ movedOut to (now (text .entry)) (now (out .entry))) ⌝ }
 {
-    let listed: Listed = [false; 256];
+    let listed: Listed = [false; PLACES];
     move_in(&listed, to, text, out)
 }
 

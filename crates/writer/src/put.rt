@@ -13,6 +13,7 @@ ghost use Rattle.trace.specs.Writing.{textOf, hasLine, initLines, textBy};
 ghost use Rattle.writer.specs.Put.{Put, Small, tabIf, bareLine, initPart, startText};
 use crate::touch::has_line;
 use event::Event;
+use event::PLACES;
 use event::Word;
 use event::index_of;
 use event::room::get;
@@ -156,7 +157,7 @@ fn put_inits(form: Form, out: &mut [u8], at: usize, ways: &Ways, memory: Memory)
 {
     let mut next = at;
     let mut i: usize = 0;
-    while i < 256 {
+    while i < PLACES {
         let value = memory.cells[i];
         next = put_init(has_line(form, ways[i], value), out, next, i as Word, value);
         i += 1;

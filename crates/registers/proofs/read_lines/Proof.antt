@@ -9,7 +9,7 @@ use borrow.Author.Needs.{needs}
 use lib.Dec.{leb, ltb}
 use lib.ListN.{length, take, drop, drop-of-length-le, length-set}
 use Rattle.memory.specs.Listed.{noneListed}
-use Rattle.event.specs.Place.{places, lastPlace}
+use Rattle.event.specs.Limit.{places, lastPlace}
 use Rattle.event.specs.declared.Answer.{Answer}
 use Rattle.text.specs.Line.{splitFrom}
 use Rattle.text.proofs.Walk.{Next, next, last, rest-some, rest-none}

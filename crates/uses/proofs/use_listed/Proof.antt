@@ -6,7 +6,7 @@ use lib.Dec.{eqb, ltb}
 use native.Mathlib.Omega.{arith}
 use borrow.Author.Needs.{needs}
 use borrow.Author.Tests.{lt-ltb, le-ltb}
-use Rattle.event.specs.Place.{places}
+use Rattle.event.specs.Limit.{places}
 use Rattle.event.specs.declared.Event.{Event}
 use Rattle.kinds.specs.Kind.{row, isLocation, atomic}
 use Rattle.uses.specs.Way.{wayOf}

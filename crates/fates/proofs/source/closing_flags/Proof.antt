@@ -8,7 +8,7 @@ use native.Mathlib.Omega.{arith}
 use lib.ListN.{length, getD, set, replicate, length-set}
 use Rattle.event.specs.declared.Event.{Event}
 use Rattle.event.specs.Room.{capacity}
-use Rattle.event.specs.Place.{places}
+use Rattle.event.specs.Limit.{places}
 use Rattle.rules.specs.View.{viewIn, isWall}
 use Rattle.rules.specs.Fault.{Item, fate, item}
 use Rattle.fates.specs.Pass.{closingAt, itemsFrom}

@@ -12,7 +12,7 @@ use Rattle.event.specs.Answer.{done}
 use Rattle.event.specs.declared.Answer.{Answer}
 use Rattle.event.specs.declared.Event.{Event}
 use Rattle.event.specs.Room.{eventAt, onward, capacity}
-use Rattle.event.specs.Place.{places}
+use Rattle.event.specs.Limit.{places}
 use Rattle.rules.specs.View.{View, viewIn, isLoad, isWall}
 use Rattle.rules.specs.Fault.{Item, closing, fate, group, item}
 use Rattle.rules.specs.Verdict.{sourceAnswer, sourceFault}

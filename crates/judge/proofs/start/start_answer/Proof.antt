@@ -9,7 +9,7 @@ use lib.ListN.{length, drop, getD, length-map}
 use lib.Seq.{drop-cons, drop-length}
 use borrow.Author.Tests.{le-leb}
 use Rattle.event.specs.Answer.{done}
-use Rattle.event.specs.Place.{lastPlace, places}
+use Rattle.event.specs.Limit.{lastPlace, places}
 use Rattle.memory.specs.Listed.{listed}
 use Rattle.rules.specs.Verdict.{startAnswerIn}
 use Rattle.judge.proofs.Onward.{start-goes, start-skips, start-stops}

@@ -11,7 +11,7 @@ use Rattle.event.specs.Answer.{done}
 use Rattle.event.specs.declared.Answer.{Answer}
 use Rattle.event.specs.declared.Event.{Event}
 use Rattle.laws.specs.Has.{has}
-use Rattle.event.specs.Place.{places}
+use Rattle.event.specs.Limit.{places}
 use Rattle.event.specs.Room.{onward, capacity}
 use Rattle.rules.specs.View.{View, viewIn, isLoad, isWall}
 use Rattle.rules.specs.Fault.{Item, isNone, item, near, stays, unsupported}

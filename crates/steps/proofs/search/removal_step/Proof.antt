@@ -9,7 +9,6 @@ use native.Mathlib.Omega.{arith}
 use lib.ListN.{length, drop, getD}
 use Rattle.event.specs.Room.{wholeEvents}
 use Rattle.event.specs.declared.Event.{Event}
-use Rattle.trace.specs.Reading.{eventLimit}
 use Rattle.rules.specs.View.{viewIn}
 use Rattle.changes.specs.Apply.{removableAt}
 use Rattle.changes.specs.Tags.{behind, decoded, trace, tracedFor}
@@ -21,6 +20,7 @@ use Rattle.steps.proofs.Numbers.{leaving-old, number-at}
 use Rattle.steps.proofs.Searches.{Open, removal-on, removal-found}
 use Rattle.steps.proofs.search.removal_step.Statement.{statement}
 use Rattle.steps.proofs.search.removal_step.Tie as tie
+use Rattle.event.specs.Limit.{eventLimit}
 
 -- from the index on none is found
 record Past (regs : List Bool) (ns : List ℕ) (s t : List Event) (tags : List ℕ) (i : ℕ) : Type 0 where

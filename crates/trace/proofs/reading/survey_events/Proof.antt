@@ -10,7 +10,7 @@ use borrow.Author.Tests.{ne-eqb, le-leb}
 use lib.ListN.{length, take, drop, length-set, length-map, drop-of-length-le}
 use Rattle.laws.proofs.Cases.{cases}
 use Rattle.event.specs.Answer.{answer, done, first}
-use Rattle.event.specs.Place.{lastPlace}
+use Rattle.event.specs.Limit.{lastPlace}
 use Rattle.event.specs.declared.Answer.{Answer}
 use Rattle.event.specs.declared.Event.{Event}
 use Rattle.memory.specs.declared.Memory.{Memory}
