@@ -13,7 +13,6 @@ mod written;
 
 ghost use mathlib.Core.Path.{_≡_};
 ghost use lib.ListN.{length};
-ghost use Rattle.io.specs.Counts.{Counts};
 use check::run_check;
 use event::number_index;
 use files::list::list_of;

@@ -1,9 +1,9 @@
 -- What a lawful event's fields are. Assumes nothing.
 use Prim.Native.Nat.{ℕ, _<_, _≤_}
-use mathlib.Core.Bool.{Bool, true, false, _&&_, false≢true}
-use mathlib.Core.Path.{_≡_, refl, sym}
+use mathlib.Core.Bool.{true, _&&_}
+use mathlib.Core.Path.{_≡_}
 use native.Mathlib.Omega.{arith}
-use lib.Dec.{leb, eqb}
+use lib.Dec.{leb}
 use borrow.Author.Tests.{leb-true, eqb-true}
 use Rattle.laws.proofs.Bools.{and-left, and-right}
 use Rattle.kinds.specs.Kind.{row, takes, fitsPlace, fitsValues, lastOf, lastValue, inRange, lastCode, lawful}

@@ -1,7 +1,7 @@
 -- What a test finds of every row of the fixed table holds of every kind. Each law about kinds is one such test, which the check computes, so that a
 -- kind more is a row and no law. Assumes nothing.
 use Prim.Native.Nat.{ℕ}
-use mathlib.Core.Bool.{Bool, true, false, _&&_, not, cond, _||_, false≢true}
+use mathlib.Core.Bool.{Bool, true, false, _&&_, not, _||_, false≢true}
 use mathlib.Core.Path.{_≡_, refl}
 use Rattle.laws.proofs.Bools.{and-left}
 use Rattle.laws.proofs.Lists.{every, every-at}

@@ -5,9 +5,8 @@ use mathlib.Core.Path.{_≡_, refl, sym, _∙_}
 use mathlib.Core.Bool.{Bool, true, false, cond, false≢true}
 use mathlib.Core.List.{List, [], _∷_}
 use native.Mathlib.Omega.{arith}
-use lib.Dec.{eqb}
 use lib.ListN.{length}
-use borrow.Author.Tests.{eqb-true, eqb-false, ne-eqb, not-false}
+use borrow.Author.Tests.{eqb-true, not-false}
 use Rattle.laws.proofs.Lists.{Each, Free}
 use Rattle.event.specs.Limit.{lastPlace}
 use Rattle.kinds.specs.Kind.{lawful, lastValue, lastCode, made}

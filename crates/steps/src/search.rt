@@ -2,7 +2,6 @@
 ghost use mathlib.Core.Path.{_≡_};
 ghost use mathlib.Core.List.{List, []};
 ghost use Prim.Native.Nat.{_<_};
-ghost use lib.ListN.{length};
 ghost use Rattle.event.specs.declared.Event.{Event};
 ghost use Rattle.event.specs.Room.{wholeEvents};
 ghost use Rattle.rules.specs.View.{viewIn};

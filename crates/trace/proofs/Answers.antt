@@ -9,7 +9,7 @@ use native.Mathlib.Omega.{arith}
 use lib.Dec.{eqb, leb, ltb}
 use lib.ListN.{length}
 use borrow.Author.Tests.{eq-eqb}
-use Rattle.laws.proofs.Cases.{by-cond, cases}
+use Rattle.laws.proofs.Cases.{by-cond}
 use Rattle.laws.proofs.Lists.{every}
 use Rattle.laws.specs.Has.{has}
 use Rattle.event.specs.Answer.{answer, done, first, textSides, InTable}

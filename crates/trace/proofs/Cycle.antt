@@ -1,12 +1,12 @@
 -- Rooms and texts in a cycle: what the writer makes of a room is read back into a room as the same events, and what a reading puts in a room
 -- is written as the same bytes. Both follow from one trace having one text, as six words are one event. Assumes nothing.
-use Prim.Native.Nat.{ℕ, zero, suc, _+_, _*_, _/_, _≤_}
+use Prim.Native.Nat.{ℕ, _+_, _*_, _/_, _≤_}
 use mathlib.Core.Bool.{Bool, false, not}
 use mathlib.Core.Path.{_≡_, refl, ap}
 use mathlib.Core.List.{List, [], _∷_, _++_}
 use native.Mathlib.Omega.{arith}
 use lib.Dec.{ltb}
-use lib.ListN.{length, getD, take, drop}
+use lib.ListN.{length, take, drop}
 use lib.Seq.{take-at}
 use borrow.Author.Tests.{ltb-false, le-ltb, le-leb}
 use Rattle.laws.proofs.Cases.{not-first}

@@ -1,15 +1,13 @@
 -- The events of a room one by one: the first of those that are left, the first that is bad (18, 19; 20 and 21 alike), and what 5 and 6 say. Assumes
 -- nothing.
 use Prim.Native.Nat.{ℕ, suc, _+_, _-_, _≤_, _<_}
-use mathlib.Core.Bool.{Bool, true, false, cond, _||_, not, false≢true}
-use mathlib.Core.Path.{_≡_, refl, sym, _∙_, ap}
-use mathlib.Core.List.{List, [], _∷_, _++_}
+use mathlib.Core.Bool.{Bool, true, false, _||_, not, false≢true}
+use mathlib.Core.Path.{_≡_, refl, sym, _∙_}
+use mathlib.Core.List.{List, [], _∷_}
 use native.Mathlib.Omega.{arith}
 use lib.Dec.{eqb}
-use lib.ListN.{length}
 use borrow.Author.Tests.{eqb-true}
 use Rattle.laws.proofs.Cases.{cases, either}
-use Rattle.laws.specs.Each.{Each}
 use Rattle.event.specs.Answer.{answer, done, first}
 use Rattle.memory.specs.Listed.{steppedIn}
 use Rattle.memory.specs.Memory.{stepped}

@@ -2,12 +2,12 @@
 -- form that it is moved to; and moved back it is the same bytes, as one trace has one text of a form. Assumes nothing.
 use Prim.Native.Nat.{ℕ, _+_, _≤_}
 use mathlib.Core.Path.{_≡_, refl, sym, _∙_, ap}
-use mathlib.Core.Bool.{Bool, true, false, cond, false≢true}
-use mathlib.Core.List.{List, [], _∷_, _++_}
+use mathlib.Core.Bool.{Bool, true, false, false≢true}
+use mathlib.Core.List.{List, [], _∷_}
 use native.Mathlib.Omega.{arith}
 use lib.Dec.{eqb, ltb}
 use lib.ListN.{length}
-use borrow.Author.Tests.{ltb-false, le-ltb, ne-eqb}
+use borrow.Author.Tests.{le-ltb, ne-eqb}
 use Rattle.laws.proofs.Cases.{cases, either, not-first}
 use Rattle.laws.specs.Each.{Each}
 use Rattle.event.specs.Answer.{answer, done, first}
@@ -17,8 +17,7 @@ use Rattle.memory.specs.declared.Memory.{Memory}
 use Rattle.text.specs.Line.{split}
 use Rattle.text.specs.Word.{sameBytes}
 use Rattle.text.proofs.Walk.{Some}
-use Rattle.frame.specs.Reading.{headed, headFault, textFault, settle}
-use Rattle.frame.proofs.Heads.{framed}
+use Rattle.frame.specs.Reading.{headed}
 use Rattle.frame.proofs.Settled.{first-done, settled}
 use Rattle.record.specs.Form.{header, limitOf, loses, other}
 use Rattle.record.specs.Record.{Fit}

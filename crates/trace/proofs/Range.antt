@@ -6,12 +6,12 @@ use mathlib.Core.Path.{_≡_, refl, ap}
 use mathlib.Core.List.{List, [], _∷_, _++_, map}
 use native.Mathlib.Nat.{mul-le-mul-right}
 use native.Mathlib.Omega.{arith}
-use lib.ListN.{length, getD, length-append}
+use lib.ListN.{length, length-append}
 use borrow.Author.Tests.{not-false}
 use Rattle.laws.specs.Each.{Each}
 use Rattle.event.specs.Limit.{places, eventLimit}
 use Rattle.kinds.specs.Kind.{lawful}
-use Rattle.event.specs.Room.{inRoom, eventAt, onward}
+use Rattle.event.specs.Room.{eventAt, onward}
 use Rattle.event.specs.declared.Event.{Event}
 use Rattle.memory.specs.declared.Memory.{Memory}
 use Rattle.record.specs.Form.{header, limitOf, loses}

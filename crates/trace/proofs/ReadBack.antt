@@ -21,7 +21,7 @@ use Rattle.text.proofs.Parts.{cut-part}
 use Rattle.text.proofs.Walk.{Some}
 use Rattle.record.specs.Form.{header, limitOf}
 use Rattle.record.specs.Layout.{eventLine, initLine}
-use Rattle.record.specs.Record.{Fit, recordOf}
+use Rattle.record.specs.Record.{Fit}
 use Rattle.uses.specs.Cover.{Start, touched, starts}
 use Rattle.trace.specs.Fault.{coverFault}
 use Rattle.trace.specs.Fault.{eventFaultIn}
@@ -33,7 +33,6 @@ use Rattle.trace.specs.Writing.{textOf, hasLine, startLine, textBy, trac
 use Rattle.trace.specs.Text.{Fits}
 use Rattle.record.specs.declared.form.Form.{Form}
 use Rattle.record.specs.declared.form.Form.the-variants.{One, Two}
-use Rattle.record.specs.declared.Record.the-variants.{Init, AnEvent}
 use Rattle.record.proofs.Layouts.{event-read, init-read}
 use Rattle.record.proofs.Prints.{event-no-lf, init-no-lf}
 use Rattle.trace.proofs.Covered.{Heard, each-heard, fit-inside, covered}

@@ -1,7 +1,7 @@
 -- What lines that are read without refusal are: within bounds, all of them, and the prints of what they are read as. The starting values ascend,
 -- and are those that are to have a line, so that the lines written of the memory that they make are those very lines. Assumes nothing.
 use Prim.Native.Nat.{ℕ, zero, suc, _+_, _≤_}
-use mathlib.Core.Path.{_≡_, refl, _∙_, ap}
+use mathlib.Core.Path.{_≡_, refl, ap}
 use mathlib.Core.List.{List, [], _∷_, _++_, map}
 use native.Mathlib.Omega.{arith}
 use lib.Dec.{leb, ltb}

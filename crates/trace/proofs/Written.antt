@@ -1,16 +1,14 @@
 -- The answers to a room in their order. Assumes nothing.
 use Prim.Native.Nat.{ℕ, _+_, _≤_, _<_}
-use mathlib.Core.Bool.{Bool, false}
-use mathlib.Core.Path.{_≡_, refl, sym, _∙_, ap}
+use mathlib.Core.Bool.{Bool}
+use mathlib.Core.Path.{_≡_}
 use mathlib.Core.List.{List, []}
 use native.Mathlib.Omega.{arith}
 use lib.Dec.{eqb, ltb}
-use lib.ListN.{length}
-use borrow.Author.Tests.{eqb-true, eqb-false, ltb-true, ltb-false, ne-eqb, lt-ltb, le-ltb, le-leb, lt-leb}
+use borrow.Author.Tests.{eqb-true, eqb-false, ltb-true, ltb-false, ne-eqb, lt-ltb, le-ltb}
 use Rattle.laws.proofs.Cases.{cases, either}
 use Rattle.event.specs.Answer.{answer}
 use Rattle.event.specs.Room.{onward}
-use Rattle.event.specs.declared.Answer.{Answer}
 use Rattle.memory.specs.declared.Memory.{Memory}
 use Rattle.trace.specs.Fault.{eventFaultIn}
 use Rattle.trace.specs.Writing.{countOf, layoutFault, roomFaultIn}

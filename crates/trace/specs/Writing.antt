@@ -5,7 +5,7 @@ use mathlib.Core.Bool.{Bool, cond, not, _&&_, _||_}
 use mathlib.Core.List.{List, [], _∷_, _++_, map}
 use lib.Dec.{eqb, leb, ltb}
 use lib.ListN.{length, drop}
-use Rattle.event.specs.Answer.{answer, done, first}
+use Rattle.event.specs.Answer.{answer, first}
 use Rattle.kinds.specs.Kind.{lawful}
 use Rattle.memory.specs.Listed.{noneListed}
 use Rattle.event.specs.Room.{eventWords, onward}

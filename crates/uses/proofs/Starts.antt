@@ -1,15 +1,14 @@
 -- Starting values as a list and as cells: those of the cells that are to have a line, one by one, one more behind them, and cells filled with them.
 -- Lines ascend, so that each way leads back. Assumes nothing.
 use Prim.Native.Nat.{ℕ, zero, suc, _+_, _-_, _≤_, _<_}
-use mathlib.Core.Bool.{Bool, true, false, cond, _||_, false≢true}
-use mathlib.Core.Path.{_≡_, refl, sym, _∙_, ap}
+use mathlib.Core.Bool.{Bool, true, false, cond}
+use mathlib.Core.Path.{_≡_, refl, _∙_, ap}
 use mathlib.Core.List.{List, [], _∷_, _++_, append-assoc}
 use native.Mathlib.Numerals.{add-one}
 use native.Mathlib.Omega.{arith}
-use lib.Dec.{eqb}
 use lib.ListN.{length, getD, set, replicate, drop, length-append, length-replicate, drop-of-length-le, replicate-append-replicate}
 use lib.Seq.{append-snoc, set-at, set-append-seam, drop-cons}
-use borrow.Author.Tests.{eq-eqb, ne-eqb, eqb-true, eqb-false}
+use borrow.Author.Tests.{eq-eqb, ne-eqb}
 use Rattle.laws.proofs.Cases.{cases, either}
 use Rattle.laws.specs.Each.{Each}
 use Rattle.uses.specs.Cover.{Start, lined, starts}

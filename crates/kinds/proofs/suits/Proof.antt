@@ -1,5 +1,5 @@
 -- The tests, in the definition's order. Assumes nothing.
-use mathlib.Core.Bool.{Bool, true, false}
+use mathlib.Core.Bool.{true}
 use mathlib.Core.Path.{_≡_, sym, _∙_}
 use borrow.Author.Tests.{not-true, not-false}
 use Rattle.kinds.specs.Kind.{row, takes, fitsPlace, fitsValues, inRange, lawful}

@@ -1,5 +1,5 @@
 -- Only a starting value is asked. Assumes nothing.
-use mathlib.Core.Path.{_≡_, sym, _∙_}
+use mathlib.Core.Path.{sym, _∙_}
 use borrow.Author.Needs.{needs}
 use Rattle.record.specs.Record.{unlessSilent}
 use Rattle.record.proofs.unless_silent.Statement.{statement}

@@ -1,5 +1,4 @@
 -- By the first. Assumes nothing.
-use borrow.Author.Needs.{needs}
 use Rattle.uses.proofs.is_either.Statement.{statement}
 use Rattle.uses.proofs.is_either.Tie as tie
 

@@ -1,7 +1,5 @@
 -- By whether the event is at a location. Assumes nothing.
-use Prim.Native.Nat.{_<_}
 use native.Mathlib.Omega.{arith}
-use borrow.Author.Needs.{needs}
 use borrow.Author.Tests.{lt-ltb, le-ltb}
 use Rattle.event.specs.Limit.{places}
 use Rattle.uses.proofs.touch.Statement.{statement}

@@ -1,5 +1,5 @@
 -- What is at no location does nothing; a location that is not listed is used as without a list; of one that is, an atomic use clashes. Assumes nothing.
-use Prim.Native.Nat.{ℕ, _<_}
+use Prim.Native.Nat.{ℕ}
 use mathlib.Core.Bool.{Bool, true, false, cond, _&&_, _||_, and-true, and-false}
 use mathlib.Core.Path.{_≡_, refl, sym, _∙_}
 use lib.Dec.{eqb, ltb}

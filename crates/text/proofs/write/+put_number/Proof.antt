@@ -4,7 +4,6 @@ use borrow.Fn.Kinds.{In}
 use borrow.Fn.PlainCycle.{Measures, is, falls, and}
 use native.Mathlib.Omega.{arith}
 use Prim.Native.Nat.{ℕ, _<_, _+_, _/_, _%_}
-use lib.ListN.{length}
 use Rattle.text.specs.Number.{decimal}
 use Rattle.text.proofs.Decimals.{decimal-one, decimal-more, length-one, length-more, length-wide}
 use Rattle.text.proofs.Writes.{wrote-next}

@@ -1,5 +1,4 @@
 -- Each arm is the definition at that record. Assumes nothing.
-use mathlib.Core.Path.{refl}
 use native.Mathlib.Omega.{arith}
 use borrow.Author.Needs.{needs}
 use Rattle.trace.proofs.moving.count_with.Statement.{statement}

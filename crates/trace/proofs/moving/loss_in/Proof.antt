@@ -7,7 +7,6 @@ use borrow.Author.Needs.{needs}
 use borrow.Author.Tests.{ne-eqb}
 use lib.ListN.{length}
 use Rattle.event.specs.declared.Event.{Event}
-use Rattle.event.specs.declared.Answer.{Answer}
 use Rattle.event.specs.Answer.{first}
 use Rattle.text.proofs.Walk.{line-in}
 use Rattle.record.specs.declared.form.Form.{Form}

@@ -1,11 +1,9 @@
 -- The events are looked at one by one; none of those before is outside the layout. Assumes nothing.
-use Prim.Native.Nat.{ℕ, _-_}
+use Prim.Native.Nat.{_-_}
 use mathlib.Core.Bool.{Bool, not}
-use mathlib.Core.List.{List}
 use mathlib.Core.Path.{_≡_, sym, _∙_, ap}
 use native.Mathlib.Omega.{arith}
 use borrow.Author.Needs.{needs}
-use borrow.Author.Tests.{not-true, not-false}
 use Rattle.kinds.specs.Kind.{lawful}
 use Rattle.event.specs.Room.{eventAt}
 use Rattle.event.specs.declared.Event.{Event}

@@ -1,7 +1,6 @@
 -- The events are looked at one by one; none of those before has a code line that would be lost. Assumes nothing.
-use Prim.Native.Nat.{ℕ, _-_}
+use Prim.Native.Nat.{_-_}
 use mathlib.Core.Bool.{Bool}
-use mathlib.Core.List.{List}
 use mathlib.Core.Path.{_≡_, sym, _∙_}
 use native.Mathlib.Omega.{arith}
 use borrow.Author.Needs.{needs}

@@ -1,6 +1,5 @@
 -- The room's refusal, or else 19. Assumes nothing.
 use mathlib.Core.Path.{_≡_, sym, _∙_, ap}
-use native.Mathlib.Omega.{arith}
 use borrow.Author.Needs.{needs}
 use borrow.Author.Tests.{ne-eqb}
 use Rattle.event.specs.declared.Answer.{Answer}

@@ -1,5 +1,4 @@
 -- By the value, then by the way. Assumes nothing.
-use borrow.Author.Needs.{needs}
 use borrow.Author.Tests.{eq-eqb, ne-eqb}
 use Rattle.uses.proofs.cover.is_idle.Statement.{statement}
 use Rattle.uses.proofs.cover.is_idle.Tie as tie

@@ -3,14 +3,13 @@ use Prim.Native.Nat.{ℕ}
 use mathlib.Core.Bool.{Bool}
 use mathlib.Core.List.{List}
 use mathlib.Core.Path.{_≡_, refl, sym, _∙_, ap}
-use native.Mathlib.Omega.{arith}
 use borrow.Author.Needs.{needs}
 use lib.ListN.{length}
 use Rattle.event.specs.declared.Answer.{Answer}
 use Rattle.memory.specs.declared.Memory.{Memory}
 use Rattle.record.specs.declared.form.Form.{Form}
 use Rattle.trace.specs.Moving.{movedText, moveFaultIn, moveIn, movedOutIn}
-use Rattle.writer.specs.Put.{Put, Small}
+use Rattle.writer.specs.Put.{Small}
 use Rattle.trace.specs.Reading.{startOf, eventsOf}
 use Rattle.uses.specs.Way.{isUsed}
 use Rattle.trace.specs.Writing.{textBy, traceText}

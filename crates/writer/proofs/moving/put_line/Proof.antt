@@ -1,5 +1,4 @@
 -- Each arm is the definition at that record. Assumes nothing.
-use mathlib.Core.Path.{refl}
 use borrow.Author.Needs.{needs}
 use Rattle.trace.specs.Writing.{textOf}
 use Rattle.writer.proofs.Puts.{put-none, put-length}

@@ -1,5 +1,4 @@
 -- Only an event uses a location. Assumes nothing.
-use mathlib.Core.Path.{_≡_}
 use borrow.Author.Needs.{needs}
 use Rattle.uses.specs.Way.{waysOf}
 use Rattle.writer.proofs.moving.touch_line.Statement.{statement}

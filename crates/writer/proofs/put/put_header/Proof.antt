@@ -1,10 +1,4 @@
 -- The bytes are those of the form. Assumes nothing.
-use Prim.Native.Nat.{ℕ}
-use mathlib.Core.List.{List, [], _∷_, _++_}
-use mathlib.Core.Path.{refl}
-use native.Mathlib.Omega.{arith}
-use Rattle.record.specs.Form.{header}
-use Rattle.writer.specs.Put.{Put}
 use Rattle.writer.proofs.Puts.{put-length}
 use borrow.Author.Needs.{needs}
 use Rattle.writer.proofs.put.put_header.Statement.{statement}

@@ -1,12 +1,11 @@
 -- While the lines are put one by one, those of the cells from here on are left. Assumes nothing.
-use Prim.Native.Nat.{ℕ, _+_, _-_, _<_}
+use Prim.Native.Nat.{ℕ, _+_, _-_}
 use mathlib.Core.Bool.{Bool}
 use mathlib.Core.List.{List, _++_}
 use mathlib.Core.Path.{_≡_, refl, sym, _∙_, ap}
 use native.Mathlib.Omega.{arith}
 use borrow.Author.Needs.{needs}
 use lib.ListN.{length, getD, drop, length-map}
-use Rattle.memory.specs.declared.Memory.{Memory}
 use Rattle.record.specs.declared.form.Form.{Form}
 use Rattle.writer.specs.Put.{Put, initPart}
 use Rattle.uses.specs.Way.{isUsed}

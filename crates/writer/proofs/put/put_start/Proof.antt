@@ -1,7 +1,6 @@
 -- Line 1 and the `init` lines are put one after the other. Assumes nothing.
 use Prim.Native.Nat.{ℕ}
 use mathlib.Core.List.{List}
-use mathlib.Core.Path.{_≡_}
 use lib.ListN.{drop}
 use Rattle.writer.specs.Put.{Put, startText}
 use Rattle.uses.specs.Way.{isUsed}

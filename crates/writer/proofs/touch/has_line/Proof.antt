@@ -1,7 +1,7 @@
 -- By the value, then by the form, then by the way. Assumes nothing.
-use mathlib.Core.Path.{_≡_, sym, _∙_}
+use mathlib.Core.Path.{sym, _∙_}
 use borrow.Author.Needs.{needs}
-use borrow.Author.Tests.{eq-eqb, ne-eqb}
+use borrow.Author.Tests.{ne-eqb}
 use Rattle.writer.proofs.touch.has_line.Statement.{statement}
 use Rattle.writer.proofs.touch.has_line.Tie as tie
 
