@@ -1,5 +1,4 @@
 -- Laws that belong to no one function. Assumes nothing.
 pub mod Laid
-pub mod Mapped
 pub mod Unique
 pub mod Runs

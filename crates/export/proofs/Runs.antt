@@ -11,8 +11,9 @@ use Rattle.changes.specs.declared.Run.{Run}
 use Rattle.changes.specs.declared.Step.{Step}
 use Rattle.steps.specs.Play.{nextBy}
 use Rattle.steps.specs.declared.Started.{Started}
-use Rattle.export.specs.Numbers.{flag}
-use Rattle.export.specs.Runs.{Leaves, Opens, runNumbers, startNumbers, stepNumbers}
+use Rattle.numbers.specs.Numbers.{flag}
+use Rattle.export.specs.Runs.{Leaves, Opens, startNumbers}
+use Rattle.numbers.specs.Numbers.{runNumbers, stepNumbers}
 
 pub step-laid : (look look′ : Event → View) (s t : List Event) (ns : List ℕ) (swapped : ℕ) (r r′ : Run) (A : List ℕ) (st : Step) (l : List ℕ)
     → l ≡ stepNumbers st → st ≡ nextBy look s t ns swapped r A → look ≡ look′ → r ≡ r′ → l ≡ stepNumbers (nextBy look′ s t ns swapped r′ A)

@@ -1,3 +1,3 @@
--- What the contracts of this crate say: how answers and counts lie in the lent arrays. Assumes nothing.
-pub mod Numbers
+-- What the contracts of this crate say: what a call hands back and leaves in the lent arrays; runs. Assumes nothing.
+pub mod Handed
 pub mod Runs

@@ -11,15 +11,8 @@ ghost use Rattle.trace.specs.Writing.{writeOf, outAfter};
 ghost use Rattle.matching.specs.Reading.{readOf as matchingOf, roomAfter as entriesAfter};
 ghost use Rattle.checker.specs.Check.{lent};
 ghost use Rattle.checker.specs.Line.{offendingLine, offendingSpan, faultText, span, Spans};
-ghost use Rattle.export.specs.Numbers.{
-  answerNumbers,
-  traceNumbers,
-  matchingNumbers,
-  starting,
-  formNumber,
-  formNumbered,
-  Leaves,
-};
+ghost use Rattle.numbers.specs.Numbers.{answerNumbers, formNumber, formNumbered};
+ghost use Rattle.export.specs.Handed.{traceNumbers, matchingNumbers, starting, Leaves};
 use checker::check_in;
 use checker::line::offending_span;
 use event::Answer;
@@ -27,33 +20,22 @@ use event::Entry;
 use event::Number;
 use event::PLACES;
 use event::Word;
-use event::number_index;
 use memory::Memory;
 use memory::listed::Listed;
-use record::form::Form;
+use numbers::answer_numbers;
+use numbers::checked_numbers;
+use numbers::count_numbers;
+use numbers::form_number;
+use numbers::form_numbered;
 use trace::form::form_of;
 use writer::moving::move_to;
-
-// The form that a number names.
-pub(crate) fn form_numbered(n: Number) -> Form
-    ensures { λ r. ⌜ r ≡ formNumbered n ⌝ }
-{
-    if n == 2 {
-        return Form::Two;
-    }
-    Form::One
-}
 
 // The form of a trace text, as its number.
 #[no_mangle]
 pub extern "C" fn laprunto_trace_form(text: &[u8]) -> Number
     ensures { λ r. ⌜ r ≡ formNumber (formOf (now (text .entry))) ⌝ }
 {
-    let form = form_of(text);
-    match form {
-        Form::One => 1,
-        Form::Two => 2,
-    }
+    form_number(form_of(text))
 }
 
 // A trace text read alone: number, side, place and events, the starting memory, and the room.
@@ -69,16 +51,10 @@ pub extern "C" fn laprunto_read_trace(
     ensures { λ _. ⌜ now (room .exit) ≡ roomAfter 1 (now (text .entry)) (now (room .entry)) ⌝ }
 {
     let read = trace::read(text, room);
-    let found = read.answer;
     let start = read.memory;
     let cells = start.cells;
     *memory = cells;
-    *result = [
-        number_index(found.number),
-        number_index(found.side),
-        found.place,
-        read.events,
-    ];
+    *result = count_numbers(read.answer, read.events);
 }
 
 // A matching text read alone: number, side, place and entries, and the room.
@@ -88,13 +64,7 @@ pub extern "C" fn laprunto_read_matching(text: &[u8], room: &mut [Entry], result
     ensures { λ _. ⌜ now (room .exit) ≡ entriesAfter (now (text .entry)) (now (room .entry)) ⌝ }
 {
     let read = matching::read(text, room);
-    let found = read.answer;
-    *result = [
-        number_index(found.number),
-        number_index(found.side),
-        found.place,
-        read.entries,
-    ];
+    *result = count_numbers(read.answer, read.entries);
 }
 
 // A starting memory and the events of a part of a room, written as a text of a form: number, side and place, and the bytes.
@@ -111,11 +81,7 @@ pub extern "C" fn laprunto_write_trace(
 {
     let cells = *memory;
     let written = writer::write(form_numbered(form), Memory { cells }, room, out);
-    *result = [
-        number_index(written.number),
-        number_index(written.side),
-        written.place,
-    ];
+    *result = answer_numbers(written);
 }
 
 // A trace text moved to a form: number, side and place, and the bytes.
@@ -130,11 +96,7 @@ pub extern "C" fn laprunto_move_trace(
     ensures { λ _. ⌜ now (out .exit) ≡ movedOut (formNumbered «to_form») (now (text .entry)) (now (out .entry)) ⌝ }
 {
     let moved = move_to(form_numbered(to_form), text, out);
-    *result = [
-        number_index(moved.number),
-        number_index(moved.side),
-        moved.place,
-    ];
+    *result = answer_numbers(moved);
 }
 
 // A check: number, side, place, source events, target events and entries, both starting memories, and the three rooms.
@@ -166,7 +128,6 @@ pub extern "C" fn laprunto_check(
         target_room,
         entry_room,
     );
-    let found = checked.answer;
     let source_held = checked.source;
     let target_held = checked.target;
     let source_start = source_held.memory;
@@ -175,14 +136,12 @@ pub extern "C" fn laprunto_check(
     let target_cells = target_start.cells;
     *source_memory = source_cells;
     *target_memory = target_cells;
-    *result = [
-        number_index(found.number),
-        number_index(found.side),
-        found.place,
+    *result = checked_numbers(
+        checked.answer,
         source_held.events,
         target_held.events,
         checked.entries,
-    ];
+    );
 }
 
 // Where the offending line of a check stands in the target text, for side 2, else in the source text: its start and its end.

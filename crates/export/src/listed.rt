@@ -9,15 +9,9 @@ ghost use Rattle.rules.specs.View.{viewIn};
 ghost use Rattle.checker.specs.Check.{lent};
 ghost use Rattle.changes.specs.Apply.{outcomeBy};
 ghost use Rattle.steps.specs.Play.{nextBy};
-ghost use Rattle.export.specs.Numbers.{answerNumbers, traceNumbers, marks, listing, starting, formNumbered, LeavesListed};
-ghost use Rattle.export.specs.Runs.{BeginsListed, Leaves, runNumbered, stepNumbered, stepNumbers};
-use crate::form_numbered;
-use crate::run::flag_of;
-use crate::run::run_numbered;
-use crate::run::run_numbers;
-use crate::run::start_numbers;
-use crate::run::step_numbered;
-use crate::run::step_numbers;
+ghost use Rattle.numbers.specs.Numbers.{answerNumbers, marks, listing, formNumbered, runNumbered, stepNumbered, stepNumbers};
+ghost use Rattle.export.specs.Handed.{traceNumbers, starting, LeavesListed};
+ghost use Rattle.export.specs.Runs.{BeginsListed, Leaves};
 use changes::apply_listed;
 use checker::check_listed;
 use event::EVENT_LIMIT;
@@ -25,40 +19,24 @@ use event::Entry;
 use event::Number;
 use event::PLACES;
 use event::Word;
-use event::number_index;
 use memory::Memory;
-use memory::listed::Listed;
+use numbers::answer_numbers;
+use numbers::checked_numbers;
+use numbers::count_numbers;
+use numbers::flag_of;
+use numbers::form_numbered;
+use numbers::listed_of;
+use numbers::marks_of;
+use numbers::run_numbered;
+use numbers::run_numbers;
+use numbers::started_numbers;
+use numbers::step_numbered;
+use numbers::step_numbers;
 use steps::next_listed;
 use steps::start_listed;
 use trace::read_listed;
 use writer::moving::move_listed;
 use writer::write_listed;
-
-// A number for each mark, 1 if it is set, else 0.
-fn marks_of(listed: Listed) -> [u8; PLACES]
-    ensures { λ r. ⌜ r ≡ marks listed ⌝ }
-{
-    let mut numbers: [u8; PLACES] = [0; PLACES];
-    let mut i: usize = 0;
-    while i < PLACES {
-        numbers[i] = listed[i] as u8;
-        i += 1;
-    }
-    numbers
-}
-
-// A mark for each number, set unless it is 0.
-fn listed_of(numbers: [u8; PLACES]) -> Listed
-    ensures { λ r. ⌜ r ≡ listing numbers ⌝ }
-{
-    let mut listed: Listed = [false; PLACES];
-    let mut place: usize = 0;
-    while place < PLACES {
-        listed[place] = numbers[place] != 0;
-        place += 1;
-    }
-    listed
-}
 
 // A list text read alone: number, side and place, and a mark for each location.
 #[no_mangle]
@@ -71,14 +49,9 @@ pub extern "C" fn laprunto_read_list(
     ensures { λ _. ⌜ now (listed .exit) ≡ marks (listOf (now (list .entry)) .listed) ⌝ }
 {
     let read = registers::read(list);
-    let found = read.answer;
     let named = read.listed;
     *listed = marks_of(named);
-    *result = [
-        number_index(found.number),
-        number_index(found.side),
-        found.place,
-    ];
+    *result = answer_numbers(read.answer);
 }
 
 // `laprunto_read_trace` with a list.
@@ -95,16 +68,10 @@ pub extern "C" fn laprunto_read_trace_listed(
     ensures { λ _. ⌜ now (room .exit) ≡ roomListed (now (list .entry)) (now (text .entry)) (now (room .entry)) ⌝ }
 {
     let read = read_listed(list, text, room);
-    let found = read.answer;
     let start = read.memory;
     let cells = start.cells;
     *memory = cells;
-    *result = [
-        number_index(found.number),
-        number_index(found.side),
-        found.place,
-        read.events,
-    ];
+    *result = count_numbers(read.answer, read.events);
 }
 
 // `laprunto_write_trace` with a list.
@@ -124,11 +91,7 @@ pub extern "C" fn laprunto_write_trace_listed(
 {
     let cells = *memory;
     let written = write_listed(list, form_numbered(form), Memory { cells }, room, out);
-    *result = [
-        number_index(written.number),
-        number_index(written.side),
-        written.place,
-    ];
+    *result = answer_numbers(written);
 }
 
 // `laprunto_move_trace` with a list.
@@ -144,11 +107,7 @@ pub extern "C" fn laprunto_move_trace_listed(
     ensures { λ _. ⌜ now (out .exit) ≡ movedListed (now (list .entry)) (formNumbered «to_form») (now (text .entry)) (now (out .entry)) ⌝ }
 {
     let moved = move_listed(list, form_numbered(to_form), text, out);
-    *result = [
-        number_index(moved.number),
-        number_index(moved.side),
-        moved.place,
-    ];
+    *result = answer_numbers(moved);
 }
 
 // `laprunto_check` with a list.
@@ -180,7 +139,6 @@ pub extern "C" fn laprunto_check_listed(
         target_room,
         entry_room,
     );
-    let found = checked.answer;
     let source_held = checked.source;
     let target_held = checked.target;
     let source_start = source_held.memory;
@@ -189,14 +147,12 @@ pub extern "C" fn laprunto_check_listed(
     let target_cells = target_start.cells;
     *source_memory = source_cells;
     *target_memory = target_cells;
-    *result = [
-        number_index(found.number),
-        number_index(found.side),
-        found.place,
+    *result = checked_numbers(
+        checked.answer,
         source_held.events,
         target_held.events,
         checked.entries,
-    ];
+    );
 }
 
 // `laprunto_start` with a list.
@@ -231,7 +187,14 @@ pub extern "C" fn laprunto_start_listed(
     );
     let begun = started.run;
     *run = run_numbers(begun);
-    *result = start_numbers(started);
+    let checked = started.checked;
+    *result = started_numbers(
+        checked.answer,
+        checked.source.events,
+        checked.target.events,
+        checked.entries,
+        started.cost,
+    );
 }
 
 // `laprunto_next` with the marks of a list, as `laprunto_read_list` leaves them.

@@ -1,89 +1,24 @@
-// Runs, step by step: numbers for a run and for a step.
+// Runs, step by step.
 ghost use mathlib.Core.Path.{_≡_};
 ghost use lib.ListN.{getD};
 ghost use Rattle.event.specs.Room.{wholeEvents};
 ghost use Rattle.checker.specs.Check.{lent};
 ghost use Rattle.changes.specs.Apply.{outcome};
 ghost use Rattle.steps.specs.Play.{nextOf};
-ghost use Rattle.export.specs.Numbers.{flag};
-ghost use Rattle.export.specs.Runs.{Begins, Leaves, runNumbered, runNumbers, startNumbers, stepNumbered, stepNumbers};
-use changes::Run;
-use changes::Step;
+ghost use Rattle.numbers.specs.Numbers.{runNumbered, stepNumbered, stepNumbers};
+ghost use Rattle.export.specs.Runs.{Begins, Leaves};
 use changes::apply;
 use event::EVENT_LIMIT;
 use event::Entry;
 use event::Word;
-use event::number_index;
-use steps::Started;
+use numbers::flag_of;
+use numbers::run_numbered;
+use numbers::run_numbers;
+use numbers::started_numbers;
+use numbers::step_numbered;
+use numbers::step_numbers;
 use steps::next;
 use steps::start;
-
-// 1 for yes, 0 for no.
-pub(crate) fn flag_of(b: bool) -> usize
-    ensures { λ r. ⌜ r ≡ flag b ⌝ }
-{
-    if b {
-        return 1;
-    }
-    0
-}
-
-pub(crate) fn run_numbers(run: Run) -> [usize; 2]
-    ensures { λ r. ⌜ r ≡ runNumbers run ⌝ }
-{
-    [flag_of(run.begun), run.standing]
-}
-
-pub(crate) fn run_numbered(begun: usize, standing: usize) -> Run
-    ensures { λ r. ⌜ r ≡ runNumbered begun standing ⌝ }
-{
-    Run {
-        begun: begun != 0,
-        standing,
-    }
-}
-
-pub(crate) fn step_numbers(step: Step) -> [usize; 3]
-    ensures { λ r. ⌜ r ≡ stepNumbers step ⌝ }
-{
-    match step {
-        Step::Remove { place, number } => [1, place, number],
-        Step::Swap { place } => [2, place, 0],
-        Step::Insert { place } => [3, place, 0],
-        Step::Done => [0, 0, 0],
-        Step::Stuck => [4, 0, 0],
-    }
-}
-
-pub(crate) fn step_numbered(kind: usize, place: usize, number: usize) -> Step
-    ensures { λ r. ⌜ r ≡ stepNumbered kind place number ⌝ }
-{
-    match kind {
-        1 => Step::Remove { place, number },
-        2 => Step::Swap { place },
-        3 => Step::Insert { place },
-        4 => Step::Stuck,
-        _ => Step::Done,
-    }
-}
-
-pub(crate) fn start_numbers(started: Started) -> [usize; 7]
-    ensures { λ r. ⌜ r ≡ startNumbers started ⌝ }
-{
-    let checked = started.checked;
-    let found = checked.answer;
-    let source_held = checked.source;
-    let target_held = checked.target;
-    [
-        number_index(found.number),
-        number_index(found.side),
-        found.place,
-        source_held.events,
-        target_held.events,
-        checked.entries,
-        started.cost,
-    ]
-}
 
 // A check, and the beginning of a run if it accepts: the check's numbers and how many steps there are, the run's numbers, the three rooms and the tags.
 #[no_mangle]
@@ -115,7 +50,14 @@ pub extern "C" fn laprunto_start(
     );
     let begun = started.run;
     *run = run_numbers(begun);
-    *result = start_numbers(started);
+    let checked = started.checked;
+    *result = started_numbers(
+        checked.answer,
+        checked.source.events,
+        checked.target.events,
+        checked.entries,
+        started.cost,
+    );
 }
 
 // The next step of a run: its kind, its place and its source number. `swapped` is 0, or the place of the swap that was just applied.

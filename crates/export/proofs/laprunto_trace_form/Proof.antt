@@ -1,14 +1,12 @@
--- By the form. Assumes nothing.
+-- The form's number is laid out. Assumes nothing.
+use mathlib.Core.Path.{_∙_, ap}
 use borrow.Author.Needs.{needs}
+use Rattle.numbers.specs.Numbers.{formNumber}
 use Rattle.export.proofs.laprunto_trace_form.Statement.{statement}
 use Rattle.export.proofs.laprunto_trace_form.Tie as tie
 
 returns : tie.Need-returns
-returns c = rw (← c .before .before .form-of .ensures, c .enum-told .given .1)
-
-returns-2 : tie.Need-returns-2
-returns-2 c = rw (← c .before .before .form-of .ensures, c .enum-told2 .given .1)
+returns c = c .form-number .ensures ∙ ap formNumber (c .before .form-of .ensures)
 
 pub laprunto-trace-form-spec : {M : Type 1} → statement M
-laprunto-trace-form-spec =
-    tie.close (tie.spec (search needs) (search needs) (search needs) returns returns-2)
+laprunto-trace-form-spec = tie.close (tie.spec (search needs) (search needs) returns)

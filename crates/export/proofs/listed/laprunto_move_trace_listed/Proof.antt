@@ -8,18 +8,17 @@ use Rattle.export.proofs.listed.laprunto_move_trace_listed.Tie as tie
 
 returns : tie.Need-returns
 returns c =
-    let m = c .before .before .before .before .before in
+    let m = c .before .before .before in
     let n = m .before .before in
     let a = n .before .before .before .before .args in
     written-laid (λ (f : Form). moveListed (a .list .now) f (a .text .now) (a .out .now))
-    (λ (f : Form). movedListed (a .list .now) f (a .text .now) (a .out .now)) _ _ (m .move-listed .result) _ _ _ (m .move-listed .ensures) (n .form-numbered .ensures)
-    (c .before .before .number-index .ensures) (c .before .number-index2 .ensures)
+    (λ (f : Form). movedListed (a .list .now) f (a .text .now) (a .out .now)) _ _ (m .move-listed .result) _ _ (m .move-listed .ensures) (n .form-numbered .ensures)
+    (c .answer-numbers .ensures)
 
 pub laprunto-move-trace-listed-spec : {M : Type 1} → statement M
 laprunto-move-trace-listed-spec =
     tie.close
     (tie.spec
-    (search needs)
     (search needs)
     (search needs)
     (search needs)
