@@ -9,6 +9,8 @@
 #[allow(dead_code)]
 mod cases;
 #[allow(dead_code)]
+mod exchanges;
+#[allow(dead_code)]
 mod forms;
 #[allow(dead_code)]
 mod generate;
@@ -95,7 +97,7 @@ fn compared(program: &str, case: &Case) -> Result<usize, String> {
 
 fn beside(program: &str, count: usize, seed: u64) -> Result<(), String> {
     let mut random = Random::new(seed);
-    let known = [cases::all(), forms::checks(), zeros::checks(), lists::checks(), lists::examples()].concat();
+    let known = [cases::all(), forms::checks(), zeros::checks(), exchanges::checks(), lists::checks(), lists::examples()].concat();
     let (mut steps, mut listed) = (0, 0);
     for known in &known {
         steps += compared(program, &known.case).map_err(|difference| format!("{}\n{difference}", known.name))?;
