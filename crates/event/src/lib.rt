@@ -32,7 +32,7 @@ pub struct Event {
     pub code: Word,
 }
 
-// What comes back: document 01's number, the side (0 none, 1 source, 2 target, 3 matching) and the place.
+// What comes back: document 01's number, the side (0 none, 1 source, 2 target, 3 matching, 4 list) and the place.
 pub struct Answer {
     pub number: Number,
     pub side: Number,
