@@ -4,22 +4,21 @@ use mathlib.Core.Path.{_≡_, refl, sym, _∙_}
 use mathlib.Core.Bool.{true, false, false≢true}
 use mathlib.Core.List.{List, [], _∷_}
 use native.Mathlib.Omega.{arith}
-use lib.Dec.{eqb, ltb}
+use lib.Dec.{ltb}
 use lib.ListN.{length, take, drop}
 use lib.Seq.{length-take-le}
-use borrow.Author.Tests.{ltb-false, le-ltb}
-use Rattle.laws.proofs.Cases.{cases, not-first, not-second}
-use Rattle.laws.proofs.Cases.{side as side-of}
+use borrow.Author.Tests.{ltb-false, le-ltb, ne-eqb}
+use Rattle.laws.proofs.Cases.{not-first, not-second}
 use Rattle.event.specs.Answer.{answer, done}
 use Rattle.event.specs.declared.Answer.{Answer}
 use Rattle.frame.proofs.Settled.{first-done}
 use Rattle.text.specs.Line.{lineLen, lineAt, split, splitFrom, body}
 use Rattle.text.specs.Word.{sameBytes}
 use Rattle.text.specs.declared.line.LineStep.the-variants.{Line, TextEnd}
-use Rattle.text.proofs.Cuts.{from-start, from-out, cut-eq, until-le}
+use Rattle.text.proofs.Cuts.{from-start, cut-eq, until-le}
 use Rattle.text.proofs.Walk.{Some, next, last, body-from}
 use Rattle.text.proofs.Words.{same-eq, same-self}
-use Rattle.frame.specs.Reading.{Layout, headed, headFault, linesFault, textFault}
+use Rattle.frame.specs.Reading.{Layout, headed, headFault, linesFault, textFault, settle, tried}
 
 -- by line 1 and the parts after it
 head-some : (header l : List ℕ) (ps : List (List ℕ)) → Some ps → headed header (l ∷ ps) ≡ sameBytes l header
@@ -69,28 +68,26 @@ module _ {S : Type 0} (T : Layout S) (side : ℕ) (t : List ℕ) where
   unfolding textFault headFault
   by-lines ls h p s = rw (le-ltb (T .limit) (length t) h, p, head-some (T .header) (T .header) ls s, same-self (T .header))
 
-  -- the size or line 1 is refused
-  pub head-refuses : eqb (headFault side (T .limit) (T .header) t .number) 0 ≡ false → textFault T side t ≡ headFault side (T .limit) (T .header) t
-  unfolding textFault
-  head-refuses h = rw h
-
-  -- neither is: the lines from line 2 on decide
-  module _ (h : headFault side (T .limit) (T .header) t .number ≡ 0) where
-    pub head-passes : textFault T side t ≡ linesFault T side 2 (T .start) (splitFrom t (lineLen t + 1))
+  -- by what was found of the size and line 1
+  module _ {R : Type 0} (refused : Answer → R) {found : Answer} (q : found ≡ headFault side (T .limit) (T .header) t) where
+    -- it is a refusal
+    pub head-stops : (found .number ≡ 0 → ⊥) → {r : R} → r ≡ refused found → (x : R) → r ≡ settle refused (textFault T side t) x
     unfolding textFault
-    head-passes = rw (h, body-from t)
+    head-stops n p x = let z = ne-eqb (found .number) 0 n in p ∙ rw (← q, z, z)
 
-    framed-parts : (split t ≡ T .header ∷ body (split t)) × Some (body (split t))
-    framed-parts = head-parts (T .header) (split t) (head-done side (T .limit) (T .header) t h .1)
+    -- it is none: the lines from line 2 on are tried
+    module _ (h : found .number ≡ 0) where
+      right : headFault side (T .limit) (T .header) t .number ≡ 0
+      right = rw q at h
 
-    -- line 1 has as many bytes as the header, and line 2 starts within the text
-    pub head-length : lineLen t ≡ length (T .header)
-    head-length =
-        let e : T .header ≡ take (lineLen t) t = cc (framed-parts .0, cut-eq 10 t) in
-        rw e (sym (length-take-le (lineLen t) t (until-le 10 t)))
+      pub head-goes : (out : List (List ℕ) → R)
+          → settle refused (textFault T side t) (out (body (split t))) ≡ tried T refused side 2 (T .start) out (splitFrom t (lineLen t + 1))
+      unfolding textFault tried
+      head-goes out = rw (right, body-from t)
 
-    pub line-two-in : lineLen t + 1 ≤ length t
-    line-two-in =
-        cases (side-of (length t) (lineLen t + 1))
-        (λ o. absurd (rw (body-from t, from-out 10 t (lineLen t + 1) o) at (framed-parts .1)))
-        (λ o. o)
+      -- line 1 has as many bytes as the header
+      pub head-length : lineLen t ≡ length (T .header)
+      head-length =
+          let p = head-parts (T .header) (split t) (head-done side (T .limit) (T .header) t right .1) in
+          let e : T .header ≡ take (lineLen t) t = cc (p .0, cut-eq 10 t) in
+          rw e (sym (length-take-le (lineLen t) t (until-le 10 t)))

@@ -1,7 +1,7 @@
 -- The first refusal of lines, one line at a time; and what holds of lines none of which is refused. Assumes nothing.
 use Prim.Native.Nat.{ℕ, _+_}
 use mathlib.Core.Path.{_≡_}
-use mathlib.Core.Bool.{true, false, cond}
+use mathlib.Core.Bool.{false, cond}
 use mathlib.Core.List.{List, [], _∷_}
 use native.Mathlib.Omega.{arith}
 use lib.Dec.{eqb}
@@ -13,15 +13,6 @@ use Rattle.text.proofs.Walk.{Some}
 use Rattle.frame.specs.Reading.{Layout, linesFault}
 
 module _ {S : Type 0} (T : Layout S) (side k : ℕ) (s : S) where
-  -- what stands after the last LF
-  pub lines-open : (l : List ℕ) → isEmpty l ≡ false → linesFault T side k s (l ∷ []) ≡ answer 2 side k
-  unfolding linesFault
-  lines-open l h = rw h
-
-  pub lines-end : (l : List ℕ) → isEmpty l ≡ true → linesFault T side k s (l ∷ []) ≡ done
-  unfolding linesFault
-  lines-end l h = rw h
-
   -- a line is refused
   pub lines-stop : (l : List ℕ) (ps : List (List ℕ)) (x : ℕ) → Some ps → T .fault s l ≡ x → eqb x 0 ≡ false → linesFault T side k s (l ∷ ps) ≡ answer x side k
   unfolding linesFault
@@ -36,7 +27,7 @@ module _ {S : Type 0} (T : Layout S) (side k : ℕ) (s : S) where
 
 -- What holds of the end, and of a line that is not refused if it holds of those after it, holds of lines none of which is refused.
 module _ {S : Type 0} (T : Layout S) (side : ℕ) (P : S → List (List ℕ) → Type 0) (end : (s : S) → P s ([] ∷ []))
-    (step : (s : S) (l : List ℕ) (ls : List (List ℕ)) → T .fault s l ≡ 0 → P (T .next s l) ls → P s (l ∷ ls)) where
+    (step : (s : S) (l m : List ℕ) (ls : List (List ℕ)) → T .fault s l ≡ 0 → P (T .next s l) (m ∷ ls) → P s (l ∷ m ∷ ls)) where
   last-passes : (k : ℕ) (s : S) (l : List ℕ) → cond (isEmpty l) done (answer 2 side k) .number ≡ 0 → P s (l ∷ [])
   last-passes k s [] h = end s
   last-passes k s (b ∷ l) h = absurd (omega arith)
@@ -47,5 +38,5 @@ module _ {S : Type 0} (T : Layout S) (side : ℕ) (P : S → List (List ℕ) →
   lines-pass k s (l ∷ []) o h = last-passes k s l h
   lines-pass k s (l ∷ m ∷ ls) o h =
       cases (either (eqb (T .fault s l) 0))
-      (λ e. step s l (m ∷ ls) (eqb-true (T .fault s l) 0 e) (lines-pass (k + 1) (T .next s l) (m ∷ ls) tt (rw e at h)))
+      (λ e. step s l m ls (eqb-true (T .fault s l) 0 e) (lines-pass (k + 1) (T .next s l) (m ∷ ls) tt (rw e at h)))
       (λ e. absurd (eqb-false (T .fault s l) 0 e (rw e at h)))

@@ -5,8 +5,9 @@ use mathlib.Core.Path.{_≡_, refl, sym, _∙_}
 use mathlib.Core.List.{List, [], _∷_, _++_, append-assoc, append-nil}
 use native.Mathlib.Omega.{arith}
 use lib.ListN.{length, drop, length-append}
-use Rattle.text.specs.Line.{lineLen, split, splitFrom, body, saidIn}
-use Rattle.text.proofs.Walk.{line, line-in, body-from, said-line, said-end}
+use Rattle.text.specs.Line.{lineLen, lineAt, split, splitFrom, body, saidIn}
+use Rattle.text.specs.declared.line.LineStep.the-variants.{Line, TextEnd}
+use Rattle.text.proofs.Walk.{part, next, walk-line, walk-none, body-from}
 use Rattle.frame.specs.Store.{putAll}
 
 -- how things are put: `words` of so many of them, the room for so many, and one more put behind them
@@ -53,24 +54,31 @@ module _ {A : Type 0} (put : List ℕ → ℕ → A → List ℕ) (P : Puts A pu
     abbrev pub all : List A
     all = saidIn says (body (split t))
 
+    abbrev with-said : List ℕ → ℕ → List (List ℕ) → List ℕ
+    with-said room i ls = putAll put room i (saidIn says ls)
+
     pub record Held (i : ℕ) (room : List ℕ) (at : ℕ) : Type 0 where
-      pub same : putAll put room₀ 0 all ≡ putAll put room i (saidIn says (splitFrom t at))
+      pub same : putAll put room₀ 0 all ≡ with-said room i (splitFrom t at)
       pub few : i ≤ at
       pub size : length room ≡ length room₀
 
     pub held-start : Held 0 room₀ (lineLen t + 1)
     held-start = record { same = rw (body-from t); few = omega arith; size = refl }
 
-    -- the line that starts at a place, by where it ends, says bs
-    pub held-step : (at e : ℕ) → at ≤ length t → (p : e ≡ at + lineLen (drop at t)) (i j : ℕ) (room room′ : List ℕ) (bs : List A)
-        → bs ≡ says (line t at e p) → j ≡ i + length bs → room′ ≡ putAll put room i bs → Held i room at → Held j room′ (e + 1)
-    held-step at e h p i j room room′ bs q a b s = record {
-      same = s .same ∙ rw (said-line says t at e p h, b, a, q) (put-append room i (says (line t at e p)) (saidIn says (splitFrom t (e + 1))));
-      few = omega (arith, s .few, line-in t at e p h, rw (← q) at (brief (line t at e p)));
-      size = rw b (put-keeps room i bs) ∙ s .size;
-    }
+    module _ {i : ℕ} {room : List ℕ} {at : ℕ} (s : Held i room at) where
+      -- the line there says bs
+      pub held-step : {to : ℕ} → lineAt t at ≡ Line to → {j : ℕ} {room′ : List ℕ} (bs : List A) → bs ≡ says (part t at to) → j ≡ i + length bs
+          → room′ ≡ putAll put room i bs → Held j room′ (to + 1)
+      unfolding saidIn
+      held-step {to} e {j} {room′} bs q a b = record {
+        same =
+            walk-line (with-said room i) t at (s .same) (with-said room′ j) e
+            (λ m ls. rw (b, a, q) (put-append room i (says (part t at to)) (saidIn says (m ∷ ls))));
+        few = omega (arith, s .few, next t at to e, rw (← q) at (brief (part t at to)));
+        size = rw b (put-keeps room i bs) ∙ s .size;
+      }
 
-    -- nothing is left
-    pub held-all : (i : ℕ) (room : List ℕ) (at : ℕ) → says [] ≡ [] → length t ≤ at → Held i room at → room ≡ putAll put room₀ 0 all
-    unfolding putAll
-    held-all i room at b h s = sym (s .same ∙ rw (said-end says t at b h))
+      -- no line is left
+      pub held-all : lineAt t at ≡ TextEnd → room ≡ putAll put room₀ 0 all
+      unfolding saidIn putAll
+      held-all e = sym (walk-none (with-said room i) t at (s .same) e refl (λ l. refl))

@@ -45,6 +45,10 @@ textFault T side t = first (headFault side (T .limit) (T .header) t) (linesFault
 abbrev pub settle : {R : Type 0} → (Answer → R) → Answer → R → R
 settle refused a r = cond (eqb (a .number) 0) r (refused a)
 
+-- What the lines from line k on come to: their first refusal, else what `out` makes of them.
+unfoldable pub tried : {S R : Type 0} → Layout S → (Answer → R) → ℕ → ℕ → S → (List (List ℕ) → R) → List (List ℕ) → R
+tried T refused side k s out ls = settle refused (linesFault T side k s ls) (out ls)
+
 -- 17, after the others: n do not fit where there is room for so many.
 abbrev pub fitted : {R : Type 0} → (Answer → R) → ℕ → ℕ → ℕ → R → R
 fitted refused side n many r = cond (leb n many) r (refused (answer 17 side n))

@@ -15,7 +15,7 @@ use Rattle.event.specs.Answer.{answer, done, first, InTable}
 use Rattle.event.specs.declared.Answer.{Answer}
 use Rattle.event.proofs.Answers.{Among, Given, none, among-first, among-more, given-among, given-in, in-first}
 use Rattle.text.specs.Line.{split, body}
-use Rattle.frame.specs.Reading.{headed, headFault, linesFault, textFault}
+use Rattle.frame.specs.Reading.{headed, headFault, linesFault, textFault, tried}
 use Rattle.frame.proofs.Answers.{lines-given, head-among, head-in}
 use Rattle.registers.specs.Reg.{header, regOf}
 use Rattle.registers.specs.Reading.{SoFar, nothing, listLimit, regLimit, regsFault, regsLayout, regsOf, refused, listOf}
@@ -64,7 +64,7 @@ module _ (t : List ℕ) where
   bad-head h k = rw (le-ltb listLimit (length t) h, k)
 
   pub then-lines : length t ≤ listLimit → headed header (split t) ≡ true → listOf t ≡ linesRead nothing noneListed (body (split t))
-  unfolding listOf textFault headFault regsOf linesRead
+  unfolding listOf textFault headFault regsOf tried
   then-lines h k = rw (le-ltb listLimit (length t) h, k)
 
   -- a refusal lists nothing

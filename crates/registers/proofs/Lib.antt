@@ -1,6 +1,5 @@
 -- Laws that belong to no one function. Assumes nothing.
 pub mod Prints
-pub mod Lines
 pub mod Marks
 pub mod OneText
 pub mod Answers

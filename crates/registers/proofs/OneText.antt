@@ -8,30 +8,28 @@ use native.Mathlib.Omega.{arith}
 use lib.Dec.{leb, ltb}
 use lib.ListN.{length, length-append}
 use borrow.Author.Tests.{leb-false, ltb-false, le-ltb, lt-leb}
-use Rattle.memory.specs.Listed.{noneListed}
 use Rattle.laws.specs.Each.{Each}
 use Rattle.laws.proofs.Cases.{not-first}
 use Rattle.laws.proofs.Lists.{Free}
+use Rattle.event.specs.Answer.{done}
 use Rattle.event.specs.Limit.{lastPlace}
 use Rattle.text.specs.Cut.{glue}
 use Rattle.text.specs.Line.{split, body, saidIn}
 use Rattle.text.proofs.Decimals.{length-below}
 use Rattle.text.proofs.Parts.{cut-glue, glue-cut}
 use Rattle.text.proofs.Round.{decimal-no-lf}
-use Rattle.text.proofs.Walk.{Some}
-use Rattle.frame.specs.Reading.{textFault}
+use Rattle.text.proofs.Walk.{some-end, said-on}
+use Rattle.frame.specs.Reading.{linesFault, textFault}
 use Rattle.frame.proofs.Heads.{framed, by-lines}
-use Rattle.frame.proofs.Lines.{lines-pass}
+use Rattle.frame.proofs.Lines.{lines-go, lines-pass}
 use Rattle.frame.proofs.Settled.{settled}
 use Rattle.registers.specs.Reg.{header, regOf, regLine}
-use Rattle.registers.specs.Reading.{SoFar, nothing, listLimit, regLimit, regsFault, afterReg, regsLayout, regsIn, regsOf}
-use Rattle.registers.specs.Reading.{marked, marksOf, refused, readAs, listOf}
-use Rattle.registers.specs.Lines.{linesRead}
+use Rattle.registers.specs.Reading.{SoFar, nothing, listLimit, regLimit, regsFault, afterReg, regsLayout, regsOn, regsIn, regsOf}
+use Rattle.registers.specs.Reading.{marksOf, refused, readAs, listOf}
 use Rattle.registers.specs.Text.{listText, Ascending, Fits}
 use Rattle.registers.specs.declared.ListRead.{ListRead}
 use Rattle.registers.specs.declared.reg.RegRead.{RegRead}
 use Rattle.registers.specs.declared.reg.RegRead.the-variants.{Reg, Refused}
-use Rattle.registers.proofs.Lines.{blank, read-end, read-go}
 use Rattle.registers.proofs.Marks.{same-marks}
 use Rattle.registers.proofs.Prints.{reg-read, reg-back}
 
@@ -45,16 +43,17 @@ Printed s ls = s .regs ≤ regLimit → (ls ≡ tail (regsIn ls)) × ((s .regs +
 
 last-printed : (s : SoFar) → Printed s ([] ∷ [])
 unfolding saidIn
-last-printed s b = rw blank (refl, (omega arith, tt))
+last-printed s b = (refl, (omega arith, tt))
 
 neither : (x y : Bool) → (x || y) ≡ false → (x ≡ false) × (y ≡ false)
 neither false y h = (refl, h)
 neither true y h = absurd (false≢true (sym h))
 
-line-printed : (s : SoFar) (l : List ℕ) (ls : List (List ℕ)) (r : RegRead) → regOf l ≡ r → regsFault s r ≡ 0 → Printed (afterReg s r) ls → Printed s (l ∷ ls)
+line-printed : (s : SoFar) (l m : List ℕ) (ls : List (List ℕ)) (r : RegRead) → regOf l ≡ r → regsFault s r ≡ 0 → Printed (afterReg s r) (m ∷ ls)
+    → Printed s (l ∷ m ∷ ls)
 unfolding saidIn
-line-printed s l ls Refused q h g b = absurd (omega arith)
-line-printed s l ls (Reg p) q h g b =
+line-printed s l m ls Refused q h g b = absurd (omega arith)
+line-printed s l m ls (Reg p) q h g b =
     let f = neither _ _ (not-first (λ (x : ℕ). x) (ltb p (s .low) || leb regLimit (s .regs)) 22 0 (λ z. omega arith) h .0) in
     let low = ltb-false p (s .low) (f .0) in
     let few = leb-false regLimit (s .regs) (f .1) in
@@ -74,7 +73,7 @@ unfolding regsOf
 text-back t h =
     let f = framed regsLayout 4 t (list-done t h .0) in
     let p =
-    lines-pass regsLayout 4 Printed last-printed (λ s l ls. line-printed s l ls (regOf l) refl) 2 nothing (body (split t)) (f .some) (f .lines) (omega arith) in
+    lines-pass regsLayout 4 Printed last-printed (λ s l m ls. line-printed s l m ls (regOf l) refl) 2 nothing (body (split t)) (f .some) (f .lines) (omega arith) in
     let e = ap (λ (qs : List (List ℕ)). header ∷ qs) (sym (p .0)) ∙ sym (f .parts) in
     (ap (glue 10) e ∙ glue-cut 10 t, record { few = omega (arith, p .1 .0); rising = p .1 .1 })
 
@@ -91,23 +90,20 @@ one-text t u h k q =
     sym (a .0) ∙ (ap listText e ∙ b .0)
 
 -- and such a text is read as those registers
-some-end : (ps : List ℕ) → Some (tail ps)
-some-end [] = tt
-some-end (p ∷ ps) = tt
-
-tail-lines : (low n : ℕ) (marks : List Bool) (ps : List ℕ) → n + length ps ≤ regLimit → Ascending low ps
-    → linesRead (record { low = low; regs = n }) marks (tail ps) ≡ readAs (marked marks ps)
-unfolding marked
-tail-lines low n marks [] b a = read-end low n marks [] refl refl
-tail-lines low n marks (p ∷ ps) b a =
-    let o = a .0 .0 in
-    let j : (ltb p low || leb regLimit n) ≡ false = rw (le-ltb p low o, lt-leb regLimit n (omega arith)) in
-    read-go low n marks (regLine p) (tail ps) (some-end ps) p (reg-read p (a .0 .1)) j ∙ tail-lines (p + 1) (n + 1) _ ps (omega arith) (a .1)
+tail-lines : (k low n : ℕ) (ps : List ℕ) → n + length ps ≤ regLimit → Ascending low ps
+    → linesFault regsLayout 4 k (record { low = low; regs = n }) (tail ps) ≡ done
+unfolding linesFault
+tail-lines k low n [] b a = refl
+tail-lines k low n (p ∷ ps) b a =
+    let q = reg-read p (a .0 .1) in
+    lines-go regsLayout 4 k _ (regLine p) (tail ps) (some-end (map regLine ps)) (rw (q, le-ltb p low (a .0 .0), lt-leb regLimit n (omega arith)))
+    ∙ rw q (tail-lines (k + 1) (p + 1) (n + 1) ps (omega arith) (a .1))
 
 tail-regs : (low : ℕ) (ps : List ℕ) → Ascending low ps → regsIn (tail ps) ≡ ps
 unfolding saidIn
-tail-regs low [] a = rw blank
-tail-regs low (p ∷ ps) a = rw (reg-read p (a .0 .1), tail-regs (p + 1) ps (a .1))
+tail-regs low [] a = refl
+tail-regs low (p ∷ ps) a =
+    said-on (λ l. regsOn (regOf l)) (regLine p) (tail ps) (some-end (map regLine ps)) ∙ rw (reg-read p (a .0 .1), tail-regs (p + 1) ps (a .1))
 
 -- a register's line has no LF, and at most 7 bytes
 line-free : (p : ℕ) → Free 10 (regLine p)
@@ -133,9 +129,10 @@ header-free = ((λ z. omega arith), ((λ z. omega arith), ((λ z. omega arith), 
 
 -- The text of locations that have one lists these.
 pub text-read : (ps : List ℕ) → Fits ps → (listOf (listText ps) ≡ readAs (marksOf ps)) × (regsOf (listText ps) ≡ ps)
-unfolding listOf regsOf linesRead
+unfolding listOf regsOf
 text-read ps f =
     let short : length (listText ps) ≤ listLimit = omega (arith, tail-length header 0 ps (f .rising), f .few) in
     let q : split (listText ps) ≡ header ∷ tail ps = cut-glue 10 header (tail ps) (header-free, tail-free ps) in
-    let l = tail-lines 0 0 noneListed ps (omega (arith, f .few)) (f .rising) in
-    (rw (by-lines regsLayout 4 (listText ps) (tail ps) short q (some-end ps), q) l, rw q (tail-regs 0 ps (f .rising)))
+    let l = tail-lines 2 0 0 ps (omega (arith, f .few)) (f .rising) in
+    let r = tail-regs 0 ps (f .rising) in
+    (rw (by-lines regsLayout 4 (listText ps) (tail ps) short q (some-end (map regLine ps)), l, q, r), rw q r)

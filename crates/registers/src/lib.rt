@@ -5,7 +5,6 @@ ghost use mathlib.Core.Bool.{_||_};
 ghost use mathlib.Core.Path.{_≡_};
 ghost use Prim.Native.Nat.{_≤_};
 ghost use lib.Dec.{leb, ltb};
-ghost use lib.ListN.{length};
 ghost use Rattle.memory.specs.Listed.{noneListed};
 ghost use Rattle.text.specs.Line.{splitFrom};
 ghost use Rattle.registers.specs.Reading.{regLimit, nothing, refused, listOf};
@@ -54,7 +53,6 @@ fn is_refused(location: Word, low: Word, n: usize) -> bool
 
 // The lines after line 1: each is tried for 2 and 22, and its location is marked.
 fn read_lines(text: &[u8], from: usize) -> ListRead
-    requires { ⌜ from ≤ length (now text) ⌝ }
     requires { ⌜ 2 ≤ from ⌝ }
     ensures { λ r. ⌜ r ≡ linesRead nothing noneListed (splitFrom (now (text .entry)) from) ⌝ }
 {

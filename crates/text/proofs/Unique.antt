@@ -5,7 +5,6 @@ use mathlib.Core.List.{List}
 use denote.Ref.{RefT}
 use Rattle.laws.specs.Unique.{OneAnswer, OneOf}
 use Rattle.text.specs.declared.reader.Reader.{Reader}
-use Rattle.text.proofs.line.line_end.Reads as line-end
 use Rattle.text.proofs.line.next_line.Reads as next-line
 use Rattle.text.proofs.line.line_two.Reads as line-two
 use Rattle.text.proofs.number.number_of.Reads as number-of
@@ -15,9 +14,6 @@ use Rattle.text.proofs.take.take_number.Reads as take-number
 use Rattle.text.proofs.take.ends_at.Reads as ends-at
 use Rattle.text.proofs.word.same_bytes.Reads as same-bytes
 use Rattle.text.proofs.write.put_number.Reads as put-number
-
-line-end-one : OneAnswer line-end.Post
-line-end-one κ a x y s t h k = h ∙ sym k
 
 next-line-one : OneAnswer next-line.Post
 next-line-one κ a x y s t h k = h ∙ sym k

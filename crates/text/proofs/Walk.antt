@@ -1,7 +1,7 @@
--- The lines of a text by a place in it: the line that starts there, by where it ends, and the lines after it. Assumes nothing.
+-- The lines of a text by a place in it: the line that starts there, by where it ends, and the lines after it; and what a walk over them, line by line,
+-- comes to. Assumes nothing.
 use Prim.Native.Nat.{ℕ, _+_, _-_, _≤_, _<_}
 use mathlib.Core.Path.{_≡_, refl, sym, _∙_, ap}
-use mathlib.Core.Bool.{true, false}
 use mathlib.Core.List.{List, [], _∷_, _++_}
 use native.Mathlib.Omega.{arith}
 use lib.Dec.{ltb}
@@ -9,47 +9,41 @@ use lib.ListN.{length, take, drop, length-drop, drop-of-length-le}
 use lib.Seq.{take-all}
 use borrow.Author.Tests.{ltb-true, ltb-false}
 use Rattle.laws.proofs.Cases.{cases, either, side}
-use Rattle.text.specs.Cut.{cut, isEmpty}
+use Rattle.text.specs.Cut.{cut}
 use Rattle.text.specs.Line.{lineLen, lineAt, split, splitFrom, body, saidIn}
 use Rattle.text.specs.declared.line.LineStep.the-variants.{Line, TextEnd}
-use Rattle.text.proofs.Cuts.{from-start, from-step, from-in, from-out, until-in}
+use Rattle.text.proofs.Cuts.{from-start, from-step, from-in, from-out}
 
 -- some part is left
 abbrev pub Some : List (List ℕ) → Type 0
 Some [] = ⊥
 Some (p ∷ ps) = Unit {0}
 
-not-empty : (l : List ℕ) → 0 < length l → isEmpty l ≡ false
-not-empty [] h = absurd (omega arith)
-not-empty (b ∷ l) h = refl
+pub some-after : (ls ts : List (List ℕ)) → Some ts → Some (ls ++ ts)
+some-after [] ts s = s
+some-after (l ∷ ls) ts s = tt
 
--- where no byte is left, what stands after the last LF is empty
-pub parts-end : (t : List ℕ) (at : ℕ) → at ≡ length t → splitFrom t at ≡ [] ∷ []
-unfolding cut
-parts-end t at h =
-    let p : at ≤ length t = omega arith in
-    let q : length t ≤ at = omega arith in
-    from-in 10 t at p ∙ rw (drop-of-length-le t q)
+-- what stands after the last LF, be it nothing
+pub some-end : (ls : List (List ℕ)) → Some (ls ++ ([] ∷ []))
+some-end ls = some-after ls ([] ∷ []) tt
 
-module _ (t : List ℕ) (at e : ℕ) (p : e ≡ at + lineLen (drop at t)) where
-  abbrev pub line : List ℕ
-  line = take (e - at) (drop at t)
+-- the part of a text from one place to another
+abbrev pub part : List ℕ → ℕ → ℕ → List ℕ
+part t at to = take (to - at) (drop at t)
 
-  pub parts-line : at ≤ length t → splitFrom t at ≡ line ∷ splitFrom t (e + 1)
-  parts-line h = from-step 10 t at e h p
-
-  pub line-in : at ≤ length t → (at ≤ e) × (e ≤ length t)
-  line-in h = omega (arith, until-in 10 t at h)
+-- a part that starts at a place within the text, and those after it
+parts-line : (t : List ℕ) (at e : ℕ) → e ≡ at + lineLen (drop at t) → at ≤ length t → splitFrom t at ≡ part t at e ∷ splitFrom t (e + 1)
+parts-line t at e p h = from-step 10 t at e h p
 
 -- some part starts at a place within the text
-pub parts-some : (t : List ℕ) (at : ℕ) → at ≤ length t → Some (splitFrom t at)
+parts-some : (t : List ℕ) (at : ℕ) → at ≤ length t → Some (splitFrom t at)
 parts-some t at h = rw (parts-line t at (at + lineLen (drop at t)) refl h) tt
 
 -- what the next line of a text tells, by where it ends: the parts from there on are the line and those after its LF
 pub record Next (t : List ℕ) (at to : ℕ) : Type 0 where
   pub rises : at ≤ to
   pub within : to < length t
-  pub parts : splitFrom t at ≡ take (to - at) (drop at t) ∷ splitFrom t (to + 1)
+  pub parts : splitFrom t at ≡ part t at to ∷ splitFrom t (to + 1)
   pub some : Some (splitFrom t (to + 1))
 
 module _ (t : List ℕ) (at : ℕ) where
@@ -80,25 +74,43 @@ module _ (t : List ℕ) (at : ℕ) where
       let d : length (drop at t) ≤ stop - at = omega (arith, length-drop at t) in
       parts-line t at stop refl h ∙ rw (from-out 10 t (stop + 1) o, take-all (stop - at) (drop at t) d))
 
-  -- nothing of it stands there, or something
-  pub rest-some : at < length t → isEmpty (drop at t) ≡ false
-  rest-some h = not-empty (drop at t) (omega (arith, length-drop at t))
+-- A walk over lines: what all of them come to is what `here` makes of those from a place on.
+module _ {R : Type 0} {whole : R} (here : List (List ℕ) → R) (t : List ℕ) (at : ℕ) (w : whole ≡ here (splitFrom t at)) where
+  -- a line, and what `next` makes of those after it
+  pub walk-line : (next : List (List ℕ) → R) {to : ℕ} → lineAt t at ≡ Line to
+      → ((m : List ℕ) (ls : List (List ℕ)) → here (part t at to ∷ m ∷ ls) ≡ next (m ∷ ls)) → whole ≡ next (splitFrom t (to + 1))
+  walk-line after {to} e h = let n = next t at to e in w ∙ rw (n .parts) (on (splitFrom t (to + 1)) (n .some))
+    where
+      on : (ps : List (List ℕ)) → Some ps → here (part t at to ∷ ps) ≡ after ps
+      on [] s = absurd s
+      on (m ∷ ls) s = h m ls
 
-  pub rest-none : length t ≤ at → isEmpty (drop at t) ≡ true
-  rest-none h = rw (drop-of-length-le t h)
+  module _ {r : R} where
+    -- no LF is left, and something stands there
+    pub walk-open : lineAt t at ≡ TextEnd → at < length t → ((b : ℕ) (l : List ℕ) → here ((b ∷ l) ∷ []) ≡ r) → whole ≡ r
+    walk-open e o h = w ∙ rw (last t at (omega arith) e) (on (drop at t) (omega (arith, length-drop at t)))
+      where
+        on : (l : List ℕ) → 0 < length l → here (l ∷ []) ≡ r
+        on [] z = absurd (omega arith)
+        on (b ∷ l) z = h b l
+
+    -- nothing stands there
+    pub walk-end : length t ≤ at → here [] ≡ r → here ([] ∷ []) ≡ r → whole ≡ r
+    unfolding cut
+    walk-end o h k =
+        cases (side (length t) at) (λ q. w ∙ rw (from-out 10 t at q) h)
+        (λ q. let p : at ≤ length t = omega arith in w ∙ rw (from-in 10 t at p, drop-of-length-le t o) k)
+
+    -- no LF is left, whatever stands there
+    pub walk-none : lineAt t at ≡ TextEnd → here [] ≡ r → ((l : List ℕ) → here (l ∷ []) ≡ r) → whole ≡ r
+    walk-none e h k = cases (side (length t) at) (λ q. w ∙ rw (from-out 10 t at q) h) (λ q. w ∙ rw (last t at q e) (k (drop at t)))
 
 -- the lines after line 1 start where line 2 does
 pub body-from : (t : List ℕ) → body (split t) ≡ splitFrom t (lineLen t + 1)
 body-from t = ap body (sym (from-start 10 t) ∙ parts-line t 0 (lineLen t) (omega arith) (omega arith))
 
--- what the lines from a place on say, by what the line there says, with its LF or without
-pub said-line : {A : Type 0} (says : List ℕ → List A) (t : List ℕ) (at e : ℕ) (p : e ≡ at + lineLen (drop at t)) → at ≤ length t
-    → saidIn says (splitFrom t at) ≡ says (line t at e p) ++ saidIn says (splitFrom t (e + 1))
+-- what a line says, before other parts
+pub said-on : {A : Type 0} (says : List ℕ → List A) (l : List ℕ) (ps : List (List ℕ)) → Some ps → saidIn says (l ∷ ps) ≡ says l ++ saidIn says ps
 unfolding saidIn
-said-line says t at e p h = rw (parts-line t at e p h)
-
--- nothing stands there, which says nothing
-pub said-end : {A : Type 0} (says : List ℕ → List A) (t : List ℕ) (at : ℕ) → says [] ≡ [] → length t ≤ at → saidIn says (splitFrom t at) ≡ []
-unfolding saidIn
-said-end says t at b h =
-    cases (side (length t) at) (λ k. rw (from-out 10 t at k)) (λ k. let e : at ≡ length t = omega arith in rw (parts-end t at e, b))
+said-on says l [] s = absurd s
+said-on says l (p ∷ ps) s = refl

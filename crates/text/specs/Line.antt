@@ -29,10 +29,11 @@ abbrev pub body : List (List ℕ) → List (List ℕ)
 body [] = []
 body (l ∷ ls) = ls
 
--- What lines say, one after the other, by what a line says.
+-- What lines say, one after the other, by what a line says. What stands after the last LF is no line.
 unfoldable pub saidIn : {A : Type 0} → (List ℕ → List A) → List (List ℕ) → List A
 saidIn says [] = []
-saidIn says (l ∷ ls) = says l ++ saidIn says ls
+saidIn says (l ∷ []) = []
+saidIn says (l ∷ m ∷ ls) = says l ++ saidIn says (m ∷ ls)
 
 -- Lines with one LF between each two.
 abbrev pub unsplit : List (List ℕ) → List ℕ

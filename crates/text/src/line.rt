@@ -1,7 +1,6 @@
 // The lines of a text.
 ghost use mathlib.Core.Path.{_≡_};
 ghost use Prim.Native.Nat.{_+_};
-ghost use lib.ListN.{drop};
 ghost use Rattle.text.specs.Line.{lineLen, lineAt};
 use super::scan::find;
 
@@ -13,18 +12,11 @@ pub enum LineStep {
     TextEnd,
 }
 
-// Where the line that starts at `from` ends: at the next LF, or at the end of the text.
-pub fn line_end(text: &[u8], from: usize) -> usize
-    ensures { λ r. ⌜ r ≡ from + lineLen (drop from (now (text .entry))) ⌝ }
-{
-    find(text, from, LF)
-}
-
 // The line that starts at a place, up to its LF, or that no LF is left.
 pub fn next_line(text: &[u8], at: usize) -> LineStep
     ensures { λ r. ⌜ r ≡ lineAt (now (text .entry)) at ⌝ }
 {
-    let to = line_end(text, at);
+    let to = find(text, at, LF);
     if text.len() <= to {
         return LineStep::TextEnd;
     }
@@ -35,5 +27,5 @@ pub fn next_line(text: &[u8], at: usize) -> LineStep
 pub fn line_two(text: &[u8]) -> usize
     ensures { λ r. ⌜ r ≡ lineLen (now (text .entry)) + 1 ⌝ }
 {
-    line_end(text, 0) + 1
+    find(text, 0, LF) + 1
 }
