@@ -14,6 +14,10 @@ pub first-done : (x y : Answer) → first x y .number ≡ 0 → (x .number ≡ 0
 first-done x y h =
     cases (either (eqb (x .number) 0)) (λ e. (eqb-true (x .number) 0 e, rw e at h)) (λ e. absurd (eqb-false (x .number) 0 e (rw e at h)))
 
+-- of two refusals, the second is asked where the first does not refuse
+pub settle-first : {R : Type 0} (refused : Answer → R) (x y : Answer) (r : R) → settle refused (first x y) r ≡ settle refused x (settle refused y r)
+settle-first refused x y r = cases (either (eqb (x .number) 0)) (λ e. rw e) (λ e. rw (e, e))
+
 module _ {R : Type 0} (refused : Answer → R) (number : R → ℕ) (told : (a : Answer) → number (refused a) ≡ a .number) where
   pub settled : (a : Answer) (r : R) → number (settle refused a r) ≡ 0 → (a .number ≡ 0) × (settle refused a r ≡ r)
   settled a r h =

@@ -6,12 +6,23 @@ use mathlib.Core.List.{List, [], _∷_}
 use native.Mathlib.Omega.{arith}
 use lib.Dec.{eqb}
 use lib.ListN.{length}
+use borrow.Author.Tests.{eqb-true}
+use Rattle.laws.proofs.Cases.{cases, either}
 use Rattle.event.specs.Answer.{answer}
 use Rattle.event.specs.declared.Answer.{Answer}
 use Rattle.text.specs.Line.{lineAt, splitFrom}
 use Rattle.text.specs.declared.line.LineStep.the-variants.{Line, TextEnd}
 use Rattle.text.proofs.Walk.{part, next, walk-line, walk-open, walk-end}
 use Rattle.frame.specs.Reading.{Layout, linesFault, tried}
+
+-- the lines come to the same by what else is known, if they are refused alike and else the same is made of them
+pub tried-same : {S R : Type 0} (T : Layout S) (refused : Answer → R) (side k : ℕ) (s s′ : S) (out out′ : List (List ℕ) → R) (ls : List (List ℕ))
+    → linesFault T side k s ls ≡ linesFault T side k s′ ls → (linesFault T side k s′ ls .number ≡ 0 → out ls ≡ out′ ls)
+    → tried T refused side k s out ls ≡ tried T refused side k s′ out′ ls
+unfolding tried
+tried-same T refused side k s s′ out out′ ls q h =
+    let a = linesFault T side k s′ ls in
+    rw q (cases (either (eqb (a .number) 0)) (λ e. rw e (h (eqb-true (a .number) 0 e))) (λ e. rw e))
 
 -- what the whole comes to is what the lines from a place on come to, of which the first is line k; there are no more lines than bytes
 pub record Tried {S R : Type 0} (T : Layout S) (refused : Answer → R) (side : ℕ) (whole : R) (t : List ℕ) (k : ℕ) (s : S) (out : List (List ℕ) → R)

@@ -15,8 +15,9 @@ use Rattle.event.proofs.Answers.{Among, Given, none, one, among-first, among-mo
 use Rattle.text.specs.Line.{split, body}
 use Rattle.frame.specs.Reading.{headFault, linesFault, textFault}
 use Rattle.frame.proofs.Answers.{lines-given, head-among, head-in}
+use Rattle.event.specs.Limit.{eventLimit}
 use Rattle.matching.specs.Entry.{header, entryOf}
-use Rattle.matching.specs.Reading.{matchingLimit, entryLimit, entryFault, matchingLayout, surveyOf, readOf}
+use Rattle.matching.specs.Reading.{matchingLimit, entryFault, matchingLayout, surveyOf, readOf}
 use Rattle.matching.specs.declared.entry.EntryRead.{EntryRead}
 use Rattle.matching.specs.declared.entry.EntryRead.the-variants.{Entry, Refused}
 use Rattle.matching.specs.declared.MatchingRead.{MatchingRead}
@@ -27,7 +28,7 @@ matchingFaults = 1 ∷ 2 ∷ 3 ∷ 17 ∷ []
 
 line-fault : (n : ℕ) (r : EntryRead) → (entryFault n r ≡ 0) ⊎ (has (entryFault n r) (2 ∷ 3 ∷ []) ≡ true)
 line-fault n Refused = inr refl
-line-fault n (Entry e) = by-cond (λ (f : ℕ). (f ≡ 0) ⊎ (has f (2 ∷ 3 ∷ []) ≡ true)) (leb entryLimit n) (inr refl) (inl refl)
+line-fault n (Entry e) = by-cond (λ (f : ℕ). (f ≡ 0) ⊎ (has f (2 ∷ 3 ∷ []) ≡ true)) (leb eventLimit n) (inr refl) (inl refl)
 
 module _ (t room : List ℕ) where
   abbrev lines : Answer

@@ -1,5 +1,4 @@
 -- Laws that belong to no one function. Assumes nothing.
-pub mod Lines
 pub mod Stores
 pub mod Readings
 pub mod Prints

@@ -1,12 +1,12 @@
 -- One list of entries has one text: a matching text that is read without refusal has the header and the lines of its entries for parts, and
 -- parts glued together are the text again; and such a text is read as those entries. Assumes nothing.
-use Prim.Native.Nat.{ℕ, suc, _+_, _*_, _≤_}
+use Prim.Native.Nat.{ℕ, _+_, _*_, _≤_}
 use mathlib.Core.Path.{_≡_, refl, sym, _∙_, ap}
 use mathlib.Core.List.{List, [], _∷_, _++_, map}
 use native.Mathlib.Omega.{arith}
 use lib.Dec.{eqb, leb}
 use lib.ListN.{length, length-append}
-use borrow.Author.Tests.{leb-false}
+use borrow.Author.Tests.{leb-false, lt-leb}
 use Rattle.laws.proofs.Cases.{cases, either, not-first}
 use Rattle.laws.specs.Each.{Each}
 use Rattle.laws.proofs.Lists.{Free}
@@ -15,16 +15,17 @@ use Rattle.text.specs.Line.{split, body, saidIn}
 use Rattle.text.proofs.Decimals.{length-below}
 use Rattle.text.proofs.Parts.{cut-glue, glue-cut}
 use Rattle.text.proofs.Round.{decimal-no-lf}
-use Rattle.text.proofs.Walk.{Some}
+use Rattle.text.proofs.Walk.{some-end, said-on}
+use Rattle.frame.specs.Reading.{linesFault}
 use Rattle.frame.proofs.Heads.{framed, by-lines}
-use Rattle.frame.proofs.Lines.{lines-pass}
-use Rattle.matching.specs.Entry.{header, entryOf, entryLine, lastNumber}
-use Rattle.matching.specs.Reading.{matchingLimit, matchingLayout, entryFault, entriesIn, readAs, surveyOf, entriesOf, entryLimit}
-use Rattle.matching.specs.Survey.{surveyLines}
+use Rattle.frame.proofs.Lines.{lines-go, lines-pass}
+use Rattle.event.specs.Answer.{done}
+use Rattle.event.specs.Limit.{eventLimit}
+use Rattle.matching.specs.Entry.{header, entryOf, entryLine}
+use Rattle.matching.specs.Reading.{matchingLimit, matchingLayout, entryFault, entriesOn, entriesIn, readAs, surveyOf, entriesOf}
 use Rattle.matching.specs.Text.{matchText, Fits}
 use Rattle.matching.specs.declared.entry.EntryRead.{EntryRead}
 use Rattle.matching.specs.declared.entry.EntryRead.the-variants.{Entry, Refused}
-use Rattle.matching.proofs.Lines.{blank, read-all, read-go, read-end}
 use Rattle.matching.proofs.Prints.{entry-read, entry-back}
 use Rattle.matching.proofs.Readings.{survey-done}
 
@@ -34,17 +35,18 @@ tail es = map entryLine es ++ ([] ∷ [])
 
 -- lines that are those of their entries, which fit behind n others
 abbrev Printed : ℕ → List (List ℕ) → Type 0
-Printed n ls = n ≤ entryLimit → (ls ≡ tail (entriesIn ls)) × ((n + length (entriesIn ls) ≤ entryLimit) × Each (λ e. e ≤ lastNumber) (entriesIn ls))
+Printed n ls = n ≤ eventLimit → (ls ≡ tail (entriesIn ls)) × ((n + length (entriesIn ls) ≤ eventLimit) × Each (λ e. e ≤ eventLimit) (entriesIn ls))
 
 last-printed : (n : ℕ) → Printed n ([] ∷ [])
 unfolding saidIn
-last-printed n b = rw blank (refl, (omega arith, tt))
+last-printed n b = (refl, (omega arith, tt))
 
-line-printed : (n : ℕ) (l : List ℕ) (ls : List (List ℕ)) (r : EntryRead) → entryOf l ≡ r → entryFault n r ≡ 0 → Printed (n + 1) ls → Printed n (l ∷ ls)
+line-printed : (n : ℕ) (l m : List ℕ) (ls : List (List ℕ)) (r : EntryRead) → entryOf l ≡ r → entryFault n r ≡ 0 → Printed (n + 1) (m ∷ ls)
+    → Printed n (l ∷ m ∷ ls)
 unfolding saidIn
-line-printed n l ls Refused q h g b = absurd (omega arith)
-line-printed n l ls (Entry e) q h g b =
-    let f = leb-false entryLimit n (not-first (λ (x : ℕ). x) (leb entryLimit n) 3 0 (λ z. omega arith) h .0) in
+line-printed n l m ls Refused q h g b = absurd (omega arith)
+line-printed n l m ls (Entry e) q h g b =
+    let f = leb-false eventLimit n (not-first (λ (x : ℕ). x) (leb eventLimit n) 3 0 (λ z. omega arith) h .0) in
     let p = g (omega (arith, f)) in
     let s = entry-back l e q in
     (rw (q, ← s .0, ← p .0), rw q (omega (arith, p .1 .0), (s .1, p .1 .1)))
@@ -56,7 +58,7 @@ unfolding entriesOf
 text-back t h =
     let f = framed matchingLayout 3 t (survey-done t h .0) in
     let p =
-    lines-pass matchingLayout 3 Printed last-printed (λ n l ls. line-printed n l ls (entryOf l) refl) 2 0 (body (split t)) (f .some) (f .lines)
+    lines-pass matchingLayout 3 Printed last-printed (λ n l m ls. line-printed n l m ls (entryOf l) refl) 2 0 (body (split t)) (f .some) (f .lines)
     (omega arith) in
     let e = ap (λ (qs : List (List ℕ)). header ∷ qs) (sym (p .0)) ∙ sym (f .parts) in
     (ap (glue 10) e ∙ glue-cut 10 t, record { few = omega (arith, p .1 .0); numbers = p .1 .1 })
@@ -66,20 +68,18 @@ pub one-text : (t u : List ℕ) → surveyOf t .answer .number ≡ 0 → surveyO
 one-text t u h k q = sym (text-back t h .0) ∙ rw q (text-back u k .0)
 
 -- and such a text is read as those entries
-some-end : (es : List ℕ) → Some (tail es)
-some-end [] = tt
-some-end (e ∷ es) = tt
+tail-lines : (k n : ℕ) (es : List ℕ) → n + length es ≤ eventLimit → Each (λ e. e ≤ eventLimit) es → linesFault matchingLayout 3 k n (tail es) ≡ done
+unfolding linesFault
+tail-lines k n [] b h = refl
+tail-lines k n (e ∷ es) b h =
+    lines-go matchingLayout 3 k n (entryLine e) (tail es) (some-end (map entryLine es)) (rw (entry-read e (h .0), lt-leb eventLimit n (omega arith)))
+    ∙ tail-lines (k + 1) (n + 1) es (omega arith) (h .1)
 
-tail-lines : (n : ℕ) (es : List ℕ) → n + length es ≤ entryLimit → Each (λ e. e ≤ lastNumber) es → surveyLines n (tail es) ≡ readAs (n + length es)
-tail-lines n [] b h = let z : n + 0 ≡ n = omega arith in rw z (read-end n [] refl refl)
-tail-lines n (e ∷ es) b h =
-    let z : n + suc (length es) ≡ n + 1 + length es = omega arith in
-    read-go n (entryLine e) (tail es) (some-end es) e (entry-read e (h .0)) (omega arith) ∙ rw z (tail-lines (n + 1) es (omega arith) (h .1))
-
-tail-entries : (es : List ℕ) → Each (λ e. e ≤ lastNumber) es → entriesIn (tail es) ≡ es
+tail-entries : (es : List ℕ) → Each (λ e. e ≤ eventLimit) es → entriesIn (tail es) ≡ es
 unfolding saidIn
-tail-entries [] h = rw blank
-tail-entries (e ∷ es) h = rw (entry-read e (h .0), tail-entries es (h .1))
+tail-entries [] h = refl
+tail-entries (e ∷ es) h =
+    said-on (λ l. entriesOn (entryOf l)) (entryLine e) (tail es) (some-end (map entryLine es)) ∙ rw (entry-read e (h .0), tail-entries es (h .1))
 
 -- an entry's line has no LF, and at most 8 bytes
 line-free : (n : ℕ) → Free 10 (entryLine n)
@@ -93,11 +93,11 @@ tail-free : (es : List ℕ) → Each (Free 10) (tail es)
 tail-free [] = (tt, tt)
 tail-free (e ∷ es) = (line-free e, tail-free es)
 
-line-length : (n : ℕ) → n ≤ lastNumber → length (entryLine n) ≤ 8
+line-length : (n : ℕ) → n ≤ eventLimit → length (entryLine n) ≤ 8
 unfolding entryLine glue
 line-length n h = cases (either (eqb n 0)) (λ e. rw e (omega arith)) (λ e. rw e (omega (arith, length-below 2 n (omega arith))))
 
-tail-length : (p : List ℕ) (es : List ℕ) → Each (λ e. e ≤ lastNumber) es → length (glue 10 (p ∷ tail es)) ≤ length p + 1 + length es * 9
+tail-length : (p : List ℕ) (es : List ℕ) → Each (λ e. e ≤ eventLimit) es → length (glue 10 (p ∷ tail es)) ≤ length p + 1 + length es * 9
 unfolding glue
 tail-length p [] h = omega (arith, length-append p (10 ∷ []))
 tail-length p (e ∷ es) h =
@@ -114,8 +114,6 @@ unfolding surveyOf entriesOf
 text-read es f =
     let short : length (matchText es) ≤ matchingLimit = omega (arith, tail-length header es (f .numbers), f .few) in
     let q : split (matchText es) ≡ header ∷ tail es = cut-glue 10 header (tail es) (header-free, tail-free es) in
-    let z : 0 + length es ≡ length es = omega arith in
-    let l = tail-lines 0 es (omega (arith, f .few)) (f .numbers) in (
-      rw (by-lines matchingLayout 3 (matchText es) (tail es) short q (some-end es), q) (sym (read-all (tail es)) ∙ l ∙ rw z),
-      rw q (tail-entries es (f .numbers)),
-    )
+    let l = tail-lines 2 0 es (omega (arith, f .few)) (f .numbers) in
+    let r = tail-entries es (f .numbers) in
+    (rw (by-lines matchingLayout 3 (matchText es) (tail es) short q (some-end (map entryLine es)), l, q, r), rw q r)

@@ -3,15 +3,12 @@ use Prim.Native.Nat.{ℕ}
 use mathlib.Core.Bool.{cond}
 use mathlib.Core.List.{List, [], _∷_}
 use lib.Dec.{eqb}
+use Rattle.event.specs.Limit.{eventLimit}
 use Rattle.text.specs.Field.{fields, onField, onEnd, join}
 use Rattle.text.specs.Number.{numberOf, onNumber, decimal}
 use Rattle.text.specs.Word.{bytes, sameBytes}
 use Rattle.matching.specs.declared.entry.EntryRead.{EntryRead}
 use Rattle.matching.specs.declared.entry.EntryRead.the-variants.{Entry, Refused}
-
--- The greatest target number.
-abbrev pub lastNumber : ℕ
-lastNumber = 800
 
 abbrev pub keepWord : List ℕ
 keepWord = bytes "keep"
@@ -23,10 +20,10 @@ goneWord = bytes "gone"
 abbrev pub header : List ℕ
 header = bytes "match\t1"
 
--- `keep`, after the word: a target number, and nothing more.
+-- `keep`, after the word: a target number, which is at most that of the last event, and nothing more.
 unfoldable pub keepRest : List (List ℕ) → EntryRead
 keepRest fs =
-    onField Refused fs (λ f rest. onNumber Refused (numberOf lastNumber f) (λ n.
+    onField Refused fs (λ f rest. onNumber Refused (numberOf eventLimit f) (λ n.
     onEnd Refused rest (cond (eqb n 0) Refused (Entry n))))
 
 -- `gone`, and nothing more.

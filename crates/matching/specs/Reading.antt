@@ -5,6 +5,7 @@ use mathlib.Core.List.{List, [], _∷_, _++_}
 use lib.Dec.{eqb, leb}
 use lib.ListN.{length, drop}
 use Rattle.event.specs.Answer.{done}
+use Rattle.event.specs.Limit.{eventLimit}
 use Rattle.event.specs.declared.Answer.{Answer}
 use Rattle.text.specs.Line.{split, body, saidIn}
 use Rattle.frame.specs.Reading.{Layout, textFault, settle, fitted}
@@ -17,14 +18,10 @@ use Rattle.matching.specs.declared.MatchingRead.{MatchingRead}
 abbrev pub matchingLimit : ℕ
 matchingLimit = 32400
 
--- The most entries.
-abbrev pub entryLimit : ℕ
-entryLimit = 800
-
--- The refusal of a line after n entries, 2 or 3; 0 for none.
+-- The refusal of a line after n entries, 2 or 3; 0 for none. An entry is a source event's, so that there are at most as many.
 abbrev pub entryFault : ℕ → EntryRead → ℕ
 entryFault n Refused = 2
-entryFault n (Entry e) = cond (leb entryLimit n) 3 0
+entryFault n (Entry e) = cond (leb eventLimit n) 3 0
 
 -- The layout of a matching: what is known is the number of entries so far.
 abbrev pub matchingLayout : Layout ℕ

@@ -2,6 +2,7 @@
 ghost use mathlib.Core.Path.{_≡_};
 ghost use Rattle.text.specs.Field.{fieldsFrom};
 ghost use Rattle.matching.specs.Entry.{keepRest, goneRest, entryOf};
+use event::EVENT_LIMIT;
 use event::Entry;
 use text::field::FieldStep;
 use text::reader::field_of;
@@ -10,8 +11,8 @@ use text::take::ends_at;
 use text::take::take_number;
 use text::word::same_bytes;
 
-// The greatest target number.
-pub const LAST_NUMBER: u64 = 800;
+// The greatest target number: that of the last event that a trace may have.
+const LAST_NUMBER: u64 = EVENT_LIMIT as u64;
 
 // The kept target number, or 0 for gone.
 pub enum EntryRead {

@@ -12,19 +12,16 @@ ghost use Rattle.matching.specs.Survey.{surveyLines};
 use entry::EntryRead;
 use entry::entry_of;
 use event::Answer;
+use event::EVENT_LIMIT;
 use event::Entry;
 use event::Number;
 use frame::head_fault;
 use text::line::LineStep;
-use text::line::line_end;
 use text::line::line_two;
 use text::line::next_line;
 
 // The most bytes.
 const MATCHING_LIMIT: usize = 32400;
-
-// The most entries.
-pub const ENTRY_LIMIT: usize = 800;
 
 // What a reading hands back: its answer and the number of entries, 0 under a refusal.
 pub struct MatchingRead {
@@ -40,7 +37,6 @@ fn refusal(answer: Answer) -> MatchingRead
 
 // The lines after line 1: each is tried for 2 and 3.
 fn survey_lines(text: &[u8], from: usize) -> MatchingRead
-    requires { ⌜ from ≤ length (now text) ⌝ }
     requires { ⌜ 2 ≤ from ⌝ }
     ensures { λ r. ⌜ r ≡ surveyLines 0 (splitFrom (now (text .entry)) from) ⌝ }
 {
@@ -53,7 +49,7 @@ fn survey_lines(text: &[u8], from: usize) -> MatchingRead
         let EntryRead::Entry(_) = entry_of(&text[at..to]) else {
             return refusal(Answer::new(2, 3, n + 2));
         };
-        if ENTRY_LIMIT <= n {
+        if EVENT_LIMIT <= n {
             return refusal(Answer::new(3, 3, n + 2));
         }
         n += 1;
@@ -120,10 +116,12 @@ pub fn store(text: &[u8], room: &mut [Entry])
 {
     let mut at = line_two(text);
     let mut i: usize = 0;
-    while at < text.len() {
-        let end = line_end(text, at);
-        i = put_entry(room, i, entry_of(&text[at..end]));
-        at = end + 1;
+    loop {
+        let LineStep::Line { to } = next_line(text, at) else {
+            return;
+        };
+        i = put_entry(room, i, entry_of(&text[at..to]));
+        at = to + 1;
     }
 }
 

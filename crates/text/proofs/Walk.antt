@@ -74,19 +74,31 @@ module _ (t : List ℕ) (at : ℕ) where
       let d : length (drop at t) ≤ stop - at = omega (arith, length-drop at t) in
       parts-line t at stop refl h ∙ rw (from-out 10 t (stop + 1) o, take-all (stop - at) (drop at t) d))
 
+-- what holds of the parts from a place on, and of those after it: a line stands there, or no LF is left
+pub by-line : (P : List (List ℕ) → List (List ℕ) → Type 0) (t : List ℕ) (at : ℕ) {to : ℕ} → lineAt t at ≡ Line to
+    → ((m : List ℕ) (ls : List (List ℕ)) → P (part t at to ∷ m ∷ ls) (m ∷ ls)) → P (splitFrom t at) (splitFrom t (to + 1))
+by-line P t at {to} e h = let n = next t at to e in rw (n .parts) (on (splitFrom t (to + 1)) (n .some))
+  where
+    on : (ps : List (List ℕ)) → Some ps → P (part t at to ∷ ps) ps
+    on [] s = absurd s
+    on (m ∷ ls) s = h m ls
+
+pub by-end : (P : List (List ℕ) → Type 0) (t : List ℕ) (at : ℕ) → lineAt t at ≡ TextEnd → P [] → ((l : List ℕ) → P (l ∷ [])) → P (splitFrom t at)
+by-end P t at e h k = cases (side (length t) at) (λ q. rw (from-out 10 t at q) h) (λ q. rw (last t at q e) (k (drop at t)))
+
 -- A walk over lines: what all of them come to is what `here` makes of those from a place on.
 module _ {R : Type 0} {whole : R} (here : List (List ℕ) → R) (t : List ℕ) (at : ℕ) (w : whole ≡ here (splitFrom t at)) where
-  -- a line, and what `next` makes of those after it
-  pub walk-line : (next : List (List ℕ) → R) {to : ℕ} → lineAt t at ≡ Line to
-      → ((m : List ℕ) (ls : List (List ℕ)) → here (part t at to ∷ m ∷ ls) ≡ next (m ∷ ls)) → whole ≡ next (splitFrom t (to + 1))
-  walk-line after {to} e h = let n = next t at to e in w ∙ rw (n .parts) (on (splitFrom t (to + 1)) (n .some))
-    where
-      on : (ps : List (List ℕ)) → Some ps → here (part t at to ∷ ps) ≡ after ps
-      on [] s = absurd s
-      on (m ∷ ls) s = h m ls
+  -- a line, and what `after` makes of those after it
+  pub walk-line : (after : List (List ℕ) → R) {to : ℕ} → lineAt t at ≡ Line to
+      → ((m : List ℕ) (ls : List (List ℕ)) → here (part t at to ∷ m ∷ ls) ≡ after (m ∷ ls)) → whole ≡ after (splitFrom t (to + 1))
+  walk-line after e h = w ∙ by-line (λ ps qs. here ps ≡ after qs) t at e h
 
   module _ {r : R} where
-    -- no LF is left, and something stands there
+    -- no LF is left, whatever stands there
+    pub walk-none : lineAt t at ≡ TextEnd → here [] ≡ r → ((l : List ℕ) → here (l ∷ []) ≡ r) → whole ≡ r
+    walk-none e h k = w ∙ by-end (λ ps. here ps ≡ r) t at e h k
+
+    -- something stands there
     pub walk-open : lineAt t at ≡ TextEnd → at < length t → ((b : ℕ) (l : List ℕ) → here ((b ∷ l) ∷ []) ≡ r) → whole ≡ r
     walk-open e o h = w ∙ rw (last t at (omega arith) e) (on (drop at t) (omega (arith, length-drop at t)))
       where
@@ -100,10 +112,6 @@ module _ {R : Type 0} {whole : R} (here : List (List ℕ) → R) (t : List ℕ) 
     walk-end o h k =
         cases (side (length t) at) (λ q. w ∙ rw (from-out 10 t at q) h)
         (λ q. let p : at ≤ length t = omega arith in w ∙ rw (from-in 10 t at p, drop-of-length-le t o) k)
-
-    -- no LF is left, whatever stands there
-    pub walk-none : lineAt t at ≡ TextEnd → here [] ≡ r → ((l : List ℕ) → here (l ∷ []) ≡ r) → whole ≡ r
-    walk-none e h k = cases (side (length t) at) (λ q. w ∙ rw (from-out 10 t at q) h) (λ q. w ∙ rw (last t at q e) (k (drop at t)))
 
 -- the lines after line 1 start where line 2 does
 pub body-from : (t : List ℕ) → body (split t) ≡ splitFrom t (lineLen t + 1)

@@ -1,14 +1,15 @@
 -- With what the lines from here on say, the room comes out as with all that the text says. Assumes nothing.
-use Prim.Native.Nat.{ℕ, _+_, _-_, _≤_}
-use mathlib.Core.Path.{ap}
+use Prim.Native.Nat.{ℕ, _-_, _≤_}
+use mathlib.Core.Path.{_≡_, sym, _∙_, ap}
 use mathlib.Core.List.{List}
 use native.Mathlib.Omega.{arith}
 use borrow.Author.Needs.{needs}
 use lib.ListN.{length, set}
-use Rattle.text.proofs.Walk.{line-in}
+use Rattle.text.specs.Line.{lineAt}
+use Rattle.text.specs.declared.line.LineStep.the-variants.{Line}
+use Rattle.text.proofs.Walk.{Next, next}
 use Rattle.frame.proofs.Stores.{Held, held-start, held-step, held-all}
 use Rattle.matching.specs.Reading.{entriesOn, entriesOf}
-use Rattle.matching.proofs.Lines.{blank}
 use Rattle.matching.proofs.Stores.{entries-put, says, brief}
 use Rattle.matching.proofs.store.Statement.{statement}
 use Rattle.matching.proofs.store.Tie as tie
@@ -17,45 +18,44 @@ abbrev Inv-loop : tie.InvT-loop
 Inv-loop text room₀ at₀ i₀ room at i = Held set entries-put says brief text room₀ i room at
 
 abbrev μ-loop : tie.MeasureT-loop
-μ-loop text room₀ at₀ i₀ room at i = length text + 1 - at
+μ-loop text room₀ at₀ i₀ room at i = length text - at
 
 -- a turn's line
-module _ (c : tie.After-line-end Inv-loop μ-loop) where
-  abbrev begin : tie.Start Inv-loop μ-loop
-  begin = c .before .before .before .before .before .before
+module _ (c : tie.After-to Inv-loop μ-loop) where
+  abbrev l : tie.At-loop Inv-loop μ-loop
+  l = c .before .before .before
 
   abbrev text : List ℕ
-  text = begin .args .text .now
+  text = l .before .before .before .before .args .text .now
 
-  abbrev at : ℕ
-  at = c .before .before .loop .at
+  here : lineAt text (l .loop .at) ≡ Line (c .to .given .0 .0)
+  here = sym (c .before .before .next-line .ensures) ∙ c .to .given .1
 
-  ends : (at ≤ c .line-end .result) × (c .line-end .result ≤ length text)
-  ends = line-in text at (c .line-end .result) (c .line-end .ensures) (omega arith)
+  -- it lies within the text, and there are no more entries than bytes before it
+  line : Next text (l .loop .at) (c .to .given .0 .0) × (l .loop .i ≤ l .loop .at)
+  line = (next _ _ _ here, l .loop .inv .few)
 
--- the index is at most the place in the text
-small : tie.Need-put-entry-requires Inv-loop μ-loop
-small c κs = let e = c .before .before .before in omega (arith, e .before .before .loop .inv .few, begin e .good)
+-- it is put
+abbrev put : tie.After-slice-known2 Inv-loop μ-loop → tie.After-put-entry Inv-loop μ-loop
+put c = c .before .before
 
--- what it adds
-module _ (c : tie.After-put-entry Inv-loop μ-loop) where
-  abbrev e : tie.After-line-end Inv-loop μ-loop
-  e = c .before .before .before .before
-
-  next-held : Held set entries-put says brief (text e) (begin e .args .room .now) (c .put-entry .result) (c .put-entry .last .0) (e .line-end .result + 1)
-  next-held =
-      held-step set entries-put says brief (text e) (begin e .args .room .now) (at e) (e .line-end .result) (omega arith) (e .line-end .ensures)
-      (e .before .before .loop .i) _ (e .before .before .loop .room) _ (entriesOn (c .before .entry-of .result)) (ap entriesOn (c .before .entry-of .ensures))
-      (c .put-entry .ensures .0) (c .put-entry .ensures .1) (e .before .before .loop .inv)
+abbrev its : tie.After-entry-of Inv-loop μ-loop → tie.After-to Inv-loop μ-loop
+its c = c .before .before .before .before
 
 loop-holds : tie.Need-loop-holds Inv-loop μ-loop
 loop-holds c = rw (c .line-two .ensures) (held-start set entries-put says brief _ _)
 
+loop-again : tie.Need-loop-again Inv-loop μ-loop
+loop-again c =
+    let e = put c .before in
+    held-step set entries-put says brief _ _ (l (its e) .loop .inv) (here (its e)) (entriesOn (e .entry-of .result)) (ap entriesOn (e .entry-of .ensures))
+    (put c .put-entry .ensures .0) (put c .put-entry .ensures .1)
+
 returns : tie.Need-returns Inv-loop μ-loop
 unfolding entriesOf
 returns c =
-    let t = c .before .before .before .before .before .args .text .now in
-    held-all set entries-put says brief t _ _ _ (c .before .loop .at) (rw blank) (omega arith) (c .before .loop .inv)
+    let o = c .before .before in
+    held-all set entries-put says brief _ _ (o .before .loop .inv) (sym (o .next-line .ensures) ∙ c .enum-told .given .1)
 
 pub store-spec : {M : Type 1} → statement M
 store-spec =
@@ -66,13 +66,15 @@ store-spec =
     (search needs)
     loop-holds
     (search needs)
-    (λ c. omega (arith, ends (c .before)))
-    (λ c. omega (arith, ends (c .before)))
-    (λ c. omega (arith, ends (c .before)))
     (search needs)
-    small
-    (λ c. omega (arith, ends (e (c .before .before))))
-    (λ c. omega (arith, ends (e (c .before .before))))
-    (λ c. next-held (c .before .before))
-    (λ c. c .before .loop .inv .size)
-    returns)
+    (search needs)
+    (λ c. c .before .before .before .loop .inv .size)
+    returns
+    (λ c. omega (arith, line (c .before .before)))
+    (λ c. omega (arith, line (c .before .before)))
+    (λ c. omega (arith, line (c .before .before)))
+    (search needs)
+    (λ c κs. omega (arith, line (its c)))
+    (λ c. omega (arith, line (its (put c .before))))
+    (λ c. omega (arith, line (its (put c .before))))
+    loop-again)
