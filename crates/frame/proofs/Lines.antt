@@ -1,7 +1,7 @@
 -- The first refusal of lines, one line at a time; and what holds of lines none of which is refused. Assumes nothing.
 use Prim.Native.Nat.{ℕ, _+_}
 use mathlib.Core.Path.{_≡_}
-use mathlib.Core.Bool.{false, cond}
+use mathlib.Core.Bool.{cond}
 use mathlib.Core.List.{List, [], _∷_}
 use native.Mathlib.Omega.{arith}
 use lib.Dec.{eqb}
@@ -12,14 +12,8 @@ use Rattle.text.specs.Cut.{isEmpty}
 use Rattle.text.proofs.Walk.{Some}
 use Rattle.frame.specs.Reading.{Layout, linesFault}
 
+-- a line is not refused
 module _ {S : Type 0} (T : Layout S) (side k : ℕ) (s : S) where
-  -- a line is refused
-  pub lines-stop : (l : List ℕ) (ps : List (List ℕ)) (x : ℕ) → Some ps → T .fault s l ≡ x → eqb x 0 ≡ false → linesFault T side k s (l ∷ ps) ≡ answer x side k
-  unfolding linesFault
-  lines-stop l [] x o h z = absurd o
-  lines-stop l (p ∷ ps) x o h z = rw (h, z)
-
-  -- a line is not refused
   pub lines-go : (l : List ℕ) (ps : List (List ℕ)) → Some ps → T .fault s l ≡ 0 → linesFault T side k s (l ∷ ps) ≡ linesFault T side (k + 1) (T .next s l) ps
   unfolding linesFault
   lines-go l [] o h = absurd o

@@ -1,25 +1,15 @@
 -- What a record that was read says, as its readers need it: an event is lawful, and a starting value's location is in range. Assumes nothing.
 use Prim.Native.Nat.{ℕ, _≤_}
-use mathlib.Core.Path.{_≡_, refl}
+use mathlib.Core.Path.{_≡_}
 use mathlib.Core.Bool.{true}
-use mathlib.Core.List.{List, []}
+use mathlib.Core.List.{List}
 use Rattle.event.specs.Limit.{lastPlace}
-use Rattle.kinds.specs.Kind.{row, lawful, takes}
+use Rattle.kinds.specs.Kind.{lawful}
 use Rattle.event.specs.declared.Event.{Event}
-use Rattle.text.specs.Cut.{cut}
-use Rattle.text.specs.Word.{sameBytes}
-use Rattle.record.specs.Layout.{numberIn}
-use Rattle.record.specs.Record.{numberIf, orderIf, eventRest, recordOf}
+use Rattle.record.specs.Record.{recordOf}
 use Rattle.record.specs.declared.form.Form.{Form}
-use Rattle.record.specs.declared.form.Form.the-variants.{One, Two}
-use Rattle.record.specs.declared.Record.the-variants.{Init, AnEvent, Refused}
+use Rattle.record.specs.declared.Record.the-variants.{Init, AnEvent}
 use Rattle.record.proofs.Layouts.{line-says, init-back}
-
--- an empty line is no record
-pub blank : (f : Form) → recordOf f [] ≡ Refused
-unfolding recordOf eventRest numberIf orderIf numberIn cut sameBytes row lawful takes
-blank One = refl
-blank Two = refl
 
 pub line-lawful : (f : Form) (l : List ℕ) (e : Event) → recordOf f l ≡ AnEvent e → lawful e ≡ true
 line-lawful f l e h = line-says f l e h .1 .law

@@ -6,13 +6,13 @@ use mathlib.Core.List.{List, [], _∷_, _++_}
 use native.Mathlib.Omega.{arith}
 use lib.Dec.{ltb}
 use lib.ListN.{length, take, drop, length-drop, drop-of-length-le}
-use lib.Seq.{take-all}
+use lib.Seq.{length-take-le}
 use borrow.Author.Tests.{ltb-true, ltb-false}
 use Rattle.laws.proofs.Cases.{cases, either, side}
 use Rattle.text.specs.Cut.{cut}
 use Rattle.text.specs.Line.{lineLen, lineAt, split, splitFrom, body, saidIn}
 use Rattle.text.specs.declared.line.LineStep.the-variants.{Line, TextEnd}
-use Rattle.text.proofs.Cuts.{from-start, from-step, from-in, from-out}
+use Rattle.text.proofs.Cuts.{from-start, from-step, from-in, from-out, until-in}
 
 -- some part is left
 abbrev pub Some : List (List ℕ) → Type 0
@@ -30,6 +30,9 @@ some-end ls = some-after ls ([] ∷ []) tt
 -- the part of a text from one place to another
 abbrev pub part : List ℕ → ℕ → ℕ → List ℕ
 part t at to = take (to - at) (drop at t)
+
+pub part-length : (t : List ℕ) (at to : ℕ) → to ≤ length t → length (part t at to) ≡ to - at
+part-length t at to h = length-take-le (to - at) (drop at t) (omega (arith, length-drop at t))
 
 -- a part that starts at a place within the text, and those after it
 parts-line : (t : List ℕ) (at e : ℕ) → e ≡ at + lineLen (drop at t) → at ≤ length t → splitFrom t at ≡ part t at e ∷ splitFrom t (e + 1)
@@ -65,14 +68,13 @@ module _ (t : List ℕ) (at : ℕ) where
       (λ q. absurd (let z : _≡_ {A = ℕ} 0 1 = cc (rw q at e) in omega arith))
 
   -- no LF is left: what stands there is the last part
-  pub last : at ≤ length t → lineAt t at ≡ TextEnd → splitFrom t at ≡ drop at t ∷ []
+  pub last : at ≤ length t → lineAt t at ≡ TextEnd → splitFrom t at ≡ part t at (length t) ∷ []
   unfolding lineAt
   last h e =
       cases (either (ltb stop (length t))) (λ q. absurd (let z : _≡_ {A = ℕ} 0 1 = cc (rw q at e) in omega arith))
-      (λ q. let w = ltb-false stop (length t) q in
-      let o : length t < stop + 1 = omega arith in
-      let d : length (drop at t) ≤ stop - at = omega (arith, length-drop at t) in
-      parts-line t at stop refl h ∙ rw (from-out 10 t (stop + 1) o, take-all (stop - at) (drop at t) d))
+      (λ q. let s : length t ≡ stop = omega (arith, ltb-false stop (length t) q, until-in 10 t at h) in
+      let o : length t < length t + 1 = omega arith in
+      parts-line t at (length t) s h ∙ rw (from-out 10 t (length t + 1) o))
 
 -- what holds of the parts from a place on, and of those after it: a line stands there, or no LF is left
 pub by-line : (P : List (List ℕ) → List (List ℕ) → Type 0) (t : List ℕ) (at : ℕ) {to : ℕ} → lineAt t at ≡ Line to
@@ -84,7 +86,7 @@ by-line P t at {to} e h = let n = next t at to e in rw (n .parts) (on (splitFrom
     on (m ∷ ls) s = h m ls
 
 pub by-end : (P : List (List ℕ) → Type 0) (t : List ℕ) (at : ℕ) → lineAt t at ≡ TextEnd → P [] → ((l : List ℕ) → P (l ∷ [])) → P (splitFrom t at)
-by-end P t at e h k = cases (side (length t) at) (λ q. rw (from-out 10 t at q) h) (λ q. rw (last t at q e) (k (drop at t)))
+by-end P t at e h k = cases (side (length t) at) (λ q. rw (from-out 10 t at q) h) (λ q. rw (last t at q e) (k (part t at (length t))))
 
 -- A walk over lines: what all of them come to is what `here` makes of those from a place on.
 module _ {R : Type 0} {whole : R} (here : List (List ℕ) → R) (t : List ℕ) (at : ℕ) (w : whole ≡ here (splitFrom t at)) where
@@ -100,7 +102,7 @@ module _ {R : Type 0} {whole : R} (here : List (List ℕ) → R) (t : List ℕ) 
 
     -- something stands there
     pub walk-open : lineAt t at ≡ TextEnd → at < length t → ((b : ℕ) (l : List ℕ) → here ((b ∷ l) ∷ []) ≡ r) → whole ≡ r
-    walk-open e o h = w ∙ rw (last t at (omega arith) e) (on (drop at t) (omega (arith, length-drop at t)))
+    walk-open e o h = w ∙ rw (last t at (omega arith) e) (on (part t at (length t)) (omega (arith, part-length t at (length t) (omega arith))))
       where
         on : (l : List ℕ) → 0 < length l → here (l ∷ []) ≡ r
         on [] z = absurd (omega arith)

@@ -18,17 +18,17 @@ use Rattle.text.specs.Cut.{cut}
 use Rattle.text.specs.Line.{split, saidIn}
 use Rattle.text.specs.Word.{sameBytes}
 use Rattle.text.proofs.Parts.{cut-part}
-use Rattle.text.proofs.Walk.{Some}
+use Rattle.text.proofs.Walk.{Some, some-after, some-end, said-on}
 use Rattle.record.specs.Form.{header, limitOf}
 use Rattle.record.specs.Layout.{eventLine, initLine}
-use Rattle.record.specs.Record.{Fit}
+use Rattle.record.specs.Record.{Fit, recordOf}
 use Rattle.uses.specs.Cover.{Start, touched, starts}
 use Rattle.trace.specs.Fault.{coverFault}
 use Rattle.trace.specs.Fault.{eventFaultIn}
 use Rattle.frame.specs.Reading.{headed, linesFault}
 use Rattle.frame.proofs.Heads.{by-lines}
-use Rattle.frame.proofs.Lines.{lines-end, lines-go}
-use Rattle.trace.specs.Reading.{SoFar, formOf, traceLayout, eventsIn, initsIn, startIn, readAs, faultIn, surveyIn, eventsOf, initsOf, readIn, front, roomAfterIn}
+use Rattle.frame.proofs.Lines.{lines-go}
+use Rattle.trace.specs.Reading.{SoFar, formOf, traceLayout, eventsOn, initsOn, eventsIn, initsIn, startIn, readAs, faultIn, surveyIn, eventsOf, initsOf, readIn, front, roomAfterIn}
 use Rattle.trace.specs.Writing.{textOf, hasLine, startLine, textBy, traceText}
 use Rattle.trace.specs.Text.{Fits}
 use Rattle.record.specs.declared.form.Form.{Form}
@@ -39,16 +39,7 @@ use Rattle.trace.proofs.Covered.{Heard, each-heard, fit-inside, covered
 use Rattle.uses.proofs.Starts.{Rising, rising-starts, filled-starts}
 use Rattle.trace.proofs.Range.{text-length, longest-short}
 use Rattle.trace.proofs.Readings.{read-done}
-use Rattle.record.proofs.Records.{blank}
 use Rattle.event.specs.Limit.{eventLimit}
-
-some-end : (ls : List (List ℕ)) → Some (ls ++ ([] ∷ []))
-some-end [] = tt
-some-end (l ∷ ls) = tt
-
-some-after : (ls ts : List (List ℕ)) → Some ts → Some (ls ++ ts)
-some-after [] ts h = h
-some-after (l ∷ ls) ts h = tt
 
 inits-free : (is : List Start) → Each (Free 10) (map startLine is)
 inits-free [] = tt
@@ -81,7 +72,8 @@ module _ (f : Form) where
 
   -- the lines of events are read without refusal, as the events, and leave the cells alone
   tail-lines : (side k : ℕ) (s : SoFar) (es : List Event) → s .events + length es ≤ eventLimit → Each (Fit f) es → linesFault (traceLayout f) side k s (tail es) ≡ done
-  tail-lines side k s [] b h = lines-end (traceLayout f) side k s [] refl
+  unfolding linesFault
+  tail-lines side k s [] b h = refl
   tail-lines side k s (e ∷ es) b h =
       let q = event-read f e (h .0) in
       lines-go (traceLayout f) side k s (eventLine f e) (tail es) (some-end (map (eventLine f) es)) (rw (q, lt-leb eventLimit (s .events) (omega arith)))
@@ -89,13 +81,15 @@ module _ (f : Form) where
 
   tail-events : (es : List Event) → Each (Fit f) es → eventsIn f (tail es) ≡ es
   unfolding saidIn
-  tail-events [] h = rw (blank f)
-  tail-events (e ∷ es) h = rw (event-read f e (h .0), tail-events es (h .1))
+  tail-events [] h = refl
+  tail-events (e ∷ es) h =
+      said-on (λ l. eventsOn (recordOf f l)) (eventLine f e) (tail es) (some-end (map (eventLine f) es)) ∙ rw (event-read f e (h .0), tail-events es (h .1))
 
   tail-inits : (es : List Event) → Each (Fit f) es → initsIn f (tail es) ≡ []
   unfolding saidIn
-  tail-inits [] h = rw (blank f)
-  tail-inits (e ∷ es) h = rw (event-read f e (h .0)) (tail-inits es (h .1))
+  tail-inits [] h = refl
+  tail-inits (e ∷ es) h =
+      said-on (λ l. initsOn (recordOf f l)) (eventLine f e) (tail es) (some-end (map (eventLine f) es)) ∙ rw (event-read f e (h .0)) (tail-inits es (h .1))
 
   -- lines of starting values that ascend, before other lines ts: none is refused, and they are read as those values
   module _ (ts : List (List ℕ)) where
@@ -108,14 +102,16 @@ module _ (f : Form) where
         (rw (q, le-ltb p low (r .0 .0)))
         ∙ rw q (inits-lines side s g (k + 1) (p + 1) is (r .1) (h .1))
 
-    inits-read : (low : ℕ) (is : List Start) → Rising low is → Each (Heard f) is
+    inits-read : Some ts → (low : ℕ) (is : List Start) → Rising low is → Each (Heard f) is
         → (initsIn f (map startLine is ++ ts) ≡ is ++ initsIn f ts) × (eventsIn f (map startLine is ++ ts) ≡ eventsIn f ts)
-    unfolding saidIn
-    inits-read low [] r h = (refl, refl)
-    inits-read low ((p, v) ∷ is) r h =
+    inits-read s low [] r h = (refl, refl)
+    inits-read s low ((p, v) ∷ is) r h =
         let q = init-read f p v (omega (arith, r .0)) (h .0 .value) (h .0 .loud) in
-        let i = inits-read (p + 1) is (r .1) (h .1) in
-        (rw (q, i .0), rw (q, i .1))
+        let i = inits-read s (p + 1) is (r .1) (h .1) in
+        let o = some-after (map startLine is) ts s in (
+          said-on (λ l. initsOn (recordOf f l)) (initLine p v) (map startLine is ++ ts) o ∙ rw (q, i .0),
+          said-on (λ l. eventsOn (recordOf f l)) (initLine p v) (map startLine is ++ ts) o ∙ rw (q, i .1),
+        )
 
   map-free : (es : List Event) → Each (Free 10) (map (eventLine f) es)
   map-free [] = tt
@@ -156,10 +152,10 @@ module _ (f : Form) where
     heard = each-heard f (touched es) 0 (m .cells) (i .values)
 
     the-inits : initsIn f (its-lines m es) ≡ its-inits m es
-    the-inits = inits-read (tail es) 0 (its-inits m es) ascend heard .0 ∙ rw (tail-inits es (i .events)) (append-nil (its-inits m es))
+    the-inits = inits-read (tail es) (some-end (map (eventLine f) es)) 0 (its-inits m es) ascend heard .0 ∙ rw (tail-inits es (i .events)) (append-nil (its-inits m es))
 
     the-events : eventsIn f (its-lines m es) ≡ es
-    the-events = inits-read (tail es) 0 (its-inits m es) ascend heard .1 ∙ tail-events es (i .events)
+    the-events = inits-read (tail es) (some-end (map (eventLine f) es)) 0 (its-inits m es) ascend heard .1 ∙ tail-events es (i .events)
 
     the-start : startIn f (empty .cells) (its-lines m es) ≡ m .cells
     unfolding startIn

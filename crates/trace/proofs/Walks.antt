@@ -1,14 +1,13 @@
 -- The events of a text from a place on, by what the line there is. Assumes nothing.
-use Prim.Native.Nat.{ℕ, _+_, _≤_}
-use mathlib.Core.Path.{_≡_, ap}
+use Prim.Native.Nat.{ℕ, _+_}
+use mathlib.Core.Path.{_≡_, refl, ap}
 use mathlib.Core.List.{List, [], _++_}
-use lib.ListN.{length, drop}
 use Rattle.event.specs.declared.Event.{Event}
-use Rattle.text.specs.Line.{lineLen, splitFrom}
-use Rattle.text.proofs.Walk.{line, body-from, said-line, said-end}
+use Rattle.text.specs.Line.{lineLen, lineAt, splitFrom, saidIn}
+use Rattle.text.specs.declared.line.LineStep.the-variants.{Line, TextEnd}
+use Rattle.text.proofs.Walk.{part, by-line, by-end, body-from}
 use Rattle.record.specs.Record.{recordOf}
 use Rattle.record.specs.declared.Record.{Record}
-use Rattle.record.proofs.Records.{blank}
 use Rattle.trace.specs.Reading.{formOf, eventsOn, eventsIn, eventsOf}
 
 module _ (t : List ℕ) where
@@ -19,9 +18,12 @@ module _ (t : List ℕ) where
   unfolding eventsOf
   events-start = ap (eventsIn (formOf t)) (body-from t)
 
-  pub events-line : (at e : ℕ) (p : e ≡ at + lineLen (drop at t)) → at ≤ length t → {r : Record} → r ≡ recordOf (formOf t) (line t at e p)
-      → eventsFrom at ≡ eventsOn r ++ eventsFrom (e + 1)
-  events-line at e p h q = rw q (said-line (λ l. eventsOn (recordOf (formOf t) l)) t at e p h)
+  pub events-line : (at : ℕ) {to : ℕ} → lineAt t at ≡ Line to → {r : Record} → r ≡ recordOf (formOf t) (part t at to)
+      → eventsFrom at ≡ eventsOn r ++ eventsFrom (to + 1)
+  unfolding saidIn
+  events-line at {to} e q =
+      rw q (by-line (λ ps qs. eventsIn (formOf t) ps ≡ eventsOn (recordOf (formOf t) (part t at to)) ++ eventsIn (formOf t) qs) t at e (λ m ls. refl))
 
-  pub events-none : (at : ℕ) → length t ≤ at → eventsFrom at ≡ []
-  events-none at h = said-end (λ l. eventsOn (recordOf (formOf t) l)) t at (rw (blank (formOf t))) h
+  pub events-none : (at : ℕ) → lineAt t at ≡ TextEnd → eventsFrom at ≡ []
+  unfolding saidIn
+  events-none at e = by-end (λ ps. eventsIn (formOf t) ps ≡ []) t at e refl (λ l. refl)

@@ -19,7 +19,6 @@ use Rattle.record.specs.Record.{Fit, recordOf}
 use Rattle.record.specs.declared.Record.{Record}
 use Rattle.record.specs.declared.Record.the-variants.{Init, AnEvent, Refused}
 use Rattle.record.proofs.Layouts.{line-says, init-back}
-use Rattle.record.proofs.Records.{blank}
 use Rattle.record.specs.declared.form.Form.{Form}
 use Rattle.trace.specs.Reading.{SoFar, lineFault, afterLine, traceLayout, eventsIn, initsIn, startIn, startFrom}
 use Rattle.uses.specs.Cover.{touched}
@@ -53,16 +52,17 @@ module _ (f : Form) where
 
   bounds-end : (s : SoFar) → Bounds s ([] ∷ [])
   unfolding saidIn startIn
-  bounds-end s cells q h b = record { size = rw (blank f) q; values = rw (blank f) h; events = rw (blank f) tt; few = rw (blank f) (omega arith) }
+  bounds-end s cells q h b = record { size = q; values = h; events = tt; few = omega arith }
 
-  bounds-line : (s : SoFar) (l : List ℕ) (ls : List (List ℕ)) (r : Record) → recordOf f l ≡ r → lineFault s r ≡ 0 → Bounds (afterLine s r) ls → Bounds s (l ∷ ls)
+  bounds-line : (s : SoFar) (l m : List ℕ) (ls : List (List ℕ)) (r : Record) → recordOf f l ≡ r → lineFault s r ≡ 0 → Bounds (afterLine s r) (m ∷ ls)
+      → Bounds s (l ∷ m ∷ ls)
   unfolding saidIn startIn
-  bounds-line s l ls Refused e h g cells q v b = absurd (omega arith)
-  bounds-line s l ls (Init p x) e h g cells q v b =
+  bounds-line s l m ls Refused e h g cells q v b = absurd (omega arith)
+  bounds-line s l m ls (Init p x) e h g cells q v b =
       let i = init-back f l p x e in
       let d = g (set cells p x) (simp length-set q) (set-valued cells p x v (i .1 .1 .0)) b in
       record { size = rw e (d .size); values = rw e (d .values); events = rw e (d .events); few = rw e (d .few) }
-  bounds-line s l ls (AnEvent x) e h g cells q v b =
+  bounds-line s l m ls (AnEvent x) e h g cells q v b =
       let o = leb-false eventLimit (s .events) (not-first (λ (y : ℕ). y) (leb eventLimit (s .events)) 3 0 (λ z. omega arith) h .0) in
       let d = g cells q v (omega (arith, o)) in
       record { size = rw e (d .size); values = rw e (d .values); events = rw e (line-says f l x e .1, d .events); few = rw e (omega (arith, d .few)) }
@@ -70,7 +70,7 @@ module _ (f : Form) where
   pub bounded : (side k : ℕ) (ls : List (List ℕ)) → Some ls → linesFault (traceLayout f) side k (traceLayout f .start) ls .number ≡ 0
       → (cells : List ℕ) → length cells ≡ 256 → Valued cells → Bounded 0 cells ls
   bounded side k ls o h cells q v =
-      lines-pass (traceLayout f) side Bounds bounds-end (λ s l ls. bounds-line s l ls (recordOf f l) refl) k (traceLayout f .start) ls o h cells q v (omega arith)
+      lines-pass (traceLayout f) side Bounds bounds-end (λ s l m ls. bounds-line s l m ls (recordOf f l) refl) k (traceLayout f .start) ls o h cells q v (omega arith)
 
   -- and the lines are the prints of what they are read as: starting values, which ascend, and then events
   pub record Printed (low : ℕ) (ls : List (List ℕ)) : Type 0 where
@@ -83,19 +83,20 @@ module _ (f : Form) where
 
   prints-end : (s : SoFar) → Prints s ([] ∷ [])
   unfolding saidIn
-  prints-end s = record { ascend = rw (blank f) tt; heard = rw (blank f) tt; lines = rw (blank f) }
+  prints-end s = record { ascend = tt; heard = tt; lines = refl }
 
-  prints-line : (s : SoFar) (l : List ℕ) (ls : List (List ℕ)) (r : Record) → recordOf f l ≡ r → lineFault s r ≡ 0 → Prints (afterLine s r) ls → Prints s (l ∷ ls)
+  prints-line : (s : SoFar) (l m : List ℕ) (ls : List (List ℕ)) (r : Record) → recordOf f l ≡ r → lineFault s r ≡ 0 → Prints (afterLine s r) (m ∷ ls)
+      → Prints s (l ∷ m ∷ ls)
   unfolding saidIn
-  prints-line s l ls Refused e h g = absurd (omega arith)
-  prints-line s l ls (AnEvent v) e h g =
-      let n = rising-none (initsIn f ls) (g .ascend) in
+  prints-line s l m ls Refused e h g = absurd (omega arith)
+  prints-line s l m ls (AnEvent v) e h g =
+      let n = rising-none (initsIn f (m ∷ ls)) (g .ascend) in
       record {
         ascend = rw (e, n) tt;
         heard = rw (e, n) tt;
         lines = rw (e, n, ← line-says f l v e .0) (ap (λ (ps : List (List ℕ)). l ∷ ps) (rw n at (g .lines)));
       }
-  prints-line s l ls (Init p v) e h g =
+  prints-line s l m ls (Init p v) e h g =
       let o : s .low ≤ p = ltb-false p (s .low) (not-first (λ (y : ℕ). y) (ltb p (s .low)) 4 0 (λ z. omega arith) h .0) in
       let i = init-back f l p v e in
       record {
@@ -106,7 +107,7 @@ module _ (f : Form) where
 
   pub printed : (side k : ℕ) (ls : List (List ℕ)) → Some ls → linesFault (traceLayout f) side k (traceLayout f .start) ls .number ≡ 0 → Printed 0 ls
   printed side k ls o h =
-      lines-pass (traceLayout f) side Prints prints-end (λ s l ls. prints-line s l ls (recordOf f l) refl) k (traceLayout f .start) ls o h
+      lines-pass (traceLayout f) side Prints prints-end (λ s l m ls. prints-line s l m ls (recordOf f l) refl) k (traceLayout f .start) ls o h
 
   -- so with neither 20 nor 21 they are the lines of the memory that they make, and of their events
   module _ (side : ℕ) (ls : List (List ℕ)) (p : Printed 0 ls) (c : coverFault f side (initsIn f ls) (eventsIn f ls) .number ≡ 0) where

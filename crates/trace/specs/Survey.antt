@@ -5,31 +5,37 @@ use mathlib.Core.List.{List, [], _++_}
 use lib.ListN.{length}
 use Rattle.event.specs.Answer.{first}
 use Rattle.event.specs.Limit.{places}
+use Rattle.event.specs.declared.Event.{Event}
 use Rattle.memory.specs.declared.Memory.{Memory}
-use Rattle.frame.specs.Reading.{linesFault, settle}
-use Rattle.uses.specs.Cover.{soFar}
-use Rattle.trace.specs.Fault.{coverFault}
-use Rattle.trace.specs.Fault.{eventFaultIn}
+use Rattle.frame.specs.Reading.{settle, tried}
+use Rattle.uses.specs.Cover.{Start, soFar}
+use Rattle.trace.specs.Fault.{coverFault, eventFaultIn}
 use Rattle.trace.specs.Reading.{SoFar, traceLayout, eventsIn, initsIn, startFrom, refused, readAs}
 use Rattle.record.specs.declared.form.Form.{Form}
 use Rattle.trace.specs.declared.reading.TraceRead.{TraceRead}
 
--- Lines from line k on, before any event, where an `init` line may have the location `low` or above, and those before made the memory m.
-unfoldable pub surveyInits : List Bool → Form → ℕ → ℕ → ℕ → List Bool → Memory → List (List ℕ) → TraceRead
-surveyInits regs f side k low has m ls =
-    settle refused
-    (first (linesFault (traceLayout f) side k (record { low = low; events = 0 }) ls)
-    (first (coverFault f side (soFar has (m .cells) ++ initsIn f ls) (eventsIn f ls)) (eventFaultIn regs side 1 (startFrom f m ls) [] (eventsIn f ls))))
-    (readAs (length (eventsIn f ls)) (startFrom f m ls))
+-- What lines none of which is refused come to, by their starting values, the memory that these make and their events: 20, 21, then 5, 6.
+unfoldable pub judgedAs : List Bool → Form → ℕ → List Start → Memory → List Event → TraceRead
+judgedAs regs f side is m es = settle refused (first (coverFault f side is es) (eventFaultIn regs side 1 m [] es)) (readAs (length es) m)
 
--- Where no `init` line may come after n events.
+-- Where an `init` line may have the location `low` or above, before any event; and where none may come after n events.
+abbrev pub opened : ℕ → SoFar
+opened low = record { low = low; events = 0 }
+
 abbrev pub closed : ℕ → SoFar
 closed n = record { low = places; events = n }
 
--- Lines from line k on, all of which are to be events.
-unfoldable pub surveyEvents : List Bool → Form → ℕ → ℕ → List Bool → Memory → List (List ℕ) → TraceRead
-surveyEvents regs f side k has m ls =
-    settle refused
-    (first (linesFault (traceLayout f) side k (closed 0) ls)
-    (first (coverFault f side (soFar has (m .cells)) (eventsIn f ls)) (eventFaultIn regs side 1 m [] (eventsIn f ls))))
-    (readAs (length (eventsIn f ls)) m)
+-- Lines after starting values that made the memory m, for which `has` says which locations have a line.
+abbrev pub withInits : List Bool → Form → ℕ → List Bool → Memory → List (List ℕ) → TraceRead
+withInits regs f side has m ls = judgedAs regs f side (soFar has (m .cells) ++ initsIn f ls) (startFrom f m ls) (eventsIn f ls)
+
+-- Such lines from line k on, before any event.
+abbrev pub surveyInits : List Bool → Form → ℕ → ℕ → ℕ → List Bool → Memory → List (List ℕ) → TraceRead
+surveyInits regs f side k low has m ls = tried (traceLayout f) refused side k (opened low) (withInits regs f side has m) ls
+
+-- Lines after them, all of which are to be events.
+abbrev pub withEvents : List Bool → Form → ℕ → List Bool → Memory → List (List ℕ) → TraceRead
+withEvents regs f side has m ls = judgedAs regs f side (soFar has (m .cells)) m (eventsIn f ls)
+
+abbrev pub surveyEvents : List Bool → Form → ℕ → ℕ → List Bool → Memory → List (List ℕ) → TraceRead
+surveyEvents regs f side k has m ls = tried (traceLayout f) refused side k (closed 0) (withEvents regs f side has m) ls

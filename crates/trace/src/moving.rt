@@ -17,8 +17,9 @@ use record::form::Form;
 use record::form::does_lose;
 use record::form::limit_of;
 use record::record_of;
-use text::line::line_end;
+use text::line::LineStep;
 use text::line::line_two;
+use text::line::next_line;
 
 // 19 of a line's event, which has the number k if it is one.
 fn loss_on(to: Form, line: Record, k: usize) -> Answer
@@ -55,8 +56,10 @@ fn loss_in(to: Form, text: &[u8]) -> Answer
     let form = form_of(text);
     let mut at = line_two(text);
     let mut n: usize = 0;
-    while at < text.len() {
-        let end = line_end(text, at);
+    loop {
+        let LineStep::Line { to: end } = next_line(text, at) else {
+            return Answer::new(0, 0, 0);
+        };
         let line = record_of(form, &text[at..end]);
         let found = loss_on(to, line, n + 1);
         if found.number != 0 {
@@ -65,7 +68,6 @@ fn loss_in(to: Form, text: &[u8]) -> Answer
         n = count_with(n, line);
         at = end + 1;
     }
-    Answer::new(0, 0, 0)
 }
 
 // 1; and 2 at line 1 for a text that is of the form already.

@@ -31,7 +31,6 @@ use record::Record;
 use record::form::Form;
 use record::record_of;
 use text::line::LineStep;
-use text::line::line_end;
 use text::line::line_two;
 use text::line::next_line;
 use uses::UNTOUCHED;
@@ -70,7 +69,6 @@ fn survey_events(
     has: &[bool; PLACES],
     start: Memory,
 ) -> TraceRead
-    requires { ⌜ from ≤ length (now text) ⌝ }
     requires { ⌜ line ≤ from ⌝ }
     requires { ⌜ 0 < from ⌝ }
     ensures { λ r. ⌜ r ≡ surveyEvents (now (listed .entry)) form side line (now (has .entry)) start (splitFrom (now (text .entry)) from) ⌝ }
@@ -136,7 +134,6 @@ fn survey_events(
 
 // The lines after line 1: the starting values, then the events.
 fn survey_lines(listed: &Listed, form: Form, text: &[u8], from: usize, side: Number) -> TraceRead
-    requires { ⌜ from ≤ length (now text) ⌝ }
     requires { ⌜ 2 ≤ from ⌝ }
     ensures { λ r. ⌜ r ≡ surveyInits (now (listed .entry)) form side 2 0 (replicate places false) emptyMemory (splitFrom (now (text .entry)) from) ⌝ }
 {
@@ -217,9 +214,11 @@ pub fn store(text: &[u8], room: &mut [Word])
     let form = form_of(text);
     let mut at = line_two(text);
     let mut i: usize = 0;
-    while at < text.len() {
-        let end = line_end(text, at);
-        i = put_record(room, i, record_of(form, &text[at..end]));
-        at = end + 1;
+    loop {
+        let LineStep::Line { to } = next_line(text, at) else {
+            return;
+        };
+        i = put_record(room, i, record_of(form, &text[at..to]));
+        at = to + 1;
     }
 }

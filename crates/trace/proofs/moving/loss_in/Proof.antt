@@ -1,5 +1,5 @@
 -- The answer over all events is the answer over those of the lines from here on. Assumes nothing.
-use Prim.Native.Nat.{ℕ, _+_, _-_, _≤_, _<_}
+use Prim.Native.Nat.{ℕ, _+_, _-_, _≤_}
 use mathlib.Core.List.{List, _++_}
 use mathlib.Core.Path.{_≡_, refl, sym, _∙_, ap}
 use native.Mathlib.Omega.{arith}
@@ -8,9 +8,11 @@ use borrow.Author.Tests.{ne-eqb}
 use lib.ListN.{length}
 use Rattle.event.specs.declared.Event.{Event}
 use Rattle.event.specs.Answer.{first}
-use Rattle.text.proofs.Walk.{line-in}
+use Rattle.text.specs.Line.{lineAt}
+use Rattle.text.specs.declared.line.LineStep.the-variants.{Line}
+use Rattle.text.proofs.Walk.{Next, next}
 use Rattle.record.specs.declared.form.Form.{Form}
-use Rattle.trace.specs.Reading.{formOf, eventsOn, eventsOf}
+use Rattle.trace.specs.Reading.{eventsOn, eventsOf}
 use Rattle.trace.specs.Writing.{lost}
 use Rattle.trace.proofs.Judged.{first-passes}
 use Rattle.uses.proofs.Bad.{bad-parted, bad-end}
@@ -27,47 +29,47 @@ abbrev Inv-loop : tie.InvT-loop
 Inv-loop to text form at₀ n₀ at n = Inv to text at n
 
 abbrev μ-loop : tie.MeasureT-loop
-μ-loop to text form at₀ n₀ at n = length text + 1 - at
+μ-loop to text form at₀ n₀ at n = length text - at
 
 -- a turn's line
-module _ (c : tie.After-line-end Inv-loop μ-loop) where
-  abbrev begin : tie.Start Inv-loop μ-loop
-  begin = c .before .before .before .before .before .before
+module _ (c : tie.After-end Inv-loop μ-loop) where
+  abbrev l : tie.At-loop Inv-loop μ-loop
+  l = c .before .before .before
 
   abbrev text : List ℕ
-  text = begin .args .text .now
+  text = l .before .before .before .before .args .text .now
 
-  abbrev at : ℕ
-  at = c .before .before .loop .at
+  abbrev end : ℕ
+  end = c .end .given .0 .0
 
-  abbrev n : ℕ
-  n = c .before .before .loop .n
+  here : lineAt text (l .loop .at) ≡ Line end
+  here = sym (c .before .before .next-line .ensures) ∙ c .end .given .1
 
-  form-is : c .before .before .before .before .form-of .result ≡ formOf text
-  form-is = c .before .before .before .before .form-of .ensures
-
-  ends : (at ≤ c .line-end .result) × (c .line-end .result ≤ length text)
-  ends = line-in text at (c .line-end .result) (c .line-end .ensures) (omega arith)
+  -- it lies within the text, and there are no more events than bytes before it
+  line : Next text (l .loop .at) end × (l .loop .n ≤ l .loop .at)
+  line = (next _ _ _ here, l .loop .inv .few)
 
 -- what it says, and the others
 module _ (c : tie.After-loss-on Inv-loop μ-loop) where
-  abbrev e : tie.After-line-end Inv-loop μ-loop
-  e = c .before .before .before
+  abbrev e : tie.After-end Inv-loop μ-loop
+  e = c .before .before .before .before
+
+  abbrev to : Form
+  to = l e .before .before .before .before .args .to
 
   abbrev its : List Event
   its = eventsOn (c .before .record-of .result)
 
   abbrev others : List Event
-  others = eventsFrom (text e) (e .line-end .result + 1)
+  others = eventsFrom (text e) (end e + 1)
 
-  parted : eventsFrom (text e) (at e) ≡ its ++ others
-  parted = events-line (text e) (at e) _ (e .line-end .ensures) (omega arith) {r = c .before .record-of .result}
-      (rw (← form-is e) (c .before .record-of .ensures))
+  parted : eventsFrom (text e) (l e .loop .at) ≡ its ++ others
+  parted =
+      events-line (text e) (l e .loop .at) (here e) {r = c .before .record-of .result}
+      (rw (← l e .before .before .form-of .ensures) (c .before .record-of .ensures))
 
-  whole : lost (begin e .args .to) 1 1 (eventsOf (text e)) ≡ first (c .loss-on .result) (lost (begin e .args .to) 1 (n e + 1 + length its) others)
-  whole =
-      e .before .before .loop .inv .same
-      ∙ bad-parted _ 19 1 refl (n e + 1) its others parted (c .loss-on .ensures)
+  whole : lost to 1 1 (eventsOf (text e)) ≡ first (c .loss-on .result) (lost to 1 (l e .loop .n + 1 + length its) others)
+  whole = l e .loop .inv .same ∙ bad-parted _ 19 1 refl (l e .loop .n + 1) its others parted (c .loss-on .ensures)
 
 loop-holds : tie.Need-loop-holds Inv-loop μ-loop
 loop-holds c =
@@ -75,26 +77,23 @@ loop-holds c =
     rw (c .line-two .ensures) (record { few = omega arith; same = ap (lost (c .before .before .before .args .to) 1 1) (events-start t) })
 
 returns : tie.Need-returns Inv-loop μ-loop
-returns c = sym (whole (c .before .before) ∙ rw (ne-eqb _ _ (c .if1 .taken)))
+returns c =
+    let o = c .before .before .before in
+    let t = o .before .before .before .before .before .args .text .now in
+    c .new .ensures
+    ∙ sym (o .before .loop .inv .same ∙ rw (events-none t (o .before .loop .at) (sym (o .next-line .ensures) ∙ c .before .enum-told .given .1)) (bad-end _ 19 1 _))
+
+returns-2 : tie.Need-returns-2 Inv-loop μ-loop
+returns-2 c = sym (whole (c .before .before) ∙ rw (ne-eqb _ _ (c .if1 .taken)))
 
 loop-again : tie.Need-loop-again Inv-loop μ-loop
 loop-again c =
-    let l = c .before .before .before in
-    let k : n (e l) + length (its l) + 1 ≡ n (e l) + 1 + length (its l) = omega arith in
+    let h = c .before .before .before in
+    let k : l (e h) .loop .n + length (its h) + 1 ≡ l (e h) .loop .n + 1 + length (its h) = omega arith in
     record {
-      few = omega (arith, ends (e l), e l .before .before .loop .inv .few, c .count-with .ensures, one-at-most (l .before .record-of .result));
-      same = rw (c .count-with .ensures, k) (whole l ∙ first-passes (l .loss-on .result) _ (c .before .if1 .left));
+      few = omega (arith, line (e h), c .count-with .ensures, one-at-most (h .before .record-of .result));
+      same = rw (c .count-with .ensures, k) (whole h ∙ first-passes (h .loss-on .result) _ (c .before .if1 .left));
     }
-
-returns-2 : tie.Need-returns-2 Inv-loop μ-loop
-returns-2 c =
-    let l = c .before .before in
-    let t = l .before .before .before .before .args .text .now in
-    c .new .ensures ∙ sym (l .loop .inv .same ∙ rw (events-none t (l .loop .at) (omega arith)) (bad-end _ 19 1 _))
-
--- the number of events is at most the place in the text
-small : (e : tie.After-line-end Inv-loop μ-loop) → n e + 1 < 18446744073709551615
-small e = omega (arith, e .before .before .loop .inv .few, begin e .good)
 
 pub loss-in-spec : {M : Type 1} → statement M
 loss-in-spec =
@@ -106,16 +105,18 @@ loss-in-spec =
     (search needs)
     loop-holds
     (search needs)
-    (λ c. omega (arith, ends c))
-    (λ c. omega (arith, ends c))
-    (λ c. omega (arith, ends c))
     (search needs)
-    (λ c. omega (arith, small (c .before .before)))
+    (search needs)
     (search needs)
     returns
-    (λ c κs. omega (arith, small (e (c .before .before))))
-    (λ c. omega (arith, ends (e (c .before .before .before)), begin (e (c .before .before .before)) .good))
-    (λ c. omega (arith, ends (e (c .before .before .before))))
-    loop-again
+    (λ c. omega (arith, line (c .before)))
+    (λ c. omega (arith, line (c .before)))
+    (λ c. omega (arith, line (c .before)))
     (search needs)
-    returns-2)
+    (λ c. omega (arith, line (c .before .before .before)))
+    (search needs)
+    returns-2
+    (λ c κs. omega (arith, line (e (c .before .before))))
+    (λ c. omega (arith, line (e (c .before .before .before))))
+    (λ c. omega (arith, line (e (c .before .before .before))))
+    loop-again)

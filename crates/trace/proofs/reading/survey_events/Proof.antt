@@ -1,13 +1,13 @@
 -- The reading from each line on is that from the next line on, until a line is refused or no LF is left; nothing may stand after the last one.
 -- While no event was at fault, the array says how the events so far used each location, afterwards only whether they did. Assumes nothing.
 use Prim.Native.Nat.{ℕ, _+_, _-_, _≤_, _<_}
-use mathlib.Core.Bool.{Bool, true, cond, _||_}
+use mathlib.Core.Bool.{Bool, cond, _||_}
 use mathlib.Core.List.{List, [], _∷_}
 use mathlib.Core.Path.{_≡_, refl, sym, _∙_, ap, fun-ext}
 use native.Mathlib.Omega.{arith}
 use borrow.Author.Needs.{needs}
-use borrow.Author.Tests.{ne-eqb, le-leb}
-use lib.ListN.{length, take, drop, length-set, length-map, drop-of-length-le}
+use borrow.Author.Tests.{ne-eqb, le-leb, lt-leb, lt-ltb}
+use lib.ListN.{length, length-set, length-map}
 use Rattle.laws.proofs.Cases.{cases}
 use Rattle.event.specs.Answer.{answer, done, first}
 use Rattle.event.specs.Limit.{lastPlace}
@@ -18,41 +18,41 @@ use Rattle.memory.specs.declared.Stepped.{Stepped}
 use Rattle.kinds.specs.Kind.{lawful}
 use Rattle.memory.specs.Listed.{isRegister, usesAtomically, steppedIn}
 use Rattle.kinds.proofs.Lawful.{place-below}
-use Rattle.text.specs.Cut.{isEmpty}
-use Rattle.text.specs.Line.{splitFrom}
-use Rattle.text.proofs.Walk.{Next, next, last, rest-some, rest-none}
+use Rattle.text.specs.Line.{lineAt, splitFrom, saidIn}
+use Rattle.text.specs.declared.line.LineStep.the-variants.{Line}
+use Rattle.text.proofs.Walk.{part, Next, next}
+use Rattle.frame.proofs.Tries.{Tried, tried-same, tried-go, tried-stop, tried-open, tried-end}
 use Rattle.frame.proofs.Settled.{first-done}
 use Rattle.record.specs.Record.{recordOf}
 use Rattle.record.specs.declared.Record.{Record}
 use Rattle.record.specs.declared.Record.the-variants.{AnEvent}
-use Rattle.record.proofs.Records.{line-lawful}
+use Rattle.record.proofs.Records.{init-place, line-lawful}
 use Rattle.record.specs.declared.form.Form.{Form}
 use Rattle.uses.specs.Cover.{touched, lined, lacksLine, isIdle}
 use Rattle.uses.specs.Bad.{firstBad}
 use Rattle.uses.specs.Use.{clashesIn}
 use Rattle.trace.specs.Fault.{faultAt}
 use Rattle.uses.specs.Way.{clashing, waysAfter}
-use Rattle.trace.specs.Reading.{refused}
+use Rattle.trace.specs.Reading.{traceLayout, eventsIn, refused}
 use Rattle.uses.specs.Cover.{marked, soFar}
-use Rattle.trace.specs.Survey.{surveyEvents}
+use Rattle.trace.specs.Survey.{closed, surveyEvents}
 use Rattle.trace.specs.declared.reading.TraceRead.{TraceRead}
 use Rattle.trace.proofs.Judged.{fault-free, faultless, first-stays}
 use Rattle.uses.proofs.Starts.{lined-starts}
-use Rattle.trace.proofs.Surveys.{surveyOn, on-start, on-open, on-bare, on-idle, on-found, on-end, on-bad, on-init, on-full, on-go}
+use Rattle.trace.proofs.Surveys.{judgedOn, on-start, on-bare, on-idle, on-found, on-end, on-go}
 use Rattle.uses.proofs.Ways.{or-right, with-inside, clash-inside, Marks, marks-start, marks-told, clash, marks-next, Touch, touch-told, touch-start, touch-next}
 use Rattle.trace.proofs.reading.survey_events.Statement.{statement}
 use Rattle.trace.proofs.reading.survey_events.Tie as tie
 
 record Inv (regs : List Bool) (form : Form) (text : List ℕ) (from line side : ℕ) (has : List Bool) (start m : Memory) (ways : List ℕ) (bare found : Answer) (at k n : ℕ) : Type 0 where
-  within : at ≤ length text
-  lined : k ≤ at
   counted : n < at
   size : length ways ≡ 256
   before : List Event
   none : found .number ≡ 0 → found ≡ done
   marks : found .number ≡ 0 → Marks ways before
   touch : Touch ways before
-  same : surveyEvents regs form side line has start (splitFrom text from) ≡ surveyOn regs form side k n m before bare found has start (splitFrom text at)
+  walk : Tried (traceLayout form) refused side (surveyEvents regs form side line has start (splitFrom text from)) text k (closed n)
+      (λ ls. judgedOn regs form side (soFar has (start .cells)) start n m before bare found (eventsIn form ls)) at
 
 abbrev Inv-loop : tie.InvT-loop
 Inv-loop regs form text from line side has start last₀ ways₀ bare₀ found₀ at₀ k₀ n₀ last ways bare found at k n =
@@ -60,16 +60,6 @@ Inv-loop regs form text from line side has start last₀ ways₀ bare₀ found�
 
 abbrev μ-loop : tie.MeasureT-loop
 μ-loop regs form text from line side has start last₀ ways₀ bare₀ found₀ at₀ k₀ n₀ last ways bare found at k n = length text - at
-
--- a refusal that is returned
-refuses : {r w : TraceRead} {a b : Answer} → r ≡ refused a → a ≡ b → w ≡ refused b → r ≡ w
-refuses p q e = p ∙ (ap refused q ∙ sym e)
-
--- what the step and the judging of an event hand back
-on-told : (regs : List Bool) (form : Form) (side k n : ℕ) (es : List Event) (has : List Bool) (start : Memory) (ls : List (List ℕ)) (clash : Bool) (a : Answer) {s s′ : Stepped}
-    {r r′ : Bool} {f b b′ : Answer} → s ≡ s′ → r ≡ r′ → f ≡ first a (faultAt side n clash r) → b ≡ b′
-    → surveyOn regs form side k n (s′ .memory) es b′ (first a (faultAt side n clash r′)) has start ls ≡ surveyOn regs form side k n (s .memory) es b f has start ls
-on-told regs form side k n es has start ls clash a p e q o = rw (q, p, e, o)
 
 -- a turn's place
 module _ (c : tie.After-next-line Inv-loop μ-loop) where
@@ -91,9 +81,6 @@ module _ (c : tie.After-next-line Inv-loop μ-loop) where
   abbrev memory : Memory
   memory = c .before .loop .last .memory
 
-  abbrev whole : TraceRead
-  whole = surveyEvents regs (begin .args .form) (begin .args .side) (begin .args .line) has (begin .args .t8) (splitFrom text (begin .args .from))
-
   inv : Inv regs (begin .args .form) text (begin .args .from) (begin .args .line) (begin .args .side) has (begin .args .t8) memory (c .before .loop .ways)
       (c .before .loop .bare) (c .before .loop .found) at (c .before .loop .k) (c .before .loop .n)
   inv = c .before .loop .inv
@@ -101,12 +88,6 @@ module _ (c : tie.After-next-line Inv-loop μ-loop) where
   -- there is a cell for each location
   size : length (begin .args .t8 .cells) ≡ 256
   size = simp length-map at (begin .good .1 .1 .1 .1 .1 .1 .1 .0 .1 .1 .0 .1 .0 .1)
-
-  -- the reading from there on
-  abbrev on : List (List ℕ) → TraceRead
-  on ls =
-      surveyOn regs (begin .args .form) (begin .args .side) (c .before .loop .k) (c .before .loop .n) memory (inv .before) (c .before .loop .bare) (c .before .loop .found)
-      has (begin .args .t8) ls
 
 -- its line has a LF
 module _ (c : tie.After-to Inv-loop μ-loop) where
@@ -116,8 +97,12 @@ module _ (c : tie.After-to Inv-loop μ-loop) where
   abbrev to : ℕ
   to = c .to .given .0 .0
 
-  line : Next (text l) (at l) to
-  line = next _ _ _ (sym (l .next-line .ensures) ∙ c .to .given .1)
+  here : lineAt (text l) (at l) ≡ Line to
+  here = sym (l .next-line .ensures) ∙ c .to .given .1
+
+  -- it lies within the text, and there are no more lines and events than bytes before it
+  line : Next (text l) (at l) to × ((l .before .loop .k ≤ at l) × (l .before .loop .n < at l))
+  line = (next _ _ _ here, (inv l .walk .lined, inv l .counted))
 
 -- and is read
 module _ (c : tie.After-record-of Inv-loop μ-loop) where
@@ -125,16 +110,10 @@ module _ (c : tie.After-record-of Inv-loop μ-loop) where
   t = c .before .before .before
 
   abbrev this : List ℕ
-  this = take (to t - at (l t)) (drop (at (l t)) (text (l t)))
-
-  abbrev others : List (List ℕ)
-  others = splitFrom (text (l t)) (to t + 1)
+  this = part (text (l t)) (at (l t)) (to t)
 
   is : {r : Record} → c .record-of .result ≡ r → recordOf (begin (l t) .args .form) this ≡ r
   is e = sym (c .record-of .ensures) ∙ e
-
-  by-line : {r : TraceRead} → on (l t) (this ∷ others) ≡ r → whole (l t) ≡ r
-  by-line e = inv (l t) .same ∙ rw (line t .parts) e
 
 -- it is an event
 module _ (c : tie.After-e Inv-loop μ-loop) where
@@ -230,12 +209,12 @@ module _ (c : tie.Joined3 Inv-loop μ-loop) where
       ∙ faultless found (inv p .none) (begin p .args .side) (p .before .loop .n + 1) (u .use-listed .result) right-now
       (sym (c .before .is-at-fault .ensures) ∙ e .0 .left))
 
-  goes-on : whole p ≡ surveyOn (regs p) (begin p .args .form) (begin p .args .side) (p .before .loop .k + 1) (p .before .loop .n + 1) (stepped-on .step .result .memory)
-      (event v ∷ inv p .before) (b .if2 .bare) after (has p) (begin p .args .t8) (others (r v))
-  goes-on =
-      by-line (r v)
-      (on-go _ _ _ _ _ _ _ _ _ _ _ _ _ (line (t (r v)) .some) (event v) (its v) (asked b .before .if1 .left) (u .use-listed .result) clash-is
-      ∙ on-told _ _ _ _ _ _ _ _ _ (u .use-listed .result) found (stepped-on .step .ensures) right-is told (bare-told b))
+  goes-on : (es : List Event)
+      → judgedOn (regs p) (begin p .args .form) (begin p .args .side) (soFar (has p) (begin p .args .t8 .cells)) (begin p .args .t8) (p .before .loop .n) (memory p)
+      (inv p .before) (p .before .loop .bare) found (event v ∷ es)
+      ≡ judgedOn (regs p) (begin p .args .form) (begin p .args .side) (soFar (has p) (begin p .args .t8 .cells)) (begin p .args .t8) (p .before .loop .n + 1)
+      (stepped-on .step .result .memory) (event v ∷ inv p .before) (b .if2 .bare) after es
+  goes-on = on-go _ _ _ _ _ _ _ _ _ _ (event v) _ right-now (stepped-on .step .result) _ after clash-is right-is (stepped-on .step .ensures) (bare-told b) told
 
   none-after : after .number ≡ 0 → after ≡ done
   none-after z =
@@ -255,116 +234,109 @@ module _ (c : tie.Joined3 Inv-loop μ-loop) where
 
 loop-holds : tie.Need-loop-holds Inv-loop μ-loop
 loop-holds c = record {
-  within = omega arith;
-  lined = omega arith;
   counted = omega arith;
   size = refl;
   before = [];
   none = λ z. c .new2 .ensures;
   marks = λ z. marks-start;
   touch = touch-start;
-  same = rw (c .new2 .ensures, c .before .new .ensures) (on-start _ _ _ _ _ _ _);
+  walk = record { lined = omega arith; same = tried-same _ _ _ _ _ _ _ _ _ refl (λ z. on-start _ _ _ _ _ _ ∙ rw (c .new2 .ensures, c .before .new .ensures)) };
 }
 
 returns : tie.Need-returns Inv-loop μ-loop
 returns c =
     let q = c .before .before .before .before in
-    refuses (c .refusal .ensures) (c .before .new3 .ensures)
-    (by-line q (on-bad _ _ _ _ _ _ _ _ _ _ _ _ _ (line (t q) .some) (is q (c .before .before .enum-told2 .given .1))))
+    tried-stop (inv (l (t q)) .walk) (c .refusal .ensures) (here (t q)) (c .before .new3 .ensures) refl (rw (is q (c .before .before .enum-told2 .given .1)))
 
 returns-2 : tie.Need-returns-2 Inv-loop μ-loop
 returns-2 c =
     let q = c .before .before .before .before in
-    refuses (c .refusal2 .ensures) (c .before .new4 .ensures)
-    (by-line q (on-init _ _ _ _ _ _ _ _ _ _ _ _ _ (line (t q) .some) _ _ (is q (c .before .before .enum-told3 .given .1))))
+    let i = is q (c .before .before .enum-told3 .given .1) in
+    tried-stop (inv (l (t q)) .walk) (c .refusal2 .ensures) (here (t q)) (c .before .new4 .ensures) refl
+    (rw (i, lt-ltb (c .before .before .enum-told3 .given .0 .0) 256 (omega (arith, init-place _ _ _ _ i))))
 
 returns-3 : tie.Need-returns-3 Inv-loop μ-loop
 returns-3 c =
     let q = c .before .before .before .before in
-    refuses (c .refusal3 .ensures) (c .before .new5 .ensures)
-    (by-line (r q) (on-full _ _ _ _ _ _ _ _ _ _ _ _ _ (line (t (r q)) .some) _ (its q) (c .before .before .if1 .taken)))
+    tried-stop (inv (l (t (r q))) .walk) (c .refusal3 .ensures) (here (t (r q))) (c .before .new5 .ensures) refl (rw (its q, le-leb _ _ (c .before .before .if1 .taken)))
 
 loop-again : tie.Need-loop-again Inv-loop μ-loop
-loop-again c =
-    let n = line (t (r (v c))) in
-    record {
-      within = omega (arith, n);
-      lined = omega (arith, n, inv (p c));
-      counted = omega (arith, n, inv (p c));
-      size = ap length (ways-told c) ∙ simp length-set (inv (p c) .size);
-      before = event (v c) ∷ inv (p c) .before;
-      none = none-after c;
-      marks = marks-after c;
-      touch = touch-after c;
-      same = goes-on c;
-    }
+unfolding saidIn
+loop-again c = record {
+  counted = omega (arith, line (t (r (v c))));
+  size = ap length (ways-told c) ∙ simp length-set (inv (p c) .size);
+  before = event (v c) ∷ inv (p c) .before;
+  none = none-after c;
+  marks = marks-after c;
+  touch = touch-after c;
+  walk =
+      tried-go (inv (p c) .walk) (here (t (r (v c)))) (omega arith) (rw (its (v c), lt-leb _ _ (asked (b c) .before .if1 .left))) (rw (its (v c)))
+      (λ m ls. rw (its (v c)) (goes-on c (eventsIn _ (m ∷ ls))));
+}
 
 -- no LF is left
-module _ (c : tie.After-enum-told Inv-loop μ-loop) where
-  abbrev o : tie.After-next-line Inv-loop μ-loop
-  o = c .before .before
-
-  rest : {r : TraceRead} → on o (drop (at o) (text o) ∷ []) ≡ r → whole o ≡ r
-  rest e = inv o .same ∙ rw (last (text o) (at o) (inv o .within) (sym (o .next-line .ensures) ∙ c .enum-told .given .1)) e
+abbrev o : tie.After-enum-told Inv-loop μ-loop → tie.After-next-line Inv-loop μ-loop
+o c = c .before .before
 
 returns-4 : tie.Need-returns-4 Inv-loop μ-loop
 returns-4 c =
     let q = c .before .before .before in
-    refuses (c .refusal4 .ensures) (c .before .new7 .ensures) (rest q (on-open _ _ _ _ _ _ _ _ _ _ _ _ (rest-some _ _ (c .before .before .if4 .taken))))
+    tried-open (inv (o q) .walk) (c .refusal4 .ensures) (sym (o q .next-line .ensures) ∙ q .enum-told .given .1) (c .before .before .if4 .taken) (c .before .new7 .ensures)
 
 -- and nothing stands there
 module _ (c : tie.Else4 Inv-loop μ-loop) where
   abbrev a : tie.After-next-line Inv-loop μ-loop
   a = o (c .before)
 
-  nothing : drop (at a) (text a) ≡ []
-  nothing = drop-of-length-le (text a) (c .if4 .left)
+  abbrev ended : TraceRead
+  ended =
+      judgedOn (regs a) (begin a .args .form) (begin a .args .side) (soFar (has a) (begin a .args .t8 .cells)) (begin a .args .t8) (a .before .loop .n) (memory a)
+      (inv a .before) (a .before .loop .bare) (a .before .loop .found) []
 
-  ends : isEmpty (drop (at a) (text a)) ≡ true
-  ends = rest-none _ _ (c .if4 .left)
+  ends : surveyEvents (regs a) (begin a .args .form) (begin a .args .side) (begin a .args .line) (has a) (begin a .args .t8) (splitFrom (text a) (begin a .args .from)) ≡ ended
+  unfolding saidIn
+  ends = tried-end (inv a .walk) (c .if4 .left) refl refl
 
 returns-5 : tie.Need-returns-5 Inv-loop μ-loop
 returns-5 c =
     let h = c .before .before .before in
-    refuses (c .refusal5 .ensures) refl (rest (h .before) (on-bare _ _ _ _ _ _ _ _ _ _ _ _ (ends h) (nothing h) (ne-eqb _ _ (c .before .if5 .taken))))
+    c .refusal5 .ensures ∙ sym (ends h ∙ on-bare _ _ _ _ _ _ _ _ _ _ (ne-eqb _ _ (c .before .if5 .taken)))
 
 -- each event has its line, and 21 is asked
 module _ (c : tie.After-idle-fault Inv-loop μ-loop) where
   abbrev h : tie.Else4 Inv-loop μ-loop
   h = c .before .before .before .before .before .before
 
-  idle-is : c .idle-fault .result
-      ≡ firstBad (isIdle (begin (a h) .args .form) (touched (inv (a h) .before))) 21 (begin (a h) .args .side) 2 (soFar (has (a h)) (begin (a h) .args .t8 .cells))
+  abbrev idle : Answer
+  idle = firstBad (isIdle (begin (a h) .args .form) (touched (inv (a h) .before))) 21 (begin (a h) .args .side) 2 (soFar (has (a h)) (begin (a h) .args .t8 .cells))
+
+  idle-is : c .idle-fault .result ≡ idle
   idle-is =
       c .idle-fault .ensures
       ∙ ap (λ (t : ℕ → Bool). firstBad (isIdle (begin (a h) .args .form) t) 21 (begin (a h) .args .side) 2 (soFar (has (a h)) (begin (a h) .args .t8 .cells)))
       (fun-ext (inv (a h) .touch))
 
-  number-is : {m : ℕ} → c .idle-fault .result .number ≡ m
-      → firstBad (isIdle (begin (a h) .args .form) (touched (inv (a h) .before))) 21 (begin (a h) .args .side) 2 (soFar (has (a h)) (begin (a h) .args .t8 .cells)) .number ≡ m
-  number-is e = ap (λ (x : Answer). x .number) (sym idle-is) ∙ e
+  bare-is : a h .before .loop .bare .number ≡ 0
+  bare-is = c .before .before .before .before .if5 .left
 
 returns-6 : tie.Need-returns-6 Inv-loop μ-loop
 returns-6 c =
     let i = c .before .before .before in
-    refuses (c .refusal6 .ensures) (idle-is i)
-    (rest (h i .before) (on-idle _ _ _ _ _ _ _ _ _ _ _ _ (ends (h i)) (nothing (h i)) (i .before .before .before .before .if5 .left)
-    (ne-eqb _ _ (λ z. c .before .if6 .taken (ap (λ (x : Answer). x .number) (idle-is i) ∙ z)))))
+    c .refusal6 .ensures
+    ∙ (ap refused (idle-is i) ∙ sym (ends (h i) ∙ on-idle _ _ _ _ _ _ _ _ _ _ (bare-is i) (rw (idle-is i) at (ne-eqb _ _ (c .before .if6 .taken)))))
 
 returns-7 : tie.Need-returns-7 Inv-loop μ-loop
 returns-7 c =
     let e = c .before .before .before in
     let i = e .before .before in
-    refuses (c .refusal7 .ensures) refl
-    (rest (h i .before) (on-found _ _ _ _ _ _ _ _ _ _ _ _ (ends (h i)) (nothing (h i)) (i .before .before .before .before .if5 .left) (number-is i (e .if6 .left))
-    (ne-eqb _ _ (c .before .if7 .taken))))
+    c .refusal7 .ensures
+    ∙ sym (ends (h i) ∙ on-found _ _ _ _ _ _ _ _ _ _ (bare-is i) (rw (idle-is i) at (e .if6 .left)) (ne-eqb _ _ (c .before .if7 .taken)))
 
 returns-8 : tie.Need-returns-8 Inv-loop μ-loop
 returns-8 c =
     let e = c .before .before .before in
     let i = e .before .before in
-    rw (c .new8 .ensures)
-    (sym (rest (h i .before) (on-end _ _ _ _ _ _ _ _ _ _ _ _ (ends (h i)) (nothing (h i)) (i .before .before .before .before .if5 .left) (number-is i (e .if6 .left)) (c .before .if7 .left))))
+    rw (c .new8 .ensures) (sym (ends (h i) ∙ on-end _ _ _ _ _ _ _ _ _ _ (bare-is i) (rw (idle-is i) at (e .if6 .left)) (c .before .if7 .left)))
 
 pub survey-events-spec : {M : Type 1} → statement M
 survey-events-spec =
@@ -403,7 +375,7 @@ survey-events-spec =
     (λ c κs. line-lawful _ _ _ (its (y (c .before .before .before))))
     (search needs)
     (λ c κs. inv (d (c .before .before .before .before .before .before)) .none)
-    (λ c. omega (arith, line (t (r (v c))), inv (p c), begin (p c) .good))
+    (λ c. omega (arith, line (t (r (v c))), begin (p c) .good))
     (λ c. omega (arith, line (t (r (v c))), begin (p c) .good))
     (λ c. omega (arith, line (t (r (v c))), begin (p c) .good))
     loop-again
