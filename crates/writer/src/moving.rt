@@ -19,8 +19,9 @@ use memory::listed::Listed;
 use record::Record;
 use record::form::Form;
 use record::record_of;
-use text::line::line_end;
+use text::line::LineStep;
 use text::line::line_two;
+use text::line::next_line;
 use trace::form::form_of;
 use trace::moving::survey_to;
 use uses::UNTOUCHED;
@@ -46,10 +47,12 @@ fn touch_lines(ways: &mut Ways, text: &[u8])
 {
     let form = form_of(text);
     let mut at = line_two(text);
-    while at < text.len() {
-        let end = line_end(text, at);
-        touch_line(ways, record_of(form, &text[at..end]));
-        at = end + 1;
+    loop {
+        let LineStep::Line { to } = next_line(text, at) else {
+            return;
+        };
+        touch_line(ways, record_of(form, &text[at..to]));
+        at = to + 1;
     }
 }
 
@@ -73,12 +76,13 @@ fn put_lines(to: Form, out: &mut [u8], at: usize, text: &[u8]) -> usize
     let form = form_of(text);
     let mut next = at;
     let mut from = line_two(text);
-    while from < text.len() {
-        let end = line_end(text, from);
+    loop {
+        let LineStep::Line { to: end } = next_line(text, from) else {
+            return next;
+        };
         next = put_line(to, out, next, record_of(form, &text[from..end]));
         from = end + 1;
     }
-    next
 }
 
 // The whole text in a form, with the starting memory and the ways at hand.

@@ -1,13 +1,15 @@
 -- The ways after the events of the lines from here on are those after all. Assumes nothing.
-use Prim.Native.Nat.{ℕ, _+_, _-_, _≤_}
+use Prim.Native.Nat.{ℕ, _-_}
 use mathlib.Core.List.{List, [], _∷_, _++_}
 use mathlib.Core.Path.{_≡_, refl, sym, _∙_, ap}
 use native.Mathlib.Omega.{arith}
 use borrow.Author.Needs.{needs}
 use lib.ListN.{length}
 use Rattle.event.specs.declared.Event.{Event}
-use Rattle.text.proofs.Walk.{line-in}
-use Rattle.trace.specs.Reading.{formOf, eventsOn, eventsOf}
+use Rattle.text.specs.Line.{lineAt}
+use Rattle.text.specs.declared.line.LineStep.the-variants.{Line}
+use Rattle.text.proofs.Walk.{Next, next}
+use Rattle.trace.specs.Reading.{eventsOn, eventsOf}
 use Rattle.uses.specs.Way.{waysWith, waysOf}
 use Rattle.trace.proofs.Walks.{eventsFrom, events-start, events-line, events-none}
 use Rattle.writer.proofs.moving.touch_lines.Statement.{statement}
@@ -25,34 +27,24 @@ abbrev Inv-loop : tie.InvT-loop
 Inv-loop ways₀ text form at₀ ways at = waysOf ways₀ (eventsOf text) ≡ waysOf ways (eventsFrom text at)
 
 abbrev μ-loop : tie.MeasureT-loop
-μ-loop ways₀ text form at₀ ways at = length text + 1 - at
+μ-loop ways₀ text form at₀ ways at = length text - at
 
 -- a turn's line
-module _ (c : tie.After-line-end Inv-loop μ-loop) where
-  abbrev begin : tie.Start Inv-loop μ-loop
-  begin = c .before .before .before .before .before .before
+module _ (c : tie.After-to Inv-loop μ-loop) where
+  abbrev l : tie.At-loop Inv-loop μ-loop
+  l = c .before .before .before
 
   abbrev text : List ℕ
-  text = begin .args .text .now
+  text = l .before .before .before .before .args .text .now
 
-  abbrev at : ℕ
-  at = c .before .before .loop .at
+  here : lineAt text (l .loop .at) ≡ Line (c .to .given .0 .0)
+  here = sym (c .before .before .next-line .ensures) ∙ c .to .given .1
 
-  form-is : c .before .before .before .before .form-of .result ≡ formOf text
-  form-is = c .before .before .before .before .form-of .ensures
+  line : Next text (l .loop .at) (c .to .given .0 .0)
+  line = next _ _ _ here
 
-  ends : (at ≤ c .line-end .result) × (c .line-end .result ≤ length text)
-  ends = line-in text at (c .line-end .result) (c .line-end .ensures) (omega arith)
-
--- what it says, and the others
-module _ (c : tie.After-touch-line Inv-loop μ-loop) where
-  abbrev e : tie.After-line-end Inv-loop μ-loop
-  e = c .before .before .before .before
-
-  parted : eventsFrom (text e) (at e) ≡ eventsOn (c .before .record-of .result) ++ eventsFrom (text e) (e .line-end .result + 1)
-  parted =
-      events-line (text e) (at e) _ (e .line-end .ensures) (omega arith) {r = c .before .record-of .result}
-      (rw (← form-is e) (c .before .record-of .ensures))
+abbrev its : tie.After-touch-line Inv-loop μ-loop → tie.After-to Inv-loop μ-loop
+its c = c .before .before .before .before .before
 
 loop-holds : tie.Need-loop-holds Inv-loop μ-loop
 loop-holds c =
@@ -61,14 +53,18 @@ loop-holds c =
 
 loop-again : tie.Need-loop-again Inv-loop μ-loop
 loop-again c =
-    e c .before .before .loop .inv ∙ rw (parted c) (ways-then _ (eventsOn (c .before .record-of .result)) _ (c .touch-line .ensures))
+    let e = its c in
+    let r = c .before .record-of .result in
+    let f = l e .before .before .form-of .ensures in
+    let parted = events-line (text e) (l e .loop .at) (here e) {r = r} (rw (← f) (c .before .record-of .ensures)) in
+    l e .loop .inv ∙ rw parted (ways-then _ (eventsOn r) _ (c .touch-line .ensures))
 
 returns : tie.Need-returns Inv-loop μ-loop
 unfolding waysOf
 returns c =
-    let l = c .before in
-    let t = l .before .before .before .before .args .text .now in
-    sym (l .loop .inv ∙ rw (events-none t (l .loop .at) (omega arith)))
+    let o = c .before .before in
+    let t = o .before .before .before .before .before .args .text .now in
+    sym (o .before .loop .inv ∙ rw (events-none t (o .before .loop .at) (sym (o .next-line .ensures) ∙ c .enum-told .given .1)))
 
 pub touch-lines-spec : {M : Type 1} → statement M
 touch-lines-spec =
@@ -80,12 +76,14 @@ touch-lines-spec =
     (search needs)
     loop-holds
     (search needs)
-    (λ c. omega (arith, ends (c .before)))
-    (λ c. omega (arith, ends (c .before)))
-    (λ c. omega (arith, ends (c .before)))
     (search needs)
     (search needs)
-    (λ c. omega (arith, ends (e c), begin (e c) .good))
-    (λ c. omega (arith, ends (e c)))
-    loop-again
-    returns)
+    returns
+    (λ c. omega (arith, line (c .before .before)))
+    (λ c. omega (arith, line (c .before .before)))
+    (λ c. omega (arith, line (c .before .before)))
+    (search needs)
+    (search needs)
+    (λ c. omega (arith, line (its c)))
+    (λ c. omega (arith, line (its c)))
+    loop-again)
