@@ -1,5 +1,5 @@
 // A vector in a file: a header, what is handed over, what comes back. The head comment of peer/vectors.rs gives the formats.
-use text::line::line_end;
+use text::line::LF;
 use text::number::NumberRead;
 use text::number::number_of;
 use text::scan::find;
@@ -130,7 +130,7 @@ fn list_end(listed: bool, data: &[u8], header: &[u8], list: usize) -> usize {
 
 // The check or the run that begins at a place, with a list or without.
 pub(crate) fn check_vector(listed: bool, data: &[u8], at: usize) -> CheckVector {
-    let header_end = line_end(data, at);
+    let header_end = find(data, at, LF);
     let header = between(data, at, header_end);
     let source = forth(data, header_end, 1);
     let target = forth(data, source, number_at(header, SOURCE_BYTES));
@@ -151,7 +151,7 @@ pub(crate) fn check_vector(listed: bool, data: &[u8], at: usize) -> CheckVector 
 
 // The move or the writing that begins at a place, with a list or without.
 pub(crate) fn text_vector(listed: bool, data: &[u8], at: usize) -> TextVector {
-    let header_end = line_end(data, at);
+    let header_end = find(data, at, LF);
     let header = between(data, at, header_end);
     let text = forth(data, header_end, 1);
     let written = forth(data, text, number_at(header, TEXT_BYTES));

@@ -28,7 +28,8 @@ use kinds::is_in;
 use record::Record;
 use record::form::Form;
 use record::record_of;
-use text::line::line_end;
+use text::line::LineStep;
+use text::line::next_line;
 use trace::form::form_of;
 
 // A part of a text, from one place to another.
@@ -78,7 +79,7 @@ fn left_after(hit: bool, left: usize) -> usize
     left
 }
 
-// The k-th line that is counted, from 1; an empty part if there are not so many.
+// The k-th line that is counted, from 1; an empty part if there are not so many. What stands after the last LF counts too: where it is not empty, 2 names it.
 fn span_of(text: &[u8], only: bool, k: usize) -> Span
     ensures { λ r. ⌜ Spans (now (text .entry)) (nthLine (formOf (now (text .entry))) only k (standing 0 (split (now (text .entry)))) .line) r ⌝ }
     ensures { λ r. ⌜ r ≡ nthLine (formOf (now (text .entry))) only k (standing 0 (split (now (text .entry)))) .place ⌝ }
@@ -89,14 +90,23 @@ fn span_of(text: &[u8], only: bool, k: usize) -> Span
     let form = form_of(text);
     let mut at: usize = 0;
     let mut left = k;
-    while at <= text.len() {
-        let end = line_end(text, at);
-        let hit = is_counted(form, only, &text[at..end]);
+    loop {
+        let LineStep::Line { to } = next_line(text, at) else {
+            break;
+        };
+        let hit = is_counted(form, only, &text[at..to]);
         if ends_here(hit, left) {
-            return Span { from: at, to: end };
+            return Span { from: at, to };
         }
         left = left_after(hit, left);
-        at = end + 1;
+        at = to + 1;
+    }
+    let rest = is_counted(form, only, &text[at..text.len()]);
+    if ends_here(rest, left) {
+        return Span {
+            from: at,
+            to: text.len(),
+        };
     }
     Span { from: 0, to: 0 }
 }
