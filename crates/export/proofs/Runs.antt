@@ -10,7 +10,7 @@ use Rattle.changes.specs.declared.Applied.{Applied}
 use Rattle.changes.specs.declared.Run.{Run}
 use Rattle.changes.specs.declared.Step.{Step}
 use Rattle.steps.specs.Play.{nextBy}
-use Rattle.steps.specs.declared.Started.{Started}
+use Rattle.beginning.specs.declared.Started.{Started}
 use Rattle.numbers.specs.Numbers.{flag}
 use Rattle.export.specs.Runs.{Leaves, Opens, startNumbers}
 use Rattle.numbers.specs.Numbers.{runNumbers, stepNumbers}

@@ -7,8 +7,8 @@ use Rattle.rules.specs.Run.{Traced}
 use Rattle.checker.specs.Check.{Lent, sourceRoomAfter, targetRoomAfter, entryRoomAfter, sourceRoomListed, targetRoomListed, entryRoomListed}
 use Rattle.changes.specs.Apply.{appliedOf, tagsAfter}
 use Rattle.changes.specs.declared.Run.{Run}
-use Rattle.steps.specs.Play.{startedListed, startedOf, tagsListed, tagsOf}
-use Rattle.steps.specs.declared.Started.{Started}
+use Rattle.beginning.specs.Start.{startedListed, startedOf, tagsListed, tagsOf}
+use Rattle.beginning.specs.declared.Started.{Started}
 use Rattle.numbers.specs.Numbers.{flag, runNumbers, startedNumbers}
 
 -- A beginning: the check's numbers, then how many steps there are.

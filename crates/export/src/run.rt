@@ -7,6 +7,7 @@ ghost use Rattle.changes.specs.Apply.{outcome};
 ghost use Rattle.steps.specs.Play.{nextOf};
 ghost use Rattle.numbers.specs.Numbers.{runNumbered, stepNumbered, stepNumbers};
 ghost use Rattle.export.specs.Runs.{Begins, Leaves};
+use beginning::start;
 use changes::apply;
 use event::EVENT_LIMIT;
 use event::Entry;
@@ -18,7 +19,6 @@ use numbers::started_numbers;
 use numbers::step_numbered;
 use numbers::step_numbers;
 use steps::next;
-use steps::start;
 
 // A check, and the beginning of a run if it accepts: the check's numbers and how many steps there are, the run's numbers, the three rooms and the tags.
 #[no_mangle]

@@ -3,6 +3,8 @@
 use crate::check::print_found;
 use crate::print::front;
 use crate::print::print;
+use beginning::Started;
+use beginning::start_in;
 use changes::Run;
 use changes::Step;
 use changes::apply_listed;
@@ -11,9 +13,7 @@ use event::Entry;
 use event::WORDS;
 use event::Word;
 use memory::listed::Listed;
-use steps::Started;
 use steps::next_listed;
-use steps::start_in;
 use steps::swap_place;
 use writer::put::write_event;
 

@@ -11,7 +11,7 @@ use Rattle.event.specs.declared.Event.{Event}
 use Rattle.rules.specs.Fault.{isGone}
 use Rattle.rules.specs.Run.{old, new}
 use Rattle.changes.specs.Tags.{decoded, trace}
-use Rattle.steps.specs.Step.{leaves, numberAt, sourceNumber, targetNumber}
+use Rattle.course.specs.Step.{leaves, numberAt, sourceNumber, targetNumber}
 use Rattle.event.specs.Limit.{eventLimit}
 
 zero-gone : (n : ℕ) → isGone n ≡ eqb n 0

@@ -18,7 +18,7 @@ use Rattle.changes.specs.declared.Step.{Step}
 use Rattle.changes.proofs.Changes.{fits}
 use Rattle.changes.proofs.Traces.{length-trace}
 use Rattle.steps.specs.Play.{Played, Plays, isDone, nextBy, nextFromBy, oneMore, onward, playBy, stopped, swapPlace}
-use Rattle.steps.specs.Step.{nextStep}
+use Rattle.course.specs.Step.{nextStep}
 use Rattle.steps.specs.declared.Replayed.{Replayed}
 use Rattle.steps.proofs.Kept.{coded-applied, few-applied, open-running, running, stands-front}
 use Rattle.steps.proofs.Resume.{resumed}

@@ -17,8 +17,9 @@ use Rattle.changes.specs.declared.Step.{Step}
 use Rattle.changes.specs.declared.Step.the-variants.{Remove, Swap, Insert, Done, Stuck}
 use Rattle.changes.proofs.Allow.{at-move, swapped-move}
 use Rattle.steps.specs.Play.{nextFromBy, swapPlace}
-use Rattle.steps.specs.Step.{against, anyGone, hereOrLater, missing, nextStep, overtakes, removal, removeStep, shifted, swapStep, targetNumber}
-use Rattle.steps.proofs.Runs.{still-none}
+use Rattle.course.specs.Step.{against, anyGone, hereOrLater, missing, nextStep, overtakes, removal, removeStep, shifted, swapStep, targetNumber}
+use Rattle.course.proofs.Runs.{still-none}
+use Rattle.steps.specs.Promise.{Resumed}
 
 pub unshifted : (o : Option ℕ) → shifted 0 o ≡ o
 unshifted none = refl
@@ -93,3 +94,8 @@ module _ (look : Event → View) (s t : List Event) (ns : List ℕ) where
   resumed (Insert i) u v h a = refl
   resumed Done u v h a = refl
   resumed Stuck u v h a = refl
+
+-- ---- asking from the last swap's place on
+
+pub resumes : Resumed
+resumes look s t ns u v h = resumed look s t ns (nextStep look ns (length t) u) u v refl h

@@ -13,7 +13,7 @@ use Rattle.rules.specs.Run.{Traced, tagOf, viewed}
 use Rattle.changes.specs.Allowed.{mayRemove}
 use Rattle.changes.specs.Tags.{behind}
 use Rattle.changes.proofs.Seam.{behind-next}
-use Rattle.steps.specs.Step.{leaves, overtakes, against, removal, hereOrLater, shifted}
+use Rattle.course.specs.Step.{leaves, overtakes, against, removal, hereOrLater, shifted}
 
 module _ (view : Event → View) where
   -- ---- the last removal: downward, with nothing found from the index on

@@ -1,5 +1,3 @@
--- The steps of a run and their number, what the functions hand back, and what is promised of them. Assumes nothing.
-pub mod Step
-pub mod Cost
+-- What the functions hand back, and what is promised of a next step. Assumes nothing.
 pub mod Play
 pub mod Promise

@@ -6,7 +6,7 @@ ghost use Rattle.event.specs.declared.Event.{Event};
 ghost use Rattle.event.specs.Room.{wholeEvents};
 ghost use Rattle.rules.specs.View.{viewIn};
 ghost use Rattle.changes.specs.Tags.{trace};
-ghost use Rattle.steps.specs.Step.{anyGone, missing, orderStep, removal, removeStep};
+ghost use Rattle.course.specs.Step.{anyGone, missing, orderStep, removal, removeStep};
 use crate::tag::is_leaving;
 use crate::tag::is_overtaking;
 use crate::tag::target_number;

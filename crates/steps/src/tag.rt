@@ -1,11 +1,7 @@
 // What a run holds of an event: a number that says where it comes from.
 ghost use mathlib.Core.Path.{_≡_};
-ghost use Prim.Native.Nat.{_≤_};
-ghost use lib.ListN.{length};
-ghost use Rattle.changes.specs.Apply.{front};
 ghost use Rattle.changes.specs.Tags.{decoded};
-ghost use Rattle.steps.specs.Step.{leaves, overtakes, targetNumber};
-ghost use Rattle.steps.specs.Play.{counted};
+ghost use Rattle.course.specs.Step.{leaves, overtakes, targetNumber};
 use event::EVENT_LIMIT;
 use event::Entry;
 use event::number_index;
@@ -39,16 +35,4 @@ pub(crate) fn is_overtaking(entries: &[Entry], tag: usize, next: usize) -> bool
         return false;
     }
     number < target_number(entries, tag)
-}
-
-// The numbers of the source's events.
-pub(crate) fn fill(tags: &mut [usize], events: usize)
-    requires { ⌜ events ≤ length (now tags) ⌝ }
-    ensures { λ _. ⌜ now (tags .exit) ≡ front (counted 0 events) (now (tags .entry)) ⌝ }
-{
-    let mut i: usize = 0;
-    while i < events {
-        tags[i] = i;
-        i += 1;
-    }
 }

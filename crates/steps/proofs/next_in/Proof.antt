@@ -16,7 +16,7 @@ use Rattle.changes.specs.Tags.{trace}
 use Rattle.changes.specs.declared.Run.{Run}
 use Rattle.changes.proofs.Changes.{fits}
 use Rattle.steps.specs.Play.{nextBy}
-use Rattle.steps.specs.Step.{against, anyGone, missing, orderStep, removal, removeStep, shifted, swapStep}
+use Rattle.course.specs.Step.{against, anyGone, missing, orderStep, removal, removeStep, shifted, swapStep}
 use Rattle.steps.proofs.next_in.Statement.{statement}
 use Rattle.steps.proofs.next_in.Tie as tie
 

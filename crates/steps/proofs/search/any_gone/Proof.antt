@@ -8,7 +8,7 @@ use lib.ListN.{length, drop}
 use Rattle.event.specs.declared.Event.{Event}
 use Rattle.changes.specs.Tags.{trace}
 use Rattle.changes.proofs.Traces.{drop-at, drop-past}
-use Rattle.steps.specs.Step.{anyGone}
+use Rattle.course.specs.Step.{anyGone}
 use Rattle.steps.proofs.search.any_gone.Statement.{statement}
 use Rattle.steps.proofs.search.any_gone.Tie as tie
 

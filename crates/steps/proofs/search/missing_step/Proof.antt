@@ -13,7 +13,7 @@ use Rattle.changes.specs.Tags.{trace}
 use Rattle.changes.specs.declared.Step.{Step}
 use Rattle.changes.specs.declared.Step.the-variants.{Insert, Done}
 use Rattle.changes.proofs.Traces.{drop-at, drop-past}
-use Rattle.steps.specs.Step.{missing}
+use Rattle.course.specs.Step.{missing}
 use Rattle.steps.proofs.search.missing_step.Statement.{statement}
 use Rattle.steps.proofs.search.missing_step.Tie as tie
 

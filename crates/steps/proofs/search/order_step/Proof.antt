@@ -12,7 +12,7 @@ use Rattle.rules.specs.Run.{tagOf, Traced}
 use Rattle.changes.specs.Tags.{decoded, trace, tracedFor}
 use Rattle.changes.specs.declared.Step.the-variants.{Swap}
 use Rattle.changes.proofs.Traces.{length-trace, trace-at}
-use Rattle.steps.specs.Step.{against, missing, orderStep, overtakes, shifted, swapStep}
+use Rattle.course.specs.Step.{against, missing, orderStep, overtakes, shifted, swapStep}
 use Rattle.steps.proofs.Searches.{against-next, against-found, against-end}
 use Rattle.steps.proofs.search.order_step.Statement.{statement}
 use Rattle.steps.proofs.search.order_step.Tie as tie

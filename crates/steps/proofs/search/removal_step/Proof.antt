@@ -15,7 +15,7 @@ use Rattle.changes.specs.Tags.{behind, decoded, trace, tracedFor}
 use Rattle.changes.specs.declared.Step.the-variants.{Remove}
 use Rattle.changes.proofs.Near.{removable-in}
 use Rattle.changes.proofs.Traces.{drop-past, length-trace, trace-at}
-use Rattle.steps.specs.Step.{leaves, numberAt, removal, removeStep}
+use Rattle.course.specs.Step.{leaves, numberAt, removal, removeStep}
 use Rattle.steps.proofs.Numbers.{leaving-old, number-at}
 use Rattle.steps.proofs.Searches.{Open, removal-on, removal-found}
 use Rattle.steps.proofs.search.removal_step.Statement.{statement}
