@@ -12,7 +12,7 @@ use Rattle.event.specs.declared.Event.{Event}
 use Rattle.rules.specs.View.{View, wall, load, store, viewIn, apart, isLoad, isWall, valueOf}
 use Rattle.rules.specs.Moves.{extend, group, near}
 use Rattle.rules.specs.Run.{Traced, eventOf, viewed}
-use Rattle.fates.proofs.Sight.{Sees, sees-in, a-load, a-store, a-wall}
+use Rattle.sight.proofs.Sight.{Sees, sees-in, a-load, a-store, a-wall}
 use Rattle.changes.specs.Apply.{removableAt}
 use Rattle.changes.specs.Allowed.{holds, stores, mayInsert, mayRemove}
 use Rattle.changes.specs.Tags.{behind, eventFor, trace, tracedFor}

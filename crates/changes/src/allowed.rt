@@ -23,10 +23,10 @@ use event::Event;
 use event::WORDS;
 use event::Word;
 use event::room::get;
-use fates::view::is_load_in;
-use fates::view::is_wall_in;
 use kinds::USED;
 use memory::listed::Listed;
+use sight::is_load_in;
+use sight::is_wall_in;
 
 // Whether the near access to a location before an index has a value.
 fn holds_before(

@@ -13,7 +13,7 @@ use Rattle.fates.specs.Pass.{sourceFaultBy, goneFault, keepFaultBy, remo
 use Rattle.fates.specs.declared.source.Cell.{Cell}
 use Rattle.fates.specs.declared.source.Tops.{Tops}
 use Rattle.fates.proofs.Passes.{any, crossed-gone, crossed-plain, crossed-wall, isAt, plain-load, plain-store, topBy}
-use Rattle.fates.proofs.Sight.{Sees, a-load, a-store, a-wall}
+use Rattle.sight.proofs.Sight.{Sees, a-load, a-store, a-wall}
 
 -- ---- a source event
 

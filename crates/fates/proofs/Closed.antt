@@ -17,7 +17,7 @@ use Rattle.rules.specs.View.{View, viewIn, isLoad, isWall}
 use Rattle.rules.specs.Fault.{Fate, Item, closing, fate, group, item}
 use Rattle.fates.specs.Pass.{closingAfter, closingAt, itemsFrom}
 use Rattle.fates.proofs.Arrays.{ArrayOf, array-all, array-at}
-use Rattle.fates.proofs.Events.{drop-next, onward-next}
+use Rattle.sight.proofs.Events.{drop-next, onward-next}
 use Rattle.fates.proofs.Passes.{PlainAt, closing-at, walled}
 
 -- the items of a room

@@ -4,9 +4,6 @@
 pub mod Passes
 pub mod Cells
 pub mod Onward
--- the events of a room, and what the rules see of them
-pub mod Sight
-pub mod Events
 -- the arrays of the passes
 pub mod Arrays
 pub mod Closed

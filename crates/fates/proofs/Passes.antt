@@ -13,7 +13,7 @@ use Rattle.laws.proofs.Cases.{cases, either}
 use Rattle.rules.specs.Fault.{Fate, gone, fate, group, near, Item, closing, crossed, isNone, item, stays, viewOf, witness}
 use Rattle.rules.specs.View.{load, store, wall, View, apart, placeOf, isLoad, isWall}
 use Rattle.fates.specs.Pass.{closingAfter, larger, takesOver, topAfter}
-use Rattle.fates.proofs.Sight.{Sees, a-load, a-store, a-wall}
+use Rattle.sight.proofs.Sight.{Sees, a-load, a-store, a-wall}
 
 -- ---- a wall, and a plain event of a location and a value
 

@@ -11,11 +11,6 @@ ghost use Rattle.rules.specs.Fault.{fate, is, isGone, unlike};
 ghost use Rattle.rules.specs.Verdict.{sourceAnswer};
 ghost use Rattle.fates.specs.Pass.{Flagged, cellOf, closingAfter, crossedBy, sourceFaultBy, goneFault, keepFaultBy, removalFaultBy, takesOver, topAfter, topsOf, witnessOf, witnessed};
 ghost use Rattle.event.specs.Limit.{eventLimit};
-use crate::is_gone;
-use crate::view::both;
-use crate::view::is_load_in;
-use crate::view::is_same;
-use crate::view::is_wall_in;
 use event::Answer;
 use event::EVENT_LIMIT;
 use event::Entry;
@@ -28,6 +23,11 @@ use event::number_index;
 use event::room::get;
 use kinds::USED;
 use memory::listed::Listed;
+use sight::both;
+use sight::is_gone;
+use sight::is_load_in;
+use sight::is_same;
+use sight::is_wall_in;
 
 // Whether a store before a plain event is closing, by whether one after the event is.
 fn closing_after(load: bool, entry: Entry, closing: bool) -> bool

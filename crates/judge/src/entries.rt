@@ -11,7 +11,7 @@ use crate::marks::mark;
 use event::Answer;
 use event::Entry;
 use event::number_index;
-use fates::is_gone;
+use sight::is_gone;
 
 // The answer; where it is no refusal, the numbers that the entries name are marked.
 pub(crate) fn entry_answer(entries: &[Entry], targets: usize, marks: &mut [u64; 13]) -> Answer

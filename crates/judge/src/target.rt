@@ -15,10 +15,10 @@ use event::WORDS;
 use event::Word;
 use event::index_of;
 use event::room::get;
-use fates::view::is_load_in;
-use fates::view::is_wall_in;
 use kinds::is_load_kind;
 use memory::listed::Listed;
+use sight::is_load_in;
+use sight::is_wall_in;
 
 // Whether a target event has no source and may not be inserted: it is no load, or the first access to its location since the last
 // synchronising event.

@@ -12,7 +12,7 @@ use Rattle.event.specs.declared.Answer.{Answer}
 use Rattle.event.specs.declared.Event.{Event}
 use Rattle.rules.specs.View.{View, viewIn}
 use Rattle.rules.specs.Verdict.{countAnswer, entryAnswer, sourceAnswer, startAnswerIn, targetAnswer, verdictIn}
-use Rattle.fates.proofs.Events.{onward-length}
+use Rattle.sight.proofs.Events.{onward-length}
 use Rattle.judge.proofs.judge.Statement.{statement}
 use Rattle.judge.proofs.judge.Tie as tie
 

@@ -9,7 +9,7 @@ use lib.ListN.{length, take}
 use borrow.Author.Needs.{needs}
 use Rattle.event.specs.Room.{wholeEvents}
 use Rattle.event.specs.declared.Event.{Event}
-use Rattle.fates.proofs.Events.{onward-length}
+use Rattle.sight.proofs.Events.{onward-length}
 use Rattle.rules.specs.View.{View, viewIn}
 use Rattle.changes.specs.Apply.{isOpen, stands}
 use Rattle.changes.specs.Tags.{trace}

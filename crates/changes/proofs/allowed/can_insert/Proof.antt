@@ -9,7 +9,7 @@ use lib.Seq.{length-take-le}
 use borrow.Author.Needs.{needs}
 use Rattle.event.specs.Room.{wholeEvents}
 use Rattle.event.specs.declared.Event.{Event}
-use Rattle.fates.proofs.Events.{onward-length, room-at}
+use Rattle.sight.proofs.Events.{onward-length, room-at}
 use Rattle.rules.specs.View.{viewIn}
 use Rattle.rules.specs.Run.{viewed}
 use Rattle.changes.specs.Allowed.{mayInsert}

@@ -2,7 +2,7 @@
 use mathlib.Core.Path.{sym, _∙_}
 use borrow.Author.Needs.{needs}
 use borrow.Author.Tests.{lt-ltb, le-ltb}
-use Rattle.fates.proofs.Events.{room-at}
+use Rattle.sight.proofs.Events.{room-at}
 use Rattle.changes.proofs.tag.event_of.Statement.{statement}
 use Rattle.changes.proofs.tag.event_of.Tie as tie
 

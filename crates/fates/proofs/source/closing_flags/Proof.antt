@@ -13,9 +13,9 @@ use Rattle.rules.specs.View.{viewIn, isWall}
 use Rattle.rules.specs.Fault.{Item, fate, item}
 use Rattle.fates.specs.Pass.{closingAt, itemsFrom}
 use Rattle.fates.proofs.Closed.{Closed, closed-is, closed-plain, closed-start, closed-wall, flag-is, flags-next, items-before, items-end}
-use Rattle.fates.proofs.Events.{place-in}
+use Rattle.sight.proofs.Events.{place-in}
 use Rattle.fates.proofs.Passes.{plain}
-use Rattle.fates.proofs.Sight.{sees-in}
+use Rattle.sight.proofs.Sight.{sees-in}
 use Rattle.fates.proofs.source.closing_flags.Statement.{statement}
 use Rattle.fates.proofs.source.closing_flags.Tie as tie
 

@@ -10,7 +10,7 @@ use Rattle.event.specs.declared.Event.{Event}
 use Rattle.rules.specs.View.{same}
 use Rattle.rules.specs.Fault.{fate, isGone, unlike}
 use Rattle.fates.proofs.Arrays.{kept-number}
-use Rattle.fates.proofs.Events.{room-at}
+use Rattle.sight.proofs.Events.{room-at}
 use Rattle.fates.proofs.source.differs.Statement.{statement}
 use Rattle.fates.proofs.source.differs.Tie as tie
 

@@ -12,7 +12,7 @@ use Rattle.rules.specs.Fault.{is}
 use Rattle.fates.specs.Pass.{goneFault, witnessed}
 use Rattle.fates.specs.declared.source.Cell.{Cell}
 use Rattle.fates.proofs.Cells.{gone-wall, gone-load, gone-store}
-use Rattle.fates.proofs.Sight.{sees-in}
+use Rattle.sight.proofs.Sight.{sees-in}
 use Rattle.fates.proofs.source.gone_fault.Statement.{statement}
 use Rattle.fates.proofs.source.gone_fault.Tie as tie
 

@@ -18,10 +18,10 @@ use Rattle.rules.specs.Fault.{Item, closing, fate, group, item}
 use Rattle.rules.specs.Verdict.{sourceAnswer, sourceFault}
 use Rattle.fates.specs.Pass.{closingAt, itemsFrom, takesOver, witnessOf, witnessed}
 use Rattle.fates.specs.declared.source.Witness.{Witness}
-use Rattle.fates.proofs.Events.{drop-next, onward-next, place-in}
+use Rattle.sight.proofs.Events.{drop-next, onward-next, place-in}
 use Rattle.fates.proofs.Onward.{source-goes, source-stops}
 use Rattle.fates.proofs.Passes.{plain}
-use Rattle.fates.proofs.Sight.{sees-in, sees-at}
+use Rattle.sight.proofs.Sight.{sees-in, sees-at}
 use Rattle.fates.proofs.Cells.{fault-at}
 use Rattle.fates.proofs.Tallied.{Tallied, right, tallied-plain, tallied-start, tallied-wall}
 use Rattle.fates.proofs.source.source_pass.Statement.{statement}

@@ -16,7 +16,7 @@ use Rattle.laws.specs.Has.{has}
 use Rattle.rules.specs.Fault.{isGone}
 use Rattle.rules.specs.Verdict.{entryAnswer}
 use Rattle.judge.specs.Pass.{Marked}
-use Rattle.fates.proofs.Events.{drop-next}
+use Rattle.sight.proofs.Events.{drop-next}
 use Rattle.judge.proofs.Onward.{entry-goes, entry-stops}
 use Rattle.fates.proofs.Arrays.{kept-number}
 use Rattle.judge.proofs.Marked.{marked-gone, marked-next, marked-start}

@@ -18,10 +18,10 @@ use Rattle.rules.specs.Fault.{Item, isNone, item, near, stays, unsupported}
 use Rattle.rules.specs.Verdict.{targetItem, targetAnswer, targetFault}
 use Rattle.judge.specs.Pass.{Marked, targetFaultBy, unsupportedBy}
 use Rattle.fates.proofs.Arrays.{Fresh, fresh-plain, fresh-start, fresh-wall}
-use Rattle.fates.proofs.Events.{onward-next, place-in}
+use Rattle.sight.proofs.Events.{onward-next, place-in}
 use Rattle.judge.proofs.Onward.{target-goes, target-stops}
 use Rattle.fates.proofs.Passes.{plain}
-use Rattle.fates.proofs.Sight.{Sees, a-load, a-store, a-wall, sees-in}
+use Rattle.sight.proofs.Sight.{Sees, a-load, a-store, a-wall, sees-in}
 use Rattle.judge.proofs.target.target_answer.Statement.{statement}
 use Rattle.judge.proofs.target.target_answer.Tie as tie
 

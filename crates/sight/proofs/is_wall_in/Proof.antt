@@ -1,8 +1,8 @@
 -- A register access is a wall, and no load; any other event is seen as ever. Assumes nothing.
 use mathlib.Core.Path.{sym, _∙_}
 use borrow.Author.Needs.{needs}
-use Rattle.fates.proofs.view.is_wall_in.Statement.{statement}
-use Rattle.fates.proofs.view.is_wall_in.Tie as tie
+use Rattle.sight.proofs.is_wall_in.Statement.{statement}
+use Rattle.sight.proofs.is_wall_in.Tie as tie
 
 returns : tie.Need-returns
 returns c = rw (sym (c .before .is-register .ensures) ∙ c .if1 .taken)

@@ -1,7 +1,9 @@
-// What the rules see of an event.
+// What the rules see of an event, and whether its entry says that it is gone.
 ghost use mathlib.Core.Path.{_≡_};
+ghost use Rattle.rules.specs.Fault.{isGone};
 ghost use mathlib.Core.Bool.{_&&_, _||_};
 ghost use Rattle.rules.specs.View.{view, viewIn, same, isWall, isLoad};
+use event::Entry;
 use event::Event;
 use kinds::is_load_kind;
 use kinds::is_plain;
@@ -9,13 +11,21 @@ use kinds::row_of;
 use memory::listed::Listed;
 use memory::listed::is_register;
 
-pub(crate) fn both(a: bool, b: bool) -> bool
+// Whether an entry says that its event is gone.
+pub fn is_gone(entry: Entry) -> bool
+    ensures { λ r. ⌜ r ≡ isGone entry ⌝ }
+{
+    entry == 0
+}
+
+// Both of two tests.
+pub fn both(a: bool, b: bool) -> bool
     ensures { λ r. ⌜ r ≡ (a && b) ⌝ }
 {
     a && b
 }
 
-pub(crate) fn either(a: bool, b: bool) -> bool
+fn either(a: bool, b: bool) -> bool
     ensures { λ r. ⌜ r ≡ (a || b) ⌝ }
 {
     a || b
@@ -56,7 +66,7 @@ pub fn is_load_in(listed: &Listed, e: Event) -> bool
 }
 
 // Whether two events are the same, the marks of loads and the code lines apart.
-pub(crate) fn is_same(e: Event, f: Event) -> bool
+pub fn is_same(e: Event, f: Event) -> bool
     ensures { λ r. ⌜ r ≡ same e f ⌝ }
 {
     both(

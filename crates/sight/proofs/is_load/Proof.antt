@@ -1,9 +1,9 @@
 -- What is plain and reads is a load. Assumes nothing.
 use mathlib.Core.Path.{sym, _∙_}
 use borrow.Author.Needs.{needs}
-use Rattle.fates.proofs.Sight.{load-reads}
-use Rattle.fates.proofs.view.is_load.Statement.{statement}
-use Rattle.fates.proofs.view.is_load.Tie as tie
+use Rattle.sight.proofs.Sight.{load-reads}
+use Rattle.sight.proofs.is_load.Statement.{statement}
+use Rattle.sight.proofs.is_load.Tie as tie
 
 returns : tie.Need-returns
 returns c =

@@ -1,7 +1,7 @@
 -- One test after the other, in the definition's order. Assumes nothing.
 use borrow.Author.Needs.{needs}
-use Rattle.fates.proofs.view.is_same.Statement.{statement}
-use Rattle.fates.proofs.view.is_same.Tie as tie
+use Rattle.sight.proofs.is_same.Statement.{statement}
+use Rattle.sight.proofs.is_same.Tie as tie
 
 returns : tie.Need-returns
 returns c = rw (

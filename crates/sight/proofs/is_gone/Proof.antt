@@ -3,8 +3,8 @@ use mathlib.Core.Path.{_≡_, refl}
 use Prim.Native.Nat.{ℕ, zero, suc}
 use lib.Dec.{eqb, eqb·suc-zero}
 use Rattle.rules.specs.Fault.{isGone}
-use Rattle.fates.proofs.is_gone.Statement.{statement}
-use Rattle.fates.proofs.is_gone.Tie as tie
+use Rattle.sight.proofs.is_gone.Statement.{statement}
+use Rattle.sight.proofs.is_gone.Tie as tie
 
 is-zero : (n : ℕ) → eqb n 0 ≡ isGone n
 is-zero zero = refl
