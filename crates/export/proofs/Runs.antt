@@ -12,7 +12,8 @@ use Rattle.changes.specs.declared.Step.{Step}
 use Rattle.steps.specs.Play.{nextBy}
 use Rattle.beginning.specs.declared.Started.{Started}
 use Rattle.numbers.specs.Numbers.{flag}
-use Rattle.export.specs.Runs.{Leaves, Opens, startNumbers}
+use Rattle.export.specs.Runs.{Leaves, Opens}
+use Rattle.results.specs.Results.{startNumbers}
 use Rattle.numbers.specs.Numbers.{runNumbers, stepNumbers}
 
 pub step-laid : (look look′ : Event → View) (s t : List Event) (ns : List ℕ) (swapped : ℕ) (r r′ : Run) (A : List ℕ) (st : Step) (l : List ℕ)
@@ -20,21 +21,21 @@ pub step-laid : (look look′ : Event → View) (s t : List Event) (ns : List �
 step-laid look look′ s t ns swapped r r′ A st l e f v g = rw (← v, ← g) (e ∙ ap stepNumbers f)
 
 pub applied-laid : (look look′ : Event → View) (s t : List Event) (r r′ : Run) (A B : List ℕ) (st st′ : Step) (a : Applied) (run : List ℕ) (g : ℕ)
-    → Applies r A (outcomeBy look s t r A st) a B → look ≡ look′ → r ≡ r′ → st ≡ st′ → run ≡ runNumbers (a .run) → g ≡ flag (a .allowed)
+    → Applies r A (outcomeBy look s t r A st) a B → look ≡ look′ → r ≡ r′ → st ≡ st′ → (g ≡ flag (a .allowed)) × (run ≡ runNumbers (a .run))
     → Leaves r′ A (outcomeBy look′ s t r′ A st′) g run B
-applied-laid look look′ s t r r′ A B st st′ a run g p v e q h k = rw (← v, ← e, ← q) (record {
-  answer = k ∙ ap (λ (x : Applied). flag (x .allowed)) (p .answer);
-  standing = h ∙ ap (λ (x : Applied). runNumbers (x .run)) (p .answer);
+applied-laid look look′ s t r r′ A B st st′ a run g p v e q h = rw (← v, ← e, ← q) (record {
+  answer = h .0 ∙ ap (λ (x : Applied). flag (x .allowed)) (p .answer);
+  standing = h .1 ∙ ap (λ (x : Applied). runNumbers (x .run)) (p .answer);
   left = p .left;
 })
 
 pub started-laid : (wanted r : Started) (source target matching tags sourceRoom targetRoom entryRoom after result run : List ℕ)
     → r ≡ wanted → sourceRoom ≡ source → targetRoom ≡ target → entryRoom ≡ matching → after ≡ tags
-    → result ≡ startNumbers r → run ≡ runNumbers (r .run)
+    → (result ≡ startNumbers r) × (run ≡ runNumbers (r .run))
     → Opens wanted source target matching tags result run sourceRoom targetRoom entryRoom after
-started-laid wanted r source target matching tags sourceRoom targetRoom entryRoom after result run e p q t l n s = record {
-  numbers = n ∙ ap startNumbers e;
-  begun = s ∙ ap (λ (x : Started). runNumbers (x .run)) e;
+started-laid wanted r source target matching tags sourceRoom targetRoom entryRoom after result run e p q t l n = record {
+  numbers = n .0 ∙ ap startNumbers e;
+  begun = n .1 ∙ ap (λ (x : Started). runNumbers (x .run)) e;
   sourceEvents = p;
   targetEvents = q;
   entries = t;

@@ -3,24 +3,10 @@ use Prim.Native.Nat.{ℕ}
 use mathlib.Core.List.{List}
 use mathlib.Core.Path.{_≡_}
 use Rattle.memory.specs.declared.Memory.{Memory}
-use Rattle.trace.specs.declared.reading.TraceRead.{TraceRead}
-use Rattle.matching.specs.declared.MatchingRead.{MatchingRead}
 use Rattle.checker.specs.declared.Checked.{Checked}
 use Rattle.checker.specs.Check.{Lent, checkOf, sourceRoomAfter, targetRoomAfter, entryRoomAfter}
 use Rattle.checker.specs.Check.{checkListed, sourceRoomListed, targetRoomListed, entryRoomListed}
-use Rattle.numbers.specs.Numbers.{checkedNumbers, countNumbers}
-
--- A trace read: its answer, then its events.
-abbrev pub traceNumbers : TraceRead → List ℕ
-traceNumbers r = countNumbers (r .answer) (r .events)
-
--- A matching read: its answer, then its entries.
-abbrev pub matchingNumbers : MatchingRead → List ℕ
-matchingNumbers r = countNumbers (r .answer) (r .entries)
-
--- A check: its answer, then the events of the source, those of the target, and the entries.
-abbrev pub checkNumbers : Checked → List ℕ
-checkNumbers c = checkedNumbers (c .answer) (c .source .events) (c .target .events) (c .entries)
+use Rattle.results.specs.Results.{checkNumbers}
 
 -- The memory of 256 cells.
 abbrev pub starting : List ℕ → Memory

@@ -9,12 +9,8 @@ use Rattle.changes.specs.Apply.{appliedOf, tagsAfter}
 use Rattle.changes.specs.declared.Run.{Run}
 use Rattle.beginning.specs.Start.{startedListed, startedOf, tagsListed, tagsOf}
 use Rattle.beginning.specs.declared.Started.{Started}
-use Rattle.numbers.specs.Numbers.{flag, runNumbers, startedNumbers}
-
--- A beginning: the check's numbers, then how many steps there are.
-abbrev pub startNumbers : Started → List ℕ
-startNumbers s =
-    startedNumbers (s .checked .answer) (s .checked .source .events) (s .checked .target .events) (s .checked .entries) (s .cost)
+use Rattle.numbers.specs.Numbers.{flag, runNumbers}
+use Rattle.results.specs.Results.{startNumbers}
 
 -- What a beginning leaves in the lent arrays and rooms: what it is to hand back, laid out, and the rooms and the tags as they are to be.
 pub record Opens (s : Started) (source target matching tags : List ℕ) (result run sourceRoom targetRoom entryRoom after : List ℕ) : Type 0 where

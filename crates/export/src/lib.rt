@@ -12,7 +12,8 @@ ghost use Rattle.matching.specs.Reading.{readOf as matchingOf, roomAfter as ent
 ghost use Rattle.checker.specs.Check.{lent};
 ghost use Rattle.checker.specs.Line.{offendingLine, offendingSpan, faultText, span, Spans};
 ghost use Rattle.numbers.specs.Numbers.{answerNumbers, formNumber, formNumbered};
-ghost use Rattle.export.specs.Handed.{traceNumbers, matchingNumbers, starting, Leaves};
+ghost use Rattle.results.specs.Results.{traceNumbers, matchingNumbers};
+ghost use Rattle.export.specs.Handed.{starting, Leaves};
 use checker::check_in;
 use checker::line::offending_span;
 use event::Answer;
@@ -23,10 +24,12 @@ use event::Word;
 use memory::Memory;
 use memory::listed::Listed;
 use numbers::answer_numbers;
-use numbers::checked_numbers;
-use numbers::count_numbers;
 use numbers::form_number;
 use numbers::form_numbered;
+use results::lay_check;
+use results::lay_span;
+use results::lay_trace;
+use results::matching_numbers;
 use trace::form::form_of;
 use writer::moving::move_to;
 
@@ -51,10 +54,7 @@ pub extern "C" fn laprunto_read_trace(
     ensures { λ _. ⌜ now (room .exit) ≡ roomAfter 1 (now (text .entry)) (now (room .entry)) ⌝ }
 {
     let read = trace::read(text, room);
-    let start = read.memory;
-    let cells = start.cells;
-    *memory = cells;
-    *result = count_numbers(read.answer, read.events);
+    lay_trace(read, memory, result);
 }
 
 // A matching text read alone: number, side, place and entries, and the room.
@@ -64,7 +64,7 @@ pub extern "C" fn laprunto_read_matching(text: &[u8], room: &mut [Entry], result
     ensures { λ _. ⌜ now (room .exit) ≡ entriesAfter (now (text .entry)) (now (room .entry)) ⌝ }
 {
     let read = matching::read(text, room);
-    *result = count_numbers(read.answer, read.entries);
+    *result = matching_numbers(read);
 }
 
 // A starting memory and the events of a part of a room, written as a text of a form: number, side and place, and the bytes.
@@ -128,20 +128,7 @@ pub extern "C" fn laprunto_check(
         target_room,
         entry_room,
     );
-    let source_held = checked.source;
-    let target_held = checked.target;
-    let source_start = source_held.memory;
-    let target_start = target_held.memory;
-    let source_cells = source_start.cells;
-    let target_cells = target_start.cells;
-    *source_memory = source_cells;
-    *target_memory = target_cells;
-    *result = checked_numbers(
-        checked.answer,
-        source_held.events,
-        target_held.events,
-        checked.entries,
-    );
+    lay_check(checked, source_memory, target_memory, result);
 }
 
 // Where the offending line of a check stands in the target text, for side 2, else in the source text: its start and its end.
@@ -161,6 +148,5 @@ pub extern "C" fn laprunto_offending_line(
     ensures { λ _. ⌜ span (now (from .exit)) (now (to .exit)) ≡ offendingSpan (now (source .entry)) (now (target .entry)) (answer number side place) ⌝ }
 {
     let part = offending_span(source, target, Answer::new(number, side, place));
-    *from = part.from;
-    *to = part.to;
+    lay_span(part, from, to);
 }

@@ -10,7 +10,8 @@ ghost use Rattle.checker.specs.Check.{lent};
 ghost use Rattle.changes.specs.Apply.{outcomeBy};
 ghost use Rattle.steps.specs.Play.{nextBy};
 ghost use Rattle.numbers.specs.Numbers.{answerNumbers, marks, listing, formNumbered, runNumbered, stepNumbered, stepNumbers};
-ghost use Rattle.export.specs.Handed.{traceNumbers, starting, LeavesListed};
+ghost use Rattle.results.specs.Results.{traceNumbers};
+ghost use Rattle.export.specs.Handed.{starting, LeavesListed};
 ghost use Rattle.export.specs.Runs.{BeginsListed, Leaves};
 use beginning::start_listed;
 use changes::apply_listed;
@@ -22,17 +23,16 @@ use event::PLACES;
 use event::Word;
 use memory::Memory;
 use numbers::answer_numbers;
-use numbers::checked_numbers;
-use numbers::count_numbers;
-use numbers::flag_of;
 use numbers::form_numbered;
 use numbers::listed_of;
 use numbers::marks_of;
 use numbers::run_numbered;
-use numbers::run_numbers;
-use numbers::started_numbers;
 use numbers::step_numbered;
 use numbers::step_numbers;
+use results::lay_applied;
+use results::lay_check;
+use results::lay_start;
+use results::lay_trace;
 use steps::next_listed;
 use trace::read_listed;
 use writer::moving::move_listed;
@@ -68,10 +68,7 @@ pub extern "C" fn laprunto_read_trace_listed(
     ensures { λ _. ⌜ now (room .exit) ≡ roomListed (now (list .entry)) (now (text .entry)) (now (room .entry)) ⌝ }
 {
     let read = read_listed(list, text, room);
-    let start = read.memory;
-    let cells = start.cells;
-    *memory = cells;
-    *result = count_numbers(read.answer, read.events);
+    lay_trace(read, memory, result);
 }
 
 // `laprunto_write_trace` with a list.
@@ -139,20 +136,7 @@ pub extern "C" fn laprunto_check_listed(
         target_room,
         entry_room,
     );
-    let source_held = checked.source;
-    let target_held = checked.target;
-    let source_start = source_held.memory;
-    let target_start = target_held.memory;
-    let source_cells = source_start.cells;
-    let target_cells = target_start.cells;
-    *source_memory = source_cells;
-    *target_memory = target_cells;
-    *result = checked_numbers(
-        checked.answer,
-        source_held.events,
-        target_held.events,
-        checked.entries,
-    );
+    lay_check(checked, source_memory, target_memory, result);
 }
 
 // `laprunto_start` with a list.
@@ -185,16 +169,7 @@ pub extern "C" fn laprunto_start_listed(
         entry_room,
         tags,
     );
-    let begun = started.run;
-    *run = run_numbers(begun);
-    let checked = started.checked;
-    *result = started_numbers(
-        checked.answer,
-        checked.source.events,
-        checked.target.events,
-        checked.entries,
-        started.cost,
-    );
+    lay_start(started, run, result);
 }
 
 // `laprunto_next` with the marks of a list, as `laprunto_read_list` leaves them.
@@ -253,7 +228,5 @@ pub extern "C" fn laprunto_apply_listed(
         target,
         step,
     );
-    let after = applied.run;
-    *run = run_numbers(after);
-    flag_of(applied.allowed)
+    lay_applied(applied, run)
 }

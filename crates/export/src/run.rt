@@ -12,12 +12,11 @@ use changes::apply;
 use event::EVENT_LIMIT;
 use event::Entry;
 use event::Word;
-use numbers::flag_of;
 use numbers::run_numbered;
-use numbers::run_numbers;
-use numbers::started_numbers;
 use numbers::step_numbered;
 use numbers::step_numbers;
+use results::lay_applied;
+use results::lay_start;
 use steps::next;
 
 // A check, and the beginning of a run if it accepts: the check's numbers and how many steps there are, the run's numbers, the three rooms and the tags.
@@ -48,16 +47,7 @@ pub extern "C" fn laprunto_start(
         entry_room,
         tags,
     );
-    let begun = started.run;
-    *run = run_numbers(begun);
-    let checked = started.checked;
-    *result = started_numbers(
-        checked.answer,
-        checked.source.events,
-        checked.target.events,
-        checked.entries,
-        started.cost,
-    );
+    lay_start(started, run, result);
 }
 
 // The next step of a run: its kind, its place and its source number. `swapped` is 0, or the place of the swap that was just applied.
@@ -103,7 +93,5 @@ pub extern "C" fn laprunto_apply(
 {
     let step = step_numbered(kind, place, number);
     let applied = apply(run_numbered(run[0], run[1]), tags, source, target, step);
-    let after = applied.run;
-    *run = run_numbers(after);
-    flag_of(applied.allowed)
+    lay_applied(applied, run)
 }

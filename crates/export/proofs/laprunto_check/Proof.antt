@@ -6,17 +6,10 @@ use Rattle.export.proofs.laprunto_check.Tie as tie
 
 returns : tie.Need-returns
 returns c =
-    let k = c .before .before .before .before .before .before .before .before .before .before .before .before .before .check-in in
+    let k = c .before .before .before .before .before .before .before .before .before .before .check-in in
     let e = k .ensures in
-    check-laid _ (k .result) _ _ _ _ _ _ _ (e .result) (e .source) (e .target) (e .entries) (c .checked-numbers .ensures)
+    check-laid _ (k .result) _ _ _ _ _ _ _ _ _ (e .result) (e .source) (e .target) (e .entries) (c .lay-check .ensures)
 
 pub laprunto-check-spec : {M : Type 1} → statement M
 laprunto-check-spec =
-    tie.close
-    (tie.spec
-    (search needs)
-    (search needs)
-    (search needs)
-    (search needs)
-    (search needs)
-    returns)
+    tie.close (tie.spec (search needs) (search needs) (search needs) (search needs) (search needs) returns)

@@ -9,16 +9,15 @@ use Rattle.export.proofs.listed.laprunto_apply_listed.Tie as tie
 
 returns : tie.Need-returns
 returns c =
-    let s = c .before in
-    let k = s .before .before in
+    let k = c .before .before in
     let r = k .before .before in
     let n = r .before .before .before .before in
     let m = n .before in
     let a = m .before .before .before .before .args in
     applied-laid (viewIn (m .listed-of .result)) _ (wholeEvents (a .source .now)) (wholeEvents (a .target .now)) (r .run-numbered .result) _ (a .tags .now) _
-    (n .step-numbered .result) _ (k .apply-listed .result) (s .run-numbers .result) (c .flag-of .result) (k .apply-listed .ensures)
-    (ap viewIn (m .listed-of .ensures)) (r .run-numbered .ensures) (n .step-numbered .ensures) (s .run-numbers .ensures) (c .flag-of .ensures)
+    (n .step-numbered .result) _ (k .apply-listed .result) _ (c .lay-applied .result) (k .apply-listed .ensures)
+    (ap viewIn (m .listed-of .ensures)) (r .run-numbered .ensures) (n .step-numbered .ensures) (c .lay-applied .ensures)
 
 pub laprunto-apply-listed-spec : {M : Type 1} → statement M
 laprunto-apply-listed-spec =
-    tie.close (tie.spec (search needs) (search needs) (search needs) (search needs) (search needs) (search needs) (search needs) (search needs) returns)
+    tie.close (tie.spec (search needs) (search needs) (search needs) (search needs) (search needs) (search needs) (search needs) returns)

@@ -7,7 +7,7 @@ use Rattle.export.proofs.listed.laprunto_read_trace_listed.Tie as tie
 returns : tie.Need-returns
 returns c =
     let r = c .before .before .before .before .before .read-listed in
-    let h = read-laid _ (r .result) _ (r .ensures .0) (c .count-numbers .ensures) in
+    let h = read-laid _ (r .result) _ _ (r .ensures .0) (c .lay-trace .ensures) in
     (h .0, (h .1, r .ensures .1))
 
 pub laprunto-read-trace-listed-spec : {M : Type 1} → statement M

@@ -6,11 +6,11 @@ use Rattle.export.proofs.listed.laprunto_start_listed.Tie as tie
 
 returns : tie.Need-returns
 returns c =
-    let k = c .before .before .before .before .before .before .before .before .before .before .start-listed in
+    let k = c .before .before .before .before .before .before .before .before .before .start-listed in
     let e = k .ensures in
-    started-laid _ (k .result) _ _ _ _ _ _ _ _ _ _ (e .result) (e .source) (e .target) (e .entries) (e .left) (c .started-numbers .ensures)
-    (c .before .before .run-numbers .ensures)
+    started-laid _ (k .result) _ _ _ _ _ _ _ _ _ _ (e .result) (e .source) (e .target) (e .entries) (e .left)
+    (c .lay-start .ensures)
 
 pub laprunto-start-listed-spec : {M : Type 1} → statement M
 laprunto-start-listed-spec =
-    tie.close (tie.spec (search needs) (search needs) (search needs) (search needs) (search needs) (search needs) returns)
+    tie.close (tie.spec (search needs) (search needs) (search needs) (search needs) (search needs) returns)

@@ -9,15 +9,14 @@ use Rattle.export.proofs.run.laprunto_apply.Tie as tie
 
 returns : tie.Need-returns
 returns c =
-    let s = c .before in
-    let k = s .before .before in
+    let k = c .before .before in
     let r = k .before .before in
     let n = r .before .before .before in
     let a = n .before .before .before .args in
     applied-laid view view (wholeEvents (a .source .now)) (wholeEvents (a .target .now)) (r .run-numbered .result) _ (a .tags .now) _ (n .step-numbered .result) _
-    (k .apply .result) (s .run-numbers .result) (c .flag-of .result) (k .apply .ensures) refl (r .run-numbered .ensures) (n .step-numbered .ensures)
-    (s .run-numbers .ensures) (c .flag-of .ensures)
+    (k .apply .result) _ (c .lay-applied .result) (k .apply .ensures) refl (r .run-numbered .ensures) (n .step-numbered .ensures)
+    (c .lay-applied .ensures)
 
 pub laprunto-apply-spec : {M : Type 1} → statement M
 laprunto-apply-spec =
-    tie.close (tie.spec (search needs) (search needs) (search needs) (search needs) (search needs) (search needs) (search needs) returns)
+    tie.close (tie.spec (search needs) (search needs) (search needs) (search needs) (search needs) (search needs) returns)

@@ -1,0 +1,2 @@
+-- One answer to each contract. Assumes nothing.
+pub mod Unique
