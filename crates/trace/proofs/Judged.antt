@@ -1,7 +1,7 @@
 -- The events of a room one by one: the first of those that are left, the first that is bad (18, 19; 20 and 21 alike), and what 5 and 6 say. Assumes
 -- nothing.
 use Prim.Native.Nat.{ℕ, suc, _+_, _-_, _≤_, _<_}
-use mathlib.Core.Bool.{Bool, true, false, _||_, not, false≢true}
+use mathlib.Core.Bool.{Bool, true, false, _||_, not, false≢true, or-true, or-false}
 use mathlib.Core.Path.{_≡_, refl, sym, _∙_}
 use mathlib.Core.List.{List, [], _∷_}
 use native.Mathlib.Omega.{arith}
@@ -9,12 +9,14 @@ use lib.Dec.{eqb}
 use borrow.Author.Tests.{eqb-true}
 use Rattle.laws.proofs.Cases.{cases, either}
 use Rattle.event.specs.Answer.{answer, done, first}
-use Rattle.memory.specs.Listed.{steppedIn}
+use Rattle.kinds.specs.Kind.{lawful}
+use Rattle.memory.specs.Listed.{isRegister, steppedIn}
 use Rattle.memory.specs.Memory.{stepped}
 use Rattle.event.specs.Room.{eventAt, onward}
 use Rattle.event.specs.declared.Answer.{Answer}
 use Rattle.event.specs.declared.Event.{Event}
 use Rattle.memory.specs.declared.Memory.{Memory}
+use Rattle.memory.specs.declared.Stepped.{Stepped}
 use Rattle.uses.proofs.Bad.{bad-go, bad-here, bad-end}
 use Rattle.frame.proofs.Settled.{first-done}
 use Rattle.uses.specs.Use.{clashesIn}
@@ -114,3 +116,8 @@ first-stays a side k clash right q z =
     let d = first-done a (faultAt side k clash right) (rw q at z) in
     let f = fault-free side k clash right (d .1) in
     rw (q, d .0, f .0, f .1)
+
+-- whether a lawful event's value is right, by what the memory says of it
+pub right-told : (regs : List Bool) (m : Memory) (e : Event) (s : Stepped) → lawful e ≡ true → s ≡ stepped m e → (s .right || isRegister regs e) ≡ steppedIn regs m e .right
+right-told regs m e s h p =
+    rw p (cases (either (isRegister regs e)) (λ i. rw (i, h) (or-true (stepped m e .right))) (λ i. rw i (or-false (stepped m e .right))))

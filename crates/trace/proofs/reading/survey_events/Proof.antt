@@ -14,9 +14,7 @@ use Rattle.event.specs.Limit.{lastPlace}
 use Rattle.event.specs.declared.Answer.{Answer}
 use Rattle.event.specs.declared.Event.{Event}
 use Rattle.memory.specs.declared.Memory.{Memory}
-use Rattle.memory.specs.declared.Stepped.{Stepped}
-use Rattle.kinds.specs.Kind.{lawful}
-use Rattle.memory.specs.Listed.{isRegister, usesAtomically, steppedIn}
+use Rattle.memory.specs.Listed.{usesAtomically, steppedIn}
 use Rattle.kinds.proofs.Lawful.{place-below}
 use Rattle.text.specs.Line.{lineAt, splitFrom, saidIn}
 use Rattle.text.specs.declared.line.LineStep.the-variants.{Line}
@@ -37,7 +35,7 @@ use Rattle.trace.specs.Reading.{traceLayout, eventsIn, refused}
 use Rattle.uses.specs.Cover.{marked, soFar}
 use Rattle.trace.specs.Survey.{closed, surveyEvents}
 use Rattle.trace.specs.declared.reading.TraceRead.{TraceRead}
-use Rattle.trace.proofs.Judged.{fault-free, faultless, first-stays}
+use Rattle.trace.proofs.Judged.{fault-free, faultless, first-stays, right-told}
 use Rattle.uses.proofs.Starts.{lined-starts}
 use Rattle.trace.proofs.Surveys.{judgedOn, on-start, on-bare, on-idle, on-found, on-end, on-go}
 use Rattle.uses.proofs.Ways.{or-right, with-inside, clash-inside, Marks, marks-start, marks-told, clash, marks-next, Touch, touch-told, touch-start, touch-next}
@@ -199,7 +197,7 @@ module _ (c : tie.Joined3 Inv-loop μ-loop) where
       ∙ ap (λ (b : Bool). usesAtomically (regs p) (event v) || b) (sym (clash ways (inv p .before) (event v) (inside v) (inv p .marks z)))
 
   right-is : right-now ≡ steppedIn (regs p) (memory p) (event v) .right
-  right-is = judged .is-right .ensures ∙ ap (λ (s : Stepped). cond (isRegister (regs p) (event v)) (lawful (event v)) (s .right)) (stepped-on .step .ensures)
+  right-is = judged .is-right .ensures ∙ right-told (regs p) (memory p) (event v) _ (line-lawful _ _ _ (its v)) (stepped-on .step .ensures)
 
   -- where the event is not at fault, what was found before stays
   told : after ≡ first found (faultAt (begin p .args .side) (p .before .loop .n + 1) (u .use-listed .result) right-now)
@@ -372,9 +370,9 @@ survey-events-spec =
     (search needs)
     (search needs)
     (search needs)
-    (λ c κs. line-lawful _ _ _ (its (y (c .before .before .before))))
     (search needs)
-    (λ c κs. inv (d (c .before .before .before .before .before .before)) .none)
+    (search needs)
+    (search needs)
     (λ c. omega (arith, line (t (r (v c))), begin (p c) .good))
     (λ c. omega (arith, line (t (r (v c))), begin (p c) .good))
     (λ c. omega (arith, line (t (r (v c))), begin (p c) .good))

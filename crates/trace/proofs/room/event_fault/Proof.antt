@@ -1,7 +1,7 @@
 -- The answer over all events is the answer over those from here on, which are lawful; the array says how the events so far used each
 -- location. Assumes nothing.
 use Prim.Native.Nat.{ℕ, _+_, _-_, _≤_, _<_}
-use mathlib.Core.Bool.{Bool, true, false, cond, not, _||_}
+use mathlib.Core.Bool.{Bool, true, false, not, _||_}
 use mathlib.Core.List.{List, [], _∷_}
 use mathlib.Core.Path.{_≡_, refl, sym, _∙_, ap}
 use native.Mathlib.Omega.{arith}
@@ -11,7 +11,7 @@ use lib.Dec.{eqb}
 use lib.ListN.{length, length-set}
 use Rattle.event.specs.Answer.{done, first}
 use Rattle.kinds.specs.Kind.{lawful}
-use Rattle.memory.specs.Listed.{isRegister, usesAtomically, steppedIn}
+use Rattle.memory.specs.Listed.{usesAtomically, steppedIn}
 use Rattle.event.specs.Room.{onward}
 use Rattle.event.specs.declared.Answer.{Answer}
 use Rattle.event.specs.declared.Event.{Event}
@@ -22,7 +22,7 @@ use Rattle.uses.specs.Use.{clashesIn}
 use Rattle.trace.specs.Fault.{faultAt, eventFaultIn}
 use Rattle.trace.specs.Writing.{layoutFault}
 use Rattle.uses.specs.Way.{clashing, clashingIn, waysAfter, waysWith}
-use Rattle.trace.proofs.Judged.{event-next, onward-end, onward-all, fault-next, fault-end, fault-free}
+use Rattle.trace.proofs.Judged.{event-next, onward-end, onward-all, fault-next, fault-end, fault-free, right-told}
 use Rattle.uses.proofs.Bad.{bad-none}
 use Rattle.uses.proofs.Ways.{or-right, with-inside, clash-inside, Marks, marks-start, marks-told, clash, marks-next}
 use Rattle.trace.proofs.room.event_fault.Statement.{statement}
@@ -123,7 +123,7 @@ module _ (c : tie.After-fault-at Inv-loop μ-loop) where
       ∙ ap (λ (b : Bool). usesAtomically (regs g) (e g) || b) (sym (clash (l g .loop .ways) (inv g .before) (e g) (inside g) (inv g .marks)))
 
   right-is : judged .is-right .result ≡ right-now
-  right-is = judged .is-right .ensures ∙ ap (λ (s : Stepped). cond (isRegister (regs g) (e g)) (lawful (e g)) (s .right)) (judged .before .step .ensures)
+  right-is = judged .is-right .ensures ∙ right-told (regs g) _ (e g) _ (sound g .0) (judged .before .step .ensures)
 
   found-is : c .fault-at .result ≡ its
   found-is = found-told (i g + 1) (l g .before .new .ensures) clash-is right-is (c .fault-at .ensures)
@@ -180,9 +180,9 @@ event-fault-spec =
     (search needs)
     (search needs)
     (search needs)
-    (λ c κs. sound (c .before .before .before) .0)
+    (search needs)
     (λ c. omega arith)
-    (λ c κs z. l (c .before .before .before .before) .before .new .ensures)
+    (search needs)
     returns
     (λ c. omega arith)
     (λ c. omega arith)
