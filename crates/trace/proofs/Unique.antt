@@ -7,9 +7,11 @@ use Rattle.trace.proofs.read_listed.Reads as read-listed
 use Rattle.trace.proofs.reading.survey_in.Reads as survey-in
 use Rattle.trace.proofs.reading.store.Reads as store
 use Rattle.trace.proofs.form.form_of.Reads as form-of
-use Rattle.trace.proofs.room.count_of.Reads as count-of
-use Rattle.trace.proofs.room.write_fault.Reads as write-fault
-use Rattle.trace.proofs.moving.survey_to.Reads as survey-to
+use Rattle.trace.proofs.fault.is_right.Reads as is-right
+use Rattle.trace.proofs.fault.fault_at.Reads as fault-at
+use Rattle.trace.proofs.form.is_of.Reads as is-of
+use Rattle.trace.proofs.reading.refusal.Reads as refusal
+use Rattle.trace.proofs.reading.survey.Reads as survey
 
 read-one : OneAnswer read.Post
 read-one κ a x y s t h k = h .0 ∙ sym (k .0)
@@ -38,11 +40,17 @@ read-listed-one κ a x y s t h k = h .0 ∙ sym (k .0)
 read-listed-room : OneOf read-listed.Post (λ κ r s. s .1 .1 .0 .now)
 read-listed-room κ a x y s t h k = h .1 ∙ sym (k .1)
 
-count-of-one : OneAnswer count-of.Post
-count-of-one κ a x y s t h k = h ∙ sym k
+is-right-one : OneAnswer is-right.Post
+is-right-one κ a x y s t h k = h ∙ sym k
 
-write-fault-one : OneAnswer write-fault.Post
-write-fault-one κ a x y s t h k = h ∙ sym k
+fault-at-one : OneAnswer fault-at.Post
+fault-at-one κ a x y s t h k = h ∙ sym k
 
-survey-to-one : OneAnswer survey-to.Post
-survey-to-one κ a x y s t h k = h ∙ sym k
+is-of-one : OneAnswer is-of.Post
+is-of-one κ a x y s t h k = h ∙ sym k
+
+refusal-one : OneAnswer refusal.Post
+refusal-one κ a x y s t h k = h ∙ sym k
+
+survey-one : OneAnswer survey.Post
+survey-one κ a x y s t h k = h ∙ sym k

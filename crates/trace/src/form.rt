@@ -12,7 +12,7 @@ use record::form::Form;
 use record::form::limit_of;
 
 // Whether line 1 is that of a form, and has a LF.
-pub(crate) fn is_of(form: Form, text: &[u8]) -> bool
+pub fn is_of(form: Form, text: &[u8]) -> bool
     ensures { λ r. ⌜ r ≡ headed (header form) (split (now (text .entry))) ⌝ }
 {
     match form {

@@ -1,10 +1,7 @@
-// Trace texts read into a room (`read`), with a list of registers too (`read_listed`); and what refuses a room that is to be written (`room`) and a text
-// that is to be moved (`moving`).
+// Trace texts read into a room (`read`), with a list of registers too (`read_listed`).
 pub mod fault;
 pub mod form;
-pub mod moving;
 pub mod reading;
-pub mod room;
 
 ghost use mathlib.Core.Path.{_≡_};
 ghost use Rattle.trace.specs.Listed.{readListed, roomListed};

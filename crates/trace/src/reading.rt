@@ -46,7 +46,7 @@ pub struct TraceRead {
     pub memory: Memory,
 }
 
-pub(crate) fn refusal(answer: Answer) -> TraceRead
+pub fn refusal(answer: Answer) -> TraceRead
     ensures { λ r. ⌜ r ≡ refused answer ⌝ }
 {
     let memory = Memory::empty();
@@ -169,7 +169,7 @@ fn survey_lines(listed: &Listed, form: Form, text: &[u8], from: usize, side: Num
 }
 
 // The answers of a text but 17, with its number of events and its starting memory.
-pub(crate) fn survey(listed: &Listed, text: &[u8], side: Number) -> TraceRead
+pub fn survey(listed: &Listed, text: &[u8], side: Number) -> TraceRead
     ensures { λ r. ⌜ r ≡ surveyIn (now (listed .entry)) side (now (text .entry)) ⌝ }
 {
     let form = form_of(text);

@@ -15,9 +15,9 @@ use memory::listed::Listed;
 use put::put_text;
 use put::size_of;
 use record::form::Form;
+use refusals::room::count_of;
+use refusals::room::write_fault;
 use touch::touch_all;
-use trace::room::count_of;
-use trace::room::write_fault;
 use uses::UNTOUCHED;
 use uses::Ways;
 

@@ -1,4 +1,4 @@
-// A trace text moved from one form to the other. It is judged (`trace::moving`), then counted, then stored, each in a walk over the text: no room of
+// A trace text moved from one form to the other. It is judged (`refusals::moving`), then counted, then stored, each in a walk over the text: no room of
 // events is lent or kept.
 ghost use mathlib.Core.Path.{_≡_};
 ghost use mathlib.Core.List.{map};
@@ -19,11 +19,11 @@ use memory::listed::Listed;
 use record::Record;
 use record::form::Form;
 use record::record_of;
+use refusals::moving::survey_to;
 use text::line::LineStep;
 use text::line::line_two;
 use text::line::next_line;
 use trace::form::form_of;
-use trace::moving::survey_to;
 use uses::UNTOUCHED;
 use uses::Ways;
 use uses::touch;

@@ -12,14 +12,14 @@ use Rattle.text.specs.Line.{lineAt}
 use Rattle.text.specs.declared.line.LineStep.the-variants.{Line}
 use Rattle.text.proofs.Walk.{Next, next}
 use Rattle.record.specs.declared.form.Form.{Form}
 use Rattle.trace.specs.Reading.{eventsOn, eventsOf}
 use Rattle.trace.specs.Writing.{lost}
 use Rattle.trace.proofs.Judged.{first-passes}
 use Rattle.uses.proofs.Bad.{bad-parted, bad-end}
 use Rattle.trace.proofs.Stores.{one-at-most}
 use Rattle.trace.proofs.Walks.{eventsFrom, events-start, events-line, events-none}
-use Rattle.trace.proofs.moving.loss_in.Statement.{statement}
-use Rattle.trace.proofs.moving.loss_in.Tie as tie
+use Rattle.refusals.proofs.moving.loss_in.Statement.{statement}
+use Rattle.refusals.proofs.moving.loss_in.Tie as tie
 
 record Inv (to : Form) (text : List ℕ) (at n : ℕ) : Type 0 where
   few : n ≤ at

@@ -2,12 +2,12 @@
 use mathlib.Core.Path.{_≡_, sym, _∙_, ap}
 use borrow.Author.Needs.{needs}
 use Rattle.event.specs.declared.Answer.{Answer}
 use Rattle.trace.specs.Moving.{moveHead}
 use Rattle.trace.specs.Reading.{surveyIn}
 use Rattle.trace.specs.declared.reading.TraceRead.{TraceRead}
 use Rattle.trace.proofs.Moved.{by-head, by-reading, by-loss, by-none}
-use Rattle.trace.proofs.moving.survey_to.Statement.{statement}
-use Rattle.trace.proofs.moving.survey_to.Tie as tie
+use Rattle.refusals.proofs.moving.survey_to.Statement.{statement}
+use Rattle.refusals.proofs.moving.survey_to.Tie as tie
 
 -- an answer that is no refusal
 none : {a b : Answer} → a ≡ b → a .number ≡ 0 → b .number ≡ 0

@@ -2,9 +2,9 @@
 use mathlib.Core.Path.{sym, _∙_}
 use borrow.Author.Needs.{needs}
 use borrow.Author.Tests.{lt-ltb, le-ltb}
 use Rattle.trace.specs.Moving.{moveHead}
-use Rattle.trace.proofs.moving.move_head.Statement.{statement}
-use Rattle.trace.proofs.moving.move_head.Tie as tie
+use Rattle.refusals.proofs.moving.move_head.Statement.{statement}
+use Rattle.refusals.proofs.moving.move_head.Tie as tie
 
 returns : tie.Need-returns
 unfolding moveHead

@@ -19,14 +19,14 @@ use Rattle.memory.specs.declared.Memory.{Memory}
 use Rattle.memory.specs.declared.Stepped.{Stepped}
 use Rattle.kinds.proofs.Lawful.{place-below}
 use Rattle.uses.specs.Use.{clashesIn}
 use Rattle.trace.specs.Fault.{faultAt, eventFaultIn}
 use Rattle.trace.specs.Writing.{layoutFault}
 use Rattle.uses.specs.Way.{clashing, clashingIn, waysAfter, waysWith}
 use Rattle.trace.proofs.Judged.{event-next, onward-end, onward-all, fault-next, fault-end, fault-free, right-told}
 use Rattle.uses.proofs.Bad.{bad-none}
 use Rattle.uses.proofs.Ways.{or-right, with-inside, clash-inside, Marks, marks-start, marks-told, clash, marks-next}
-use Rattle.trace.proofs.room.event_fault.Statement.{statement}
-use Rattle.trace.proofs.room.event_fault.Tie as tie
+use Rattle.refusals.proofs.room.event_fault.Statement.{statement}
+use Rattle.refusals.proofs.room.event_fault.Tie as tie
 
 record Inv (regs : List Bool) (room : List ℕ) (n : ℕ) (start m : Memory) (ways : List ℕ) (i : ℕ) : Type 0 where
   within : i ≤ n

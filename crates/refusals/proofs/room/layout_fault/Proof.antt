@@ -7,9 +7,9 @@ use borrow.Author.Needs.{needs}
 use Rattle.kinds.specs.Kind.{lawful}
 use Rattle.event.specs.Room.{eventAt}
 use Rattle.event.specs.declared.Event.{Event}
 use Rattle.trace.proofs.Judged.{Sought, sought-start, sought-next, sought-here, sought-end}
-use Rattle.trace.proofs.room.layout_fault.Statement.{statement}
-use Rattle.trace.proofs.room.layout_fault.Tie as tie
+use Rattle.refusals.proofs.room.layout_fault.Statement.{statement}
+use Rattle.refusals.proofs.room.layout_fault.Tie as tie
 
 abbrev unlawful : Event → Bool
 unlawful e = not (lawful e)

@@ -3,10 +3,10 @@ use mathlib.Core.Path.{_≡_, sym, _∙_, ap}
 use borrow.Author.Needs.{needs}
 use borrow.Author.Tests.{ne-eqb}
 use Rattle.event.specs.declared.Answer.{Answer}
 use Rattle.trace.specs.Writing.{roomFaultIn, writeFaultIn}
 use Rattle.trace.proofs.Written.{room-sound}
-use Rattle.trace.proofs.room.write_fault.Statement.{statement}
-use Rattle.trace.proofs.room.write_fault.Tie as tie
+use Rattle.refusals.proofs.room.write_fault.Statement.{statement}
+use Rattle.refusals.proofs.room.write_fault.Tie as tie
 
 returns : tie.Need-returns
 unfolding writeFaultIn

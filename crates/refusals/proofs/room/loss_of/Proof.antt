@@ -8,9 +8,9 @@ use Rattle.event.specs.Room.{eventAt}
 use Rattle.event.specs.declared.Event.{Event}
 use Rattle.record.specs.Form.{loses}
 use Rattle.record.specs.declared.form.Form.{Form}
 use Rattle.trace.proofs.Judged.{Sought, sought-start, sought-next, sought-here, sought-end}
-use Rattle.trace.proofs.room.loss_of.Statement.{statement}
-use Rattle.trace.proofs.room.loss_of.Tie as tie
+use Rattle.refusals.proofs.room.loss_of.Statement.{statement}
+use Rattle.refusals.proofs.room.loss_of.Tie as tie
 
 abbrev losing : Form → Event → Bool
 losing f e = loses f (e .code)

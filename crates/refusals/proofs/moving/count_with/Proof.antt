@@ -1,8 +1,8 @@
 -- Each arm is the definition at that record. Assumes nothing.
 use native.Mathlib.Omega.{arith}
 use borrow.Author.Needs.{needs}
-use Rattle.trace.proofs.moving.count_with.Statement.{statement}
-use Rattle.trace.proofs.moving.count_with.Tie as tie
+use Rattle.refusals.proofs.moving.count_with.Statement.{statement}
+use Rattle.refusals.proofs.moving.count_with.Tie as tie
 
 returns : tie.Need-returns
 returns c = rw (c .enum-told .given .1)

@@ -2,14 +2,9 @@
 ghost use mathlib.Core.Path.{_≡_};
 ghost use Prim.Native.Nat.{_+_, _<_};
 ghost use lib.ListN.{length};
 ghost use Rattle.trace.specs.Moving.{moveHead, moveSurveyIn};
 ghost use Rattle.trace.specs.Reading.{eventsOn, eventsOf};
 ghost use Rattle.trace.specs.Writing.{lost};
-use crate::form::form_of;
-use crate::form::is_of;
-use crate::reading::TraceRead;
-use crate::reading::refusal;
-use crate::reading::survey;
 use event::Answer;
 use memory::listed::Listed;
 use record::Record;
@@ -20,6 +15,11 @@ use record::record_of;
 use text::line::LineStep;
 use text::line::line_two;
 use text::line::next_line;
+use trace::form::form_of;
+use trace::form::is_of;
+use trace::reading::TraceRead;
+use trace::reading::refusal;
+use trace::reading::survey;
 
 // 19 of a line's event, which has the number k if it is one.
 fn loss_on(to: Form, line: Record, k: usize) -> Answer

@@ -3,10 +3,10 @@ use mathlib.Core.Path.{_≡_, sym, _∙_, ap}
 use native.Mathlib.Omega.{arith}
 use Rattle.event.specs.Room.{onward}
 use Rattle.event.specs.declared.Answer.{Answer}
 use Rattle.trace.specs.Writing.{layoutFault}
 use Rattle.trace.proofs.Written.{room-full, room-layout, room-events}
-use Rattle.trace.proofs.room.room_fault.Statement.{statement}
-use Rattle.trace.proofs.room.room_fault.Tie as tie
+use Rattle.refusals.proofs.room.room_fault.Statement.{statement}
+use Rattle.refusals.proofs.room.room_fault.Tie as tie
 
 abbrev begin : tie.After-layout-fault → tie.Start
 begin c = c .before .before .before .before

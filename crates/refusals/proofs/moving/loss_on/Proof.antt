@@ -2,8 +2,8 @@
 use mathlib.Core.Path.{sym, _∙_}
 use borrow.Author.Needs.{needs}
 use Rattle.uses.proofs.Bad.{bad-go, bad-here, bad-end}
-use Rattle.trace.proofs.moving.loss_on.Statement.{statement}
-use Rattle.trace.proofs.moving.loss_on.Tie as tie
+use Rattle.refusals.proofs.moving.loss_on.Statement.{statement}
+use Rattle.refusals.proofs.moving.loss_on.Tie as tie
 
 returns : tie.Need-returns
 returns c =
