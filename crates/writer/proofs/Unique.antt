@@ -8,6 +8,10 @@ use Rattle.writer.proofs.moving.move_to.Reads as move-to
 use Rattle.writer.proofs.moving.move_in.Reads as move-in
 use Rattle.writer.proofs.moving.move_listed.Reads as move-listed
 use Rattle.writer.proofs.put.write_event.Reads as write-event
+use Rattle.writer.proofs.put.put.Reads as put
+use Rattle.writer.proofs.put.put_number_if.Reads as put-number-if
+use Rattle.writer.proofs.put.put_event.Reads as put-event
+use Rattle.writer.proofs.put.put_start.Reads as put-start
 
 write-one : OneAnswer write.Post
 write-one κ a x y s t h k = h .0 ∙ sym (k .0)
@@ -50,3 +54,27 @@ move-listed-one κ a x y s t h k = h .0 ∙ sym (k .0)
 
 move-listed-room : OneOf move-listed.Post (λ κ r s. s .1 .1 .1 .0 .now)
 move-listed-room κ a x y s t h k = h .1 ∙ sym (k .1)
+
+put-one : OneAnswer put.Post
+put-one κ a x y s t h k = h .counted ∙ sym (k .counted)
+
+put-bytes : OneOf put.Post (λ κ r s. s .0 .now)
+put-bytes κ a x y s t h k = h .stored ∙ sym (k .stored)
+
+put-number-if-one : OneAnswer put-number-if.Post
+put-number-if-one κ a x y s t h k = h .counted ∙ sym (k .counted)
+
+put-number-if-bytes : OneOf put-number-if.Post (λ κ r s. s .1 .0 .now)
+put-number-if-bytes κ a x y s t h k = h .stored ∙ sym (k .stored)
+
+put-event-one : OneAnswer put-event.Post
+put-event-one κ a x y s t h k = h .counted ∙ sym (k .counted)
+
+put-event-bytes : OneOf put-event.Post (λ κ r s. s .1 .0 .now)
+put-event-bytes κ a x y s t h k = h .stored ∙ sym (k .stored)
+
+put-start-one : OneAnswer put-start.Post
+put-start-one κ a x y s t h k = h .counted ∙ sym (k .counted)
+
+put-start-bytes : OneOf put-start.Post (λ κ r s. s .1 .0 .now)
+put-start-bytes κ a x y s t h k = h .stored ∙ sym (k .stored)

@@ -39,7 +39,7 @@ fn store_byte(out: &mut [u8], at: usize, b: u8)
 }
 
 // Bytes from a place on; what comes back is the place after them. Where all lie beyond the end they are counted at once.
-fn put(out: &mut [u8], at: usize, bytes: &[u8]) -> usize
+pub fn put(out: &mut [u8], at: usize, bytes: &[u8]) -> usize
     requires { ⌜ Small at (now bytes) ⌝ }
     ensures { λ r. ⌜ Put (now (out .entry)) at (now (bytes .entry)) (now (out .exit)) r ⌝ }
 {
@@ -87,7 +87,7 @@ fn put_order_if(wanted: bool, out: &mut [u8], at: usize, order: Word) -> usize
 }
 
 // A TAB and a number, if the line is to have it.
-fn put_number_if(wanted: bool, out: &mut [u8], at: usize, n: Word) -> usize
+pub fn put_number_if(wanted: bool, out: &mut [u8], at: usize, n: Word) -> usize
     requires { ⌜ Small at (tabIf wanted (decimal n)) ⌝ }
     ensures { λ r. ⌜ Put (now (out .entry)) at (tabIf wanted (decimal n)) (now (out .exit)) r ⌝ }
 {
@@ -101,7 +101,7 @@ fn put_number_if(wanted: bool, out: &mut [u8], at: usize, n: Word) -> usize
 }
 
 // An event's line, with its LF.
-pub(crate) fn put_event(form: Form, out: &mut [u8], at: usize, e: Event) -> usize
+pub fn put_event(form: Form, out: &mut [u8], at: usize, e: Event) -> usize
     requires { ⌜ Small at (eventLine form e ++ 10 ∷ []) ⌝ }
     ensures { λ r. ⌜ Put (now (out .entry)) at (eventLine form e ++ 10 ∷ []) (now (out .exit)) r ⌝ }
 {
@@ -190,7 +190,7 @@ fn put_header(form: Form, out: &mut [u8]) -> usize
 }
 
 // Line 1 and the `init` lines.
-pub(crate) fn put_start(form: Form, out: &mut [u8], ways: &Ways, memory: Memory) -> usize
+pub fn put_start(form: Form, out: &mut [u8], ways: &Ways, memory: Memory) -> usize
     requires { ⌜ Small 0 (startText form (isUsed (now ways)) memory) ⌝ }
     ensures { λ r. ⌜ Put (now (out .entry)) 0 (startText form (isUsed (now (ways .entry))) memory) (now (out .exit)) r ⌝ }
 {
