@@ -1,6 +1,6 @@
 /* Checks three files, source, target and matching, with a list of registers if there is a fourth, and prints what the program laprunto
  * prints, and the locations that are listed. Then the run goes to its end, both traces that were read are written again, what was written
- * is read back, and both texts are moved to the other form and back: status 1 if anything came back otherwise. */
+ * is read back, both texts are moved to the other form and back, and both are shortened: status 1 if anything came back otherwise. */
 #include "laprunto.h"
 
 #include <stdio.h>
@@ -99,6 +99,16 @@ static void move_trace(laprunto_number to_form, const struct text *text, struct 
     out->size = result[LAPRUNTO_PLACE];
 }
 
+static void shorten_trace(const struct text *text, struct text *out, struct text *matching, size_t *result) {
+    if (list != NULL) {
+        laprunto_shorten_listed(list->bytes, list->size, text->bytes, text->size, out->bytes, FILE_BYTES, matching->bytes, FILE_BYTES, result);
+    } else {
+        laprunto_shorten(text->bytes, text->size, out->bytes, FILE_BYTES, matching->bytes, FILE_BYTES, result);
+    }
+    out->size = result[LAPRUNTO_SHORT_BYTES];
+    matching->size = result[LAPRUNTO_NAMES_BYTES];
+}
+
 /* Whether a trace, written, is the text that it was read from, and is read back as it was. */
 static int comes_back(const struct text *text, const struct trace *trace) {
     static struct text written;
@@ -128,6 +138,25 @@ static int moves_back(const struct text *text) {
     }
     move_trace(form, &moved, &back, result);
     return result[LAPRUNTO_NUMBER] == 0 && same_text(&back, text);
+}
+
+/* Whether a lawful text, shortened, is accepted for the long one with its matching, and shortened again is the same bytes. */
+static int shortens(const struct text *text) {
+    static struct text three[3], again, names;
+    static struct trace source, target;
+    static laprunto_entry entries[LAPRUNTO_ENTRY_WORDS];
+    size_t result[LAPRUNTO_SHORTENED], checked[LAPRUNTO_CHECKED];
+    three[0] = *text;
+    shorten_trace(text, &three[1], &three[2], result);
+    if (result[LAPRUNTO_NUMBER] != 0) {
+        return 0;
+    }
+    check(three, &source, &target, entries, checked);
+    if (checked[LAPRUNTO_NUMBER] != 0) {
+        return 0;
+    }
+    shorten_trace(&three[1], &again, &names, result);
+    return result[LAPRUNTO_NUMBER] == 0 && same_text(&again, &three[1]);
 }
 
 /* Whether a matching, read alone, gives the entries of the check. */
@@ -236,6 +265,10 @@ int main(int count, char **names) {
         }
         if (!moves_back(&texts[0]) || !moves_back(&texts[1])) {
             fprintf(stderr, "what was moved does not move back\n");
+            return 1;
+        }
+        if (!shortens(&texts[0]) || !shortens(&texts[1])) {
+            fprintf(stderr, "what was shortened is not accepted, or is shortened again\n");
             return 1;
         }
     }

@@ -1,8 +1,9 @@
 //! Checks three files, source, target and matching, with a list of registers if
 //! there is a fourth, and prints what the program `laprunto` prints, and the
 //! locations that are listed. Then the run goes to its end, both traces that were
-//! read are written again, what was written is read back, and both texts are moved
-//! to the other form and back: status 1 if anything came back otherwise.
+//! read are written again, what was written is read back, both texts are moved to
+//! the other form and back, and both are shortened: status 1 if anything came back
+//! otherwise.
 
 mod laprunto;
 
@@ -11,6 +12,7 @@ use laprunto::{laprunto_check, laprunto_move_trace, laprunto_offending_line, lap
 use laprunto::{laprunto_apply_listed, laprunto_next_listed, laprunto_start_listed};
 use laprunto::{laprunto_check_listed, laprunto_move_trace_listed, laprunto_read_list, laprunto_read_trace_listed, laprunto_write_trace_listed};
 use laprunto::{laprunto_read_trace, laprunto_trace_form, laprunto_write_trace};
+use laprunto::{laprunto_shorten, laprunto_shorten_listed};
 use laprunto::{Entry, Listed, Memory, Number, Word};
 use std::io::{Read, Write};
 
@@ -134,6 +136,23 @@ fn move_trace(list: List, to_form: Number, text: &[u8]) -> Result<Vec<u8>, usize
     })
 }
 
+/// The shortened text and the matching from the long one to it, or the number of the refusal.
+fn shorten_trace(list: List, text: &[u8]) -> Result<[Vec<u8>; 2], usize> {
+    let [mut out, mut names] = [(); 2].map(|()| vec![0; TEXT_BYTES]);
+    let mut result = [0; 5];
+    unsafe {
+        let (bytes, size, lent, named) = (out.as_mut_ptr(), out.len(), names.as_mut_ptr(), names.len());
+        match list {
+            Some(list) => laprunto_shorten_listed(list.as_ptr(), list.len(), text.as_ptr(), text.len(), bytes, size, lent, named, &mut result),
+            None => laprunto_shorten(text.as_ptr(), text.len(), bytes, size, lent, named, &mut result),
+        }
+    }
+    let [number, _, _, short, count] = result;
+    out.truncate(short);
+    names.truncate(count);
+    if number == 0 { Ok([out, names]) } else { Err(number) }
+}
+
 fn read_trace(list: List, text: &[u8]) -> Option<Trace> {
     let mut words = vec![0; EVENTS * WORDS];
     let mut memory = [0; 256];
@@ -173,6 +192,13 @@ fn moves_back(list: List, text: &[u8]) -> bool {
         Ok(moved) => move_trace(list, form, &moved).is_ok_and(|back| back == text),
         Err(number) => form == 2 && number == 19,
     }
+}
+
+/// Whether a lawful text, shortened, is accepted for the long one with its matching, and shortened again is the same bytes.
+fn shortens(list: List, text: &[u8]) -> bool {
+    shorten_trace(list, text).is_ok_and(|[short, matching]| {
+        check(list, text, &short, &matching).number == 0 && shorten_trace(list, &short).is_ok_and(|[again, _]| again == short)
+    })
 }
 
 /// Whether the run of an accepted matching goes to its end in as many steps as were counted, and a refused one has none.
@@ -270,6 +296,10 @@ fn main() {
     }
     if read && !(moves_back(list, &source) && moves_back(list, &target)) {
         eprintln!("what was moved does not move back");
+        std::process::exit(1);
+    }
+    if read && !(shortens(list, &source) && shortens(list, &target)) {
+        eprintln!("what was shortened is not accepted, or is shortened again");
         std::process::exit(1);
     }
 }

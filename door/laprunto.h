@@ -59,9 +59,12 @@ enum {
     LAPRUNTO_TARGET_EVENTS = 4,
     LAPRUNTO_ENTRIES = 5,
     LAPRUNTO_COST = 6, /* of a beginning: how many steps the run has to its end */
+    LAPRUNTO_SHORT_BYTES = 3, /* of a shortening: the bytes of the shortened text, */
+    LAPRUNTO_NAMES_BYTES = 4, /* and those of its matching; 0 under a refusal */
 
     LAPRUNTO_ANSWER = 3,  /* the size_t of a writer's, a move's or a list's result, */
     LAPRUNTO_READ = 4,    /* of a reading's, */
+    LAPRUNTO_SHORTENED = 5, /* of a shortening's, */
     LAPRUNTO_CHECKED = 6, /* of a check's */
     LAPRUNTO_STARTED = 7  /* and of a beginning's, which is a check's and one more */
 };
@@ -107,6 +110,13 @@ void laprunto_write_trace(laprunto_number form, const laprunto_word memory[LAPRU
 void laprunto_move_trace(laprunto_number to_form, const uint8_t *text, size_t text_bytes, uint8_t *out, size_t out_bytes,
                          size_t result[LAPRUNTO_ANSWER]);
 
+/* Shortens a trace text for the shelf: at the front of out stands the shortened text, in the form of the long one, and at the front of
+ * matching_out the matching from the long one to it. What a reading refuses has side 1; 17 has side 2 where out does not hold the
+ * shortened text, then 3 where matching_out does not hold the matching, and its place is the bytes needed. The rest of both, and all of
+ * both under a refusal, is unchanged. Writes all of result. */
+void laprunto_shorten(const uint8_t *text, size_t text_bytes, uint8_t *out, size_t out_bytes, uint8_t *matching_out,
+                      size_t matching_out_bytes, size_t result[LAPRUNTO_SHORTENED]);
+
 /* Checks a matching between a source and a target text. Writes all of both memories and of result. */
 void laprunto_check(const uint8_t *source, size_t source_bytes, const uint8_t *target, size_t target_bytes,
                     const uint8_t *matching, size_t matching_bytes, laprunto_word *source_room, size_t source_room_words,
@@ -128,6 +138,9 @@ void laprunto_write_trace_listed(const uint8_t *list, size_t list_bytes, laprunt
 
 void laprunto_move_trace_listed(const uint8_t *list, size_t list_bytes, laprunto_number to_form, const uint8_t *text,
                                 size_t text_bytes, uint8_t *out, size_t out_bytes, size_t result[LAPRUNTO_ANSWER]);
+
+void laprunto_shorten_listed(const uint8_t *list, size_t list_bytes, const uint8_t *text, size_t text_bytes, uint8_t *out,
+                             size_t out_bytes, uint8_t *matching_out, size_t matching_out_bytes, size_t result[LAPRUNTO_SHORTENED]);
 
 void laprunto_check_listed(const uint8_t *list, size_t list_bytes, const uint8_t *source, size_t source_bytes, const uint8_t *target,
                            size_t target_bytes, const uint8_t *matching, size_t matching_bytes, laprunto_word *source_room,

@@ -20,6 +20,9 @@ extern "C" {
         form: Number, memory: *const Memory, room: *const Word, words: usize, out: *mut u8, bytes: usize, result: *mut [usize; 3],
     );
     pub fn laprunto_move_trace(to_form: Number, text: *const u8, bytes: usize, out: *mut u8, out_bytes: usize, result: *mut [usize; 3]);
+    pub fn laprunto_shorten(
+        text: *const u8, bytes: usize, out: *mut u8, out_bytes: usize, matching_out: *mut u8, matching_out_bytes: usize, result: *mut [usize; 5],
+    );
     pub fn laprunto_check(
         source: *const u8, source_bytes: usize, target: *const u8, target_bytes: usize, matching: *const u8, matching_bytes: usize,
         source_room: *mut Word, source_words: usize, target_room: *mut Word, target_words: usize, entry_room: *mut Entry, entries: usize,
@@ -56,6 +59,10 @@ extern "C" {
     pub fn laprunto_move_trace_listed(
         list: *const u8, list_bytes: usize, to_form: Number, text: *const u8, bytes: usize, out: *mut u8, out_bytes: usize,
         result: *mut [usize; 3],
+    );
+    pub fn laprunto_shorten_listed(
+        list: *const u8, list_bytes: usize, text: *const u8, bytes: usize, out: *mut u8, out_bytes: usize,
+        matching_out: *mut u8, matching_out_bytes: usize, result: *mut [usize; 5],
     );
     pub fn laprunto_check_listed(
         list: *const u8, list_bytes: usize,

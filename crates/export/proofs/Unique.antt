@@ -2,6 +2,8 @@
 use mathlib.Core.Path.{ap, sym, _∙_}
 use Rattle.checker.specs.declared.line.Span.{Span}
 use Rattle.laws.specs.Unique.{OneAnswer, OneOf}
+use Rattle.export.proofs.short.laprunto_shorten.Reads as shorten
+use Rattle.export.proofs.short.laprunto_shorten_listed.Reads as shorten-listed
 use Rattle.export.proofs.laprunto_read_trace.Reads as read-trace
 use Rattle.export.proofs.laprunto_read_matching.Reads as read-matching
 use Rattle.export.proofs.laprunto_trace_form.Reads as trace-form
@@ -179,3 +181,21 @@ apply-listed-run κ a x y s t h k = h .standing ∙ sym (k .standing)
 
 apply-listed-tags : OneOf apply-listed.Post (λ κ r s. s .1 .1 .0 .now)
 apply-listed-tags κ a x y s t h k = h .left ∙ sym (k .left)
+
+shorten-result : OneOf shorten.Post (λ κ r s. s .1 .1 .1 .0 .now)
+shorten-result κ a x y s t h k = h .numbers ∙ sym (k .numbers)
+
+shorten-text : OneOf shorten.Post (λ κ r s. s .1 .0 .now)
+shorten-text κ a x y s t h k = h .shortened ∙ sym (k .shortened)
+
+shorten-matching : OneOf shorten.Post (λ κ r s. s .1 .1 .0 .now)
+shorten-matching κ a x y s t h k = h .matched ∙ sym (k .matched)
+
+shorten-listed-result : OneOf shorten-listed.Post (λ κ r s. s .1 .1 .1 .1 .0 .now)
+shorten-listed-result κ a x y s t h k = h .numbers ∙ sym (k .numbers)
+
+shorten-listed-text : OneOf shorten-listed.Post (λ κ r s. s .1 .1 .0 .now)
+shorten-listed-text κ a x y s t h k = h .shortened ∙ sym (k .shortened)
+
+shorten-listed-matching : OneOf shorten-listed.Post (λ κ r s. s .1 .1 .1 .0 .now)
+shorten-listed-matching κ a x y s t h k = h .matched ∙ sym (k .matched)

@@ -2,6 +2,7 @@
 // `door/laprunto.h` declares them for C; a slice is a pointer and a length there, an array a pointer.
 pub mod listed;
 pub mod run;
+pub mod short;
 
 ghost use mathlib.Core.Path.{_≡_};
 ghost use Rattle.event.specs.Answer.{answer};

@@ -7,6 +7,7 @@ use Rattle.results.proofs.lay_check.Reads as lay-check
 use Rattle.results.proofs.lay_start.Reads as lay-start
 use Rattle.results.proofs.lay_applied.Reads as lay-applied
 use Rattle.results.proofs.lay_span.Reads as lay-span
+use Rattle.results.proofs.shortened_numbers.Reads as shortened-numbers
 
 lay-trace-result : OneOf lay-trace.Post (λ κ r s. s .1 .1 .0 .now)
 lay-trace-result κ a x y s t h k = h .0 ∙ sym (k .0)
@@ -43,3 +44,6 @@ lay-span-from κ a x y s t h k = h .0 ∙ sym (k .0)
 
 lay-span-to : OneOf lay-span.Post (λ κ r s. s .1 .1 .0 .now)
 lay-span-to κ a x y s t h k = h .1 ∙ sym (k .1)
+
+shortened-numbers-one : OneAnswer shortened-numbers.Post
+shortened-numbers-one κ a x y s t h k = h ∙ sym k

@@ -1,19 +1,21 @@
 // What the library hands back, laid into the arrays that C and Rust lend: one function for each kind of result, with a list or without.
 ghost use mathlib.Core.Path.{_≡_};
 ghost use Rattle.numbers.specs.Numbers.{flag, runNumbers};
-ghost use Rattle.results.specs.Results.{checkNumbers, matchingNumbers, startNumbers, traceNumbers};
+ghost use Rattle.results.specs.Results.{checkNumbers, matchingNumbers, shortenedNumbers, startNumbers, traceNumbers};
 use beginning::Started;
 use changes::Applied;
 use checker::Checked;
 use checker::line::Span;
 use event::PLACES;
 use event::Word;
+use event::number_index;
 use matching::MatchingRead;
 use numbers::checked_numbers;
 use numbers::count_numbers;
 use numbers::flag_of;
 use numbers::run_numbers;
 use numbers::started_numbers;
+use shorten::Shortened;
 use trace::reading::TraceRead;
 
 // A trace read: its numbers, and its starting memory.
@@ -95,4 +97,18 @@ pub fn lay_span(part: Span, from: &mut usize, to: &mut usize)
 {
     *from = part.from;
     *to = part.to;
+}
+
+// A shortening: the answer, then the bytes of the shortened text and those of its matching.
+pub fn shortened_numbers(r: Shortened) -> [usize; 5]
+    ensures { λ x. ⌜ x ≡ shortenedNumbers r ⌝ }
+{
+    let answer = r.answer;
+    [
+        number_index(answer.number),
+        number_index(answer.side),
+        answer.place,
+        r.bytes,
+        r.matching_bytes,
+    ]
 }
