@@ -6,7 +6,8 @@
 //! is, and the fewest steps that lead to it. Then the checker must answer 0 for
 //! a target and a matching exactly when a run reaches that target with that
 //! matching, and 10 to 16 otherwise; and the shortest run must have as many steps
-//! as the matching costs.
+//! as the matching costs. And no reached trace has fewer events than the shortened one,
+//! which is reached.
 //!
 //! Three parts:
 //!   all      every source, target and matching of up to 3 events a side
@@ -236,7 +237,7 @@ struct Bench<'a> {
 impl<'a> Bench<'a> {
     fn new(setting: &'a Setting, source: Vec<Event>, limit: usize) -> Bench<'a> {
         let [start, target_start] = &setting.starts;
-        Bench {
+        let mut bench = Bench {
             setting,
             head: texts::trace_head(target_start).into_bytes(),
             source_text: texts::trace_text(start, &source),
@@ -246,6 +247,21 @@ impl<'a> Bench<'a> {
             target_text: vec![],
             matching_text: vec![],
             tally: Tally { sources: 1, ..Tally::default() },
+        };
+        bench.shorten();
+        bench
+    }
+
+    /// The shortened trace is reached, and none that is reached has fewer events.
+    fn shorten(&mut self) {
+        let stays = peer::staying(&self.setting.listed, &self.source);
+        let codes: Vec<u8> = (1..).zip(&stays).filter(|(_, &stays)| stays).map(|(code, _)| code).collect();
+        let least = self.reached.keys().map(|&state| unpack(state).len()).min();
+        if !self.reached.contains_key(&pack(&codes)) || least != Some(codes.len()) {
+            self.tally.differences += 1;
+            let source = String::from_utf8_lossy(&self.source_text);
+            let list = String::from_utf8_lossy(self.setting.list.as_deref().unwrap_or_default());
+            println!("DIFFERENCE shortened to {codes:?}, least {least:?}\n{list}{source}");
         }
     }
 

@@ -36,7 +36,7 @@ mod zeros;
 
 use cases::Case;
 use forms::{KnownWriting, Move};
-use generate::Lists;
+use generate::{Lists, Short};
 use lists::KnownList;
 use peer::{form_of, Answer, Checked, Entry, Form, Memory, Word, CELLS, EVENT_WORDS, MAX_EVENTS, MAX_MATCHING};
 use random::Random;
@@ -116,6 +116,7 @@ struct Tally {
     moved_back: usize,
     counted: usize,
     followed: usize,
+    shortened: usize,
 }
 
 /// One of two, by a form.
@@ -307,6 +308,32 @@ fn compare_move(random: &mut Random, Move { list, to, text, bytes }: &Move, tall
     Ok(())
 }
 
+/// A text shortened: both parts, what the check says of them, and what is shortened again.
+fn compare_short(random: &mut Random, Short { list, text, bytes }: &Short, tally: &mut Tally) -> Same {
+    let list = list.as_deref();
+    let lent = bytes.map(|bytes| (0..bytes).map(|_| random.next() as u8).collect::<Vec<u8>>());
+    let [mut our_out, mut our_names] = lent.clone();
+    let [mut peer_out, mut peer_names] = lent;
+    let ours = ours::shorten(list, text, &mut our_out, &mut our_names);
+    let peer = peer::shorten(list, text, &mut peer_out, &mut peer_names);
+    same("shortening: answer", &ours, &peer)?;
+    same("shortening: bytes", &our_out, &peer_out)?;
+    same("shortening: matching", &our_names, &peer_names)?;
+    tally.add(by_list(list, by_form(form_of(text), "shorten 1", "shorten 2"), "short listed"), ours.answer);
+    if ours.answer.number == peer::number::DONE {
+        let (short, names) = (&our_out[..ours.bytes], &our_names[..ours.matching_bytes]);
+        let [mut source_room, mut target_room] = [(); 2].map(|()| vec![0; peer::MAX_EVENTS * peer::EVENT_WORDS]);
+        let checked = ours::check(list, [text, short, names], [&mut source_room, &mut target_room], &mut vec![0; peer::MAX_EVENTS]);
+        same("shortening: the check", &checked.answer, &Answer { number: 0, side: 0, place: 0 })?;
+        let (mut again, mut named) = (vec![0; short.len()], vec![0; names.len() * 2]);
+        let twice = ours::shorten(list, short, &mut again, &mut named);
+        same("shortening twice: bytes", &twice.bytes, &short.len())?;
+        same("shortening twice: text", &again.as_slice(), &short)?;
+        tally.shortened += 1;
+    }
+    Ok(())
+}
+
 fn compare_list(list: &[u8], tally: &mut Tally) -> Same {
     let peer = peer::read_list(list);
     same("reading a list", &ours::read_list(list), &Some(peer.clone()))?;
@@ -391,6 +418,8 @@ fn compare(random: &mut Random, given: &Given, tally: &mut Tally) -> Same {
         }
         let handed = generate::move_of(random, list, text);
         compare_move(random, &handed, tally)?;
+        let handed = generate::short_of(random, list, text);
+        compare_short(random, &handed, tally)?;
     }
     if let Some(list) = list {
         compare_list(list, tally)?;
@@ -479,8 +508,8 @@ fn print_tally(tally: &Tally) {
     for ((who, number, side), count) in &tally.counts {
         println!("{who:13} answer {number:2} side {side}: {count:8}");
     }
-    let Tally { lines, read_back, moved_back, counted, followed, .. } = tally;
-    println!("{lines} offending lines, {read_back} texts read back, {moved_back} moved back, {counted} steps counted, {followed} followed");
+    let Tally { lines, read_back, moved_back, counted, followed, shortened, .. } = tally;
+    println!("{lines} offending lines, {read_back} texts read back, {moved_back} moved back, {counted} steps counted, {followed} followed, {shortened} shortened");
 }
 
 /// The moves, the writings and the lists that are known by hand.

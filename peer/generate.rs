@@ -619,6 +619,21 @@ pub fn move_of(random: &mut Random, list: Option<&[u8]>, text: &[u8]) -> Move {
     Move { list: list.map(<[u8]>::to_vec), to, text: text.to_vec(), bytes: bytes_for(random, needed) }
 }
 
+/// A text to be shortened, with the bytes lent for the shortened one and for its matching.
+pub struct Short {
+    pub list: Option<Vec<u8>>,
+    pub text: Vec<u8>,
+    pub bytes: [usize; 2],
+}
+
+/// A shortening of a text, mostly into enough bytes.
+pub fn short_of(random: &mut Random, list: Option<&[u8]>, text: &[u8]) -> Short {
+    let needed = bytes_needed(peer::shorten(list, text, &mut [], &mut []).answer);
+    let named = bytes_needed(peer::shorten(list, text, &mut vec![0; needed], &mut []).answer);
+    let bytes = [needed, named].map(|needed| bytes_for(random, needed));
+    Short { list: list.map(<[u8]>::to_vec), text: text.to_vec(), bytes }
+}
+
 /// A writing of a lawful trace in one of the forms, often with one word changed.
 pub fn writing_of(random: &mut Random, list: Option<&[u8]>, text: &[u8], events: usize) -> Writing {
     let form = random.pick(&[Form::One, Form::Two]);

@@ -2,7 +2,7 @@
 //! functions, with the results of `peer.rs`. A call with a list has a function of its
 //! own there.
 
-use crate::peer::{Answer, Checked, Entry, Form, ListRead, MatchingRead, Memory, TraceRead, Word, CELLS, EVENT_WORDS, MAX_EVENTS};
+use crate::peer::{Answer, Checked, Entry, Form, ListRead, MatchingRead, Memory, Shortened, TraceRead, Word, CELLS, EVENT_WORDS, MAX_EVENTS};
 use crate::steps::Step;
 
 #[path = "../door/laprunto.rs"]
@@ -172,6 +172,16 @@ pub fn move_to(list: Option<&[u8]>, to: Form, text: &[u8], out: &mut [u8]) -> An
     }
     let [number, side, place] = result;
     answer(number, side, place)
+}
+
+pub fn shorten(list: Option<&[u8]>, text: &[u8], out: &mut [u8], matching_out: &mut [u8]) -> Shortened {
+    let mut result = [STALE; 5];
+    let (out, size, names, room) = (out.as_mut_ptr(), out.len(), matching_out.as_mut_ptr(), matching_out.len());
+    unsafe {
+        call!(list, laprunto_shorten, laprunto_shorten_listed, text.as_ptr(), text.len(), out, size, names, room, &mut result);
+    }
+    let [number, side, place, bytes, matching_bytes] = result;
+    Shortened { answer: answer(number, side, place), bytes, matching_bytes }
 }
 
 pub fn check(list: Option<&[u8]>, texts: [&[u8]; 3], rooms: [&mut [Word]; 2], entry_room: &mut [Entry]) -> Checked {

@@ -958,6 +958,87 @@ pub fn move_to(list: Option<&[u8]>, to: Form, text: &[u8], out: &mut [u8]) -> An
     }))
 }
 
+// --------------------------------------------------------------- shortening
+
+/// What a shortening hands back; no bytes under a refusal.
+#[derive(Clone, Copy, Debug, PartialEq, Eq)]
+pub struct Shortened {
+    pub answer: Answer,
+    pub bytes: usize,
+    pub matching_bytes: usize,
+}
+
+/// Which events stay. A stretch is what stands between two synchronising events; of
+/// a location's accesses in it the first stays if it is a used load, and the last
+/// store unless the first is a load of its value.
+pub fn staying(listed: &Locations, events: &[Event]) -> Vec<bool> {
+    let mut stays: Vec<bool> = events.iter().map(|event| event.seen(listed) == Seen::Wall).collect();
+    let mut from = 0;
+    for to in 0..=events.len() {
+        if to < events.len() && !stays[to] {
+            continue;
+        }
+        let mut accesses: Vec<usize> = (from..to).collect();
+        accesses.sort_by_key(|&index| events[index].place);
+        for group in accesses.chunk_by(|&a, &b| events[a].place == events[b].place) {
+            let first = events[group[0]];
+            let loads = first.seen(listed) == Seen::Load;
+            if loads && first.order == order::USED {
+                stays[group[0]] = true;
+            }
+            let last = group.iter().rev().find(|&&index| events[index].seen(listed) == Seen::Store);
+            if let Some(&index) = last.filter(|&&index| !loads || events[index].first != first.first) {
+                stays[index] = true;
+            }
+        }
+        from = to + 1;
+    }
+    stays
+}
+
+/// The matching from a trace to what stays of it.
+fn render_matching(stays: &[bool]) -> Vec<u8> {
+    let mut text = b"match\t1\n".to_vec();
+    let mut number = 0;
+    for &stays in stays {
+        if stays {
+            number += 1;
+            text.extend_from_slice(format!("keep\t{number}\n").as_bytes());
+        } else {
+            text.extend_from_slice(b"gone\n");
+        }
+    }
+    text
+}
+
+/// Both texts of a trace that is shortened.
+fn shortened(list: Option<&[u8]>, text: &[u8]) -> Result<[Vec<u8>; 2], Answer> {
+    let listed = registers(list)?;
+    let mut memory = ZERO_MEMORY;
+    let events = parse(&listed, text, side::SOURCE, &mut memory)?;
+    let stays = staying(&listed, &events);
+    let kept: Vec<Event> = events.iter().zip(&stays).filter(|(_, &stays)| stays).map(|(&event, _)| event).collect();
+    Ok([render(form_of(text), &memory, &kept), render_matching(&stays)])
+}
+
+/// Writes the shortened text and the matching to it, or neither.
+pub fn shorten(list: Option<&[u8]>, text: &[u8], out: &mut [u8], matching_out: &mut [u8]) -> Shortened {
+    let made = shortened(list, text).and_then(|[short, matching]| {
+        for (side, bytes, lent) in [(side::TARGET, short.len(), out.len()), (side::MATCHING, matching.len(), matching_out.len())] {
+            if lent < bytes {
+                return Err(Answer::new(number::ROOM_TOO_SHORT, side, bytes));
+            }
+        }
+        out[..short.len()].copy_from_slice(&short);
+        matching_out[..matching.len()].copy_from_slice(&matching);
+        Ok([short.len(), matching.len()])
+    });
+    match made {
+        Ok([bytes, matching_bytes]) => Shortened { answer: Answer::DONE, bytes, matching_bytes },
+        Err(answer) => Shortened { answer, bytes: 0, matching_bytes: 0 },
+    }
+}
+
 // ----------------------------------------------------------------- checking
 
 /// A set of event indices.

@@ -51,8 +51,19 @@
 //! steps. The replay of `steps.rs`, which knows the rules alone, accepts each
 //! run.
 //!
-//! `lists`, `list_moves`, `list_writes` and `list_runs` hold checks, moves, writings and
-//! runs with a list, as `vectors`, `moves`, `writes` and `runs` do, with one number
+//! `shorts` holds shortenings:
+//!
+//!   length of the long text, of the shortened one and of the matching (bytes; the
+//!   last two 0 if refused), bytes lent for the shortened text and for the matching
+//!   (at most 57,300), 0,
+//!   answer number, side, place, 0,
+//!   the name.
+//!
+//! The raw bytes are the long text, the shortened one and the matching. The check
+//! accepts each shortened text.
+//!
+//! `lists`, `list_moves`, `list_writes`, `list_runs` and `list_shorts` hold checks, moves, writings,
+//! runs and shortenings with a list, as `vectors`, `moves`, `writes`, `runs` and `shorts` do, with one number
 //! more before the name, the length of the list (bytes), and the list as the last of
 //! the raw bytes. The trace of a writing is read without the list.
 //!
@@ -90,11 +101,11 @@ mod zeros;
 
 use cases::{Case, Known, Triple, ALL, DONE};
 use forms::{KnownMove, KnownWriting, Move, Writing};
-use generate::Lists;
+use generate::{Lists, Short};
 use lists::KnownList;
 use peer::{form_of, Answer, Form};
 use random::Random;
-use std::collections::BTreeMap;
+use std::collections::{BTreeMap, BTreeSet};
 use std::path::Path;
 
 /// The program that runs a file has room for no more.
@@ -246,6 +257,21 @@ const LIST_WRITING_SHARES: [((u32, u32), usize); 7] =
 
 const LIST_RUN_SHARES: [((u32, u32), usize); 5] = [((0, 0), 60), ((2, 4), 2), ((22, 4), 2), ((11, 1), 4), ((16, 2), 4)];
 
+const SHORT_SHARES: [((u32, u32), usize); 9] = [
+    ((0, 0), 120),
+    ((2, 1), 40),
+    ((4, 1), 10),
+    ((5, 1), 10),
+    ((6, 1), 20),
+    ((17, 2), 20),
+    ((17, 3), 20),
+    ((20, 1), 10),
+    ((21, 1), 10),
+];
+
+const LIST_SHORT_SHARES: [((u32, u32), usize); 9] =
+    [((0, 0), 80), ((2, 4), 5), ((22, 4), 10), ((5, 1), 10), ((6, 1), 10), ((17, 2), 10), ((17, 3), 10), ((20, 1), 5), ((21, 1), 2)];
+
 /// A lawful triple of a run has up to so many events.
 const RUN_EVENTS: usize = 40;
 
@@ -392,6 +418,38 @@ fn move_vector(Move { list, to, text, bytes }: &Move, _: usize) -> Vector<'_> {
         assert_eq!((answer, given.clone()), moved, "the moves differ");
     }
     Vector { numbers: vec![form_number(*to), text.len(), 0, 0, 0, *bytes], handed: vec![text], answer, given, list }
+}
+
+/// The texts of a shortening, which the check must accept.
+struct Made {
+    short: Short,
+    texts: [Vec<u8>; 2],
+    answer: Triple,
+}
+
+fn made(short: Short) -> Made {
+    let [mut out, mut names] = short.bytes.map(|bytes| vec![0; bytes]);
+    let list = short.list.as_deref();
+    let told = peer::shorten(list, &short.text, &mut out, &mut names);
+    out.truncate(told.bytes);
+    names.truncate(told.matching_bytes);
+    if told.answer.number == peer::number::DONE {
+        let [mut source_room, mut target_room] = [(); 2].map(|()| vec![0; peer::MAX_EVENTS * peer::EVENT_WORDS]);
+        let checked = peer::check(list, &short.text, &out, &names, &mut source_room, &mut target_room, &mut vec![0; peer::MAX_EVENTS]);
+        assert_eq!(triple(checked.answer), DONE, "a shortened text is not accepted");
+    }
+    Made { answer: triple(told.answer), texts: [out, names], short }
+}
+
+fn short_vector(Made { short, texts: [out, names], answer }: &Made, _: usize) -> Vector<'_> {
+    let [bytes, named] = short.bytes;
+    Vector {
+        numbers: vec![short.text.len(), out.len(), names.len(), bytes, named, 0],
+        handed: vec![&short.text, out, names],
+        answer: *answer,
+        given: vec![],
+        list: short.list.as_deref(),
+    }
 }
 
 fn writing_vector(writing: &Writing, _: usize) -> Vector<'_> {
@@ -626,6 +684,85 @@ fn list_runs(random: &mut Random) -> File {
     file
 }
 
+/// A long text whose accesses are mostly repeated, in one of the forms.
+fn long_text(random: &mut Random, list: Option<&[u8]>) -> Vec<u8> {
+    let listed = list.map_or(peer::NO_LOCATIONS, |list| peer::read_list(list).listed);
+    let mut memory = [0; peer::CELLS];
+    let places = 1 + random.below(4);
+    for place in 0..places {
+        memory[place] = random.below(3) as u64;
+    }
+    let mut text = texts::trace_head(&memory);
+    for _ in 0..random.below(40) {
+        let place = random.below(places);
+        let value = random.below(3) as u64;
+        text += &match random.below(9) {
+            0 => format!("{}\t{place}\n", random.pick(&["lock", "unlock"])),
+            1 => String::from("fence\tar\n"),
+            2..=4 => {
+                memory[place] = value;
+                format!("store\t{place}\t{value}\n")
+            }
+            _ => {
+                let value = if listed[place] { value } else { memory[place] };
+                format!("load\t{place}\t{value}\t{}\n", random.pick(&["used", "unused"]))
+            }
+        };
+    }
+    let mut text = text.into_bytes();
+    if random.once_in(2) {
+        generate::add_codes(random, &mut text);
+    }
+    text
+}
+
+/// The sources of known checks that get shorter, each once.
+fn add_changed(file: &mut File, known: Vec<Known>) {
+    let mut seen = BTreeSet::new();
+    for Known { name, case, .. } in known {
+        let made = made(Short { list: case.list, text: case.source, bytes: [peer::MAX_CODED_TEXT; 2] });
+        if made.answer == DONE && made.texts[0] != made.short.text && seen.insert((made.short.list.clone(), made.short.text.clone())) {
+            file.add_known(&name, &short_vector(&made, 0), made.answer);
+        }
+    }
+}
+
+fn shorts(random: &mut Random) -> File {
+    let mut file = File::default();
+    let [source, target, matching]: [&[u8]; 3] = example!("shelf");
+    let shelf = made(Short { list: None, text: source.to_vec(), bytes: [peer::MAX_CODED_TEXT; 2] });
+    assert_eq!(shelf.texts, [target.to_vec(), matching.to_vec()], "the example by hand differs");
+    let examples = examples().into_iter().chain([backwards()]);
+    let others = [cases::all(), forms::checks(), counters::checks(), zeros::checks(), exchanges::checks()].concat();
+    let known: Vec<Known> = examples.chain(others.into_iter().filter(|known| known.case.source.len() < 400)).collect();
+    add_changed(&mut file, known);
+    let events = |count: usize| [b"trace\t1\n".to_vec(), b"lock\t0\n".repeat(count)].concat();
+    let long = [("800 events", events(800), DONE), ("801 events", events(801), (3, 1, 802)), ("a byte over", vec![b'x'; 52_501], (1, 1, 0))];
+    for (name, text, answer) in long {
+        let made = made(Short { list: None, text, bytes: [peer::MAX_CODED_TEXT; 2] });
+        file.add_known(name, &short_vector(&made, 0), answer);
+    }
+    let draw = || {
+        let text = if random.once_in(2) { long_text(random, None) } else { generate::mixed_case(random, Lists::Without).source };
+        made(generate::short_of(random, None, &text))
+    };
+    file.add_random(&SHORT_SHARES, draw, short_vector);
+    file
+}
+
+fn list_shorts(random: &mut Random) -> File {
+    let mut file = File::default();
+    let known = lists::examples().into_iter().chain(lists::checks());
+    add_changed(&mut file, known.filter(|known| known.case.list.is_some() && known.case.source.len() < 400).collect());
+    let draw = || {
+        let case = generate::mixed_case(random, Lists::With);
+        let text = if random.once_in(2) { long_text(random, case.list()) } else { case.source.clone() };
+        made(generate::short_of(random, case.list(), &text))
+    };
+    file.add_random(&LIST_SHORT_SHARES, draw, short_vector);
+    file
+}
+
 fn all_room([source, target, matching]: [&[u8]; 3]) -> Case {
     Case { list: None, source: source.to_vec(), target: target.to_vec(), matching: matching.to_vec(), rooms: [ALL; 3] }
 }
@@ -639,6 +776,7 @@ fn examples() -> Vec<Known> {
         known("count", example!("count"), DONE),
         known("start", example!("start"), (20, 2, 1)),
         known("claim", example!("claim"), (11, 1, 4)),
+        known("shelf", example!("shelf"), DONE),
     ]
 }
 
@@ -693,7 +831,7 @@ fn main() {
     let folder = arguments.next().expect("the folder to write the files in");
     let folder = Path::new(&folder);
     let seed = arguments.next().map_or(1, |seed| seed.parse().expect("the seed is a number"));
-    let files: [(&str, fn(&mut Random) -> File); 13] = [
+    let files: [(&str, fn(&mut Random) -> File); 15] = [
         ("vectors", checks),
         ("forms", form_checks),
         ("counters", counter_checks),
@@ -707,6 +845,8 @@ fn main() {
         ("list_moves", list_moves),
         ("list_writes", list_writings),
         ("list_runs", list_runs),
+        ("shorts", shorts),
+        ("list_shorts", list_shorts),
     ];
     for (name, make) in files {
         make(&mut Random::new(seed)).write(folder, name);

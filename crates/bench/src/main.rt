@@ -1,10 +1,11 @@
-// Checks the files of the examples as the program does, then runs every vector of thirteen files and prints which differ.
+// Checks the files of the examples as the program does, then runs every vector of fifteen files and prints which differ.
 mod back;
 mod check;
 mod lent;
 mod lists;
 mod moves;
 mod runs;
+mod shorts;
 mod tell;
 mod vector;
 mod with;
@@ -25,6 +26,7 @@ use files::read::read_file;
 use lists::run_list;
 use moves::run_move;
 use runs::run_steps;
+use shorts::run_short;
 use tell::Ran;
 use tell::and_more;
 use vector::forth;
@@ -40,6 +42,7 @@ enum Task {
     Write,
     Run,
     List,
+    Short,
 }
 
 // How many vectors were run, how many differ, and how many texts came back as they were or steps were followed.
@@ -102,6 +105,13 @@ fn print_examples() {
     );
     judge_files(
         Wanted::Answer,
+        no_list(),
+        b"examples/shelf/source",
+        b"examples/shelf/target",
+        b"examples/shelf/matching",
+    );
+    judge_files(
+        Wanted::Answer,
         list_of(b"examples/sensor/list"),
         b"examples/sensor/source",
         b"examples/sensor/target",
@@ -131,6 +141,7 @@ fn run_at(task: Task, listed: bool, data: &[u8], at: usize, ordinal: usize) -> R
         Task::Write => run_write(listed, data, at, ordinal),
         Task::Run => run_steps(listed, data, at, ordinal),
         Task::List => run_list(data, at, ordinal),
+        Task::Short => run_short(listed, data, at, ordinal),
     }
 }
 
@@ -224,4 +235,6 @@ fn main() {
     run_file(Task::Move, true, b"list_moves", b"moved back");
     run_file(Task::Write, true, b"list_writes", b"written back");
     run_file(Task::Run, true, b"list_runs", b"steps");
+    run_file(Task::Short, false, b"shorts", b"accepted");
+    run_file(Task::Short, true, b"list_shorts", b"accepted");
 }

@@ -9,6 +9,9 @@ use files::list::no_list;
 use memory::Memory;
 use record::form::Form;
 use registers::ListRead;
+use shorten::Shortened;
+use shorten::shorten;
+use shorten::shorten_listed;
 use trace::read;
 use trace::read_listed;
 use trace::reading::TraceRead;
@@ -87,4 +90,17 @@ pub(crate) fn move_with(
         return move_listed(list, to, text, out);
     }
     move_to(to, text, out)
+}
+
+pub(crate) fn shorten_with(
+    listed: bool,
+    list: &[u8],
+    text: &[u8],
+    out: &mut [u8],
+    matching_out: &mut [u8],
+) -> Shortened {
+    if listed {
+        return shorten_listed(list, text, out, matching_out);
+    }
+    shorten(text, out, matching_out)
 }

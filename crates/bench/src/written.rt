@@ -40,6 +40,14 @@ fn is_marked(out: &[u8], from: usize) -> bool {
     )
 }
 
+// Whether a text stands at the front of bytes, and the others are as they were.
+pub(crate) fn is_front(out: &[u8], text: &[u8]) -> bool {
+    if !same_bytes(between(out, 0, text.len()), text) {
+        return false;
+    }
+    is_marked(out, text.len())
+}
+
 fn is_right(written: Written) -> bool {
     if !written.answer {
         return false;
