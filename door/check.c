@@ -1,9 +1,10 @@
-/* Checks three files, source, target and matching, with a list of registers if there is a fourth, and prints what the program laprunto
+/* Checks three files, source, target and matching, with a list of registers if there is a fourth, for the group of a fifth word, and prints
  * prints, and the locations that are listed. Then the run goes to its end, both traces that were read are written again, what was written
  * is read back, both texts are moved to the other form and back, and both are shortened: status 1 if anything came back otherwise. */
 #include "laprunto.h"
 
 #include <stdio.h>
+#include <stdlib.h>
 #include <string.h>
 
 /* One byte more than the longest text: a longer file is answer 1 whatever its size. */
@@ -14,8 +15,9 @@ struct text {
     size_t size;
 };
 
-/* The list that every call is to be made with; none if it is null. */
+/* The list that every call is to be made with, none if it is null, and the group that it is for. */
 static const struct text *list;
+static laprunto_word group = 1;
 
 struct trace {
     laprunto_word words[LAPRUNTO_TRACE_WORDS];
@@ -58,7 +60,7 @@ static int same_text(const struct text *one, const struct text *other) {
 /* Each of these calls, with the list if there is one. */
 static void check(const struct text texts[3], struct trace *source, struct trace *target, laprunto_entry *entries, size_t *result) {
     if (list != NULL) {
-        laprunto_check_listed(list->bytes, list->size, texts[0].bytes, texts[0].size, texts[1].bytes, texts[1].size, texts[2].bytes,
+        laprunto_check_listed(list->bytes, list->size, group, texts[0].bytes, texts[0].size, texts[1].bytes, texts[1].size, texts[2].bytes,
                               texts[2].size, source->words, LAPRUNTO_TRACE_WORDS, target->words, LAPRUNTO_TRACE_WORDS, entries,
                               LAPRUNTO_ENTRY_WORDS, source->memory, target->memory, result);
     } else {
@@ -72,7 +74,7 @@ static void check(const struct text texts[3], struct trace *source, struct trace
 
 static void read_trace(const struct text *text, struct trace *trace, size_t *result) {
     if (list != NULL) {
-        laprunto_read_trace_listed(list->bytes, list->size, text->bytes, text->size, trace->words, LAPRUNTO_TRACE_WORDS, trace->memory,
+        laprunto_read_trace_listed(list->bytes, list->size, group, text->bytes, text->size, trace->words, LAPRUNTO_TRACE_WORDS, trace->memory,
                                    result);
     } else {
         laprunto_read_trace(text->bytes, text->size, trace->words, LAPRUNTO_TRACE_WORDS, trace->memory, result);
@@ -82,7 +84,7 @@ static void read_trace(const struct text *text, struct trace *trace, size_t *res
 
 static void write_trace(laprunto_number form, const struct trace *trace, struct text *out, size_t *result) {
     if (list != NULL) {
-        laprunto_write_trace_listed(list->bytes, list->size, form, trace->memory, trace->words, trace->events * 6, out->bytes, FILE_BYTES,
+        laprunto_write_trace_listed(list->bytes, list->size, group, form, trace->memory, trace->words, trace->events * 6, out->bytes, FILE_BYTES,
                                     result);
     } else {
         laprunto_write_trace(form, trace->memory, trace->words, trace->events * 6, out->bytes, FILE_BYTES, result);
@@ -92,7 +94,7 @@ static void write_trace(laprunto_number form, const struct trace *trace, struct 
 
 static void move_trace(laprunto_number to_form, const struct text *text, struct text *out, size_t *result) {
     if (list != NULL) {
-        laprunto_move_trace_listed(list->bytes, list->size, to_form, text->bytes, text->size, out->bytes, FILE_BYTES, result);
+        laprunto_move_trace_listed(list->bytes, list->size, group, to_form, text->bytes, text->size, out->bytes, FILE_BYTES, result);
     } else {
         laprunto_move_trace(to_form, text->bytes, text->size, out->bytes, FILE_BYTES, result);
     }
@@ -101,7 +103,8 @@ static void move_trace(laprunto_number to_form, const struct text *text, struct 
 
 static void shorten_trace(const struct text *text, struct text *out, struct text *matching, size_t *result) {
     if (list != NULL) {
-        laprunto_shorten_listed(list->bytes, list->size, text->bytes, text->size, out->bytes, FILE_BYTES, matching->bytes, FILE_BYTES, result);
+        laprunto_shorten_listed(list->bytes, list->size, group, text->bytes, text->size, out->bytes, FILE_BYTES, matching->bytes, FILE_BYTES,
+                                result);
     } else {
         laprunto_shorten(text->bytes, text->size, out->bytes, FILE_BYTES, matching->bytes, FILE_BYTES, result);
     }
@@ -177,7 +180,7 @@ struct run {
 
 static void start(const struct text texts[3], struct run *r) {
     if (list != NULL) {
-        laprunto_start_listed(list->bytes, list->size, texts[0].bytes, texts[0].size, texts[1].bytes, texts[1].size, texts[2].bytes,
+        laprunto_start_listed(list->bytes, list->size, group, texts[0].bytes, texts[0].size, texts[1].bytes, texts[1].size, texts[2].bytes,
                               texts[2].size, r->source.words, LAPRUNTO_TRACE_WORDS, r->target.words, LAPRUNTO_TRACE_WORDS, r->entries,
                               LAPRUNTO_ENTRY_WORDS, r->tags, r->run, r->result);
     } else {
@@ -240,7 +243,8 @@ int main(int count, char **names) {
         size_t read[LAPRUNTO_ANSWER];
         read_file(names[4], &listed);
         list = &listed;
-        laprunto_read_list(list->bytes, list->size, read, marks);
+        group = 5 < count ? strtoull(names[5], NULL, 10) : 1;
+        laprunto_read_list(list->bytes, list->size, group, read, marks);
     }
     check(texts, &source, &target, entries, result);
     printf("%s\t%zu\t%zu\t%zu\n", result[LAPRUNTO_NUMBER] == 0 ? "accepted" : "refused", result[LAPRUNTO_NUMBER],

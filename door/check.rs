@@ -36,13 +36,19 @@ struct Checked {
     entries: Vec<Entry>,
 }
 
-/// The text of a list of registers, or none.
-type List<'a> = Option<&'a [u8]>;
+/// The text of a list of registers, and the group that it is for.
+#[derive(Clone, Copy)]
+struct Registers<'a> {
+    text: &'a [u8],
+    group: Word,
+}
+
+type List<'a> = Option<Registers<'a>>;
 
 /// The marks of a list, none set under a refusal.
-fn marks(list: &[u8]) -> Listed {
+fn marks(list: Registers) -> Listed {
     let (mut result, mut listed): ([usize; 3], Listed) = ([0; 3], [0; 256]);
-    unsafe { laprunto_read_list(list.as_ptr(), list.len(), &mut result, &mut listed) };
+    unsafe { laprunto_read_list(list.text.as_ptr(), list.text.len(), list.group, &mut result, &mut listed) };
     listed
 }
 
@@ -55,7 +61,7 @@ fn check(list: List, source: &[u8], target: &[u8], matching: &[u8]) -> Checked {
     unsafe {
         match list {
             Some(list) => laprunto_check_listed(
-                list.as_ptr(), list.len(),
+                list.text.as_ptr(), list.text.len(), list.group,
                 source.as_ptr(), source.len(), target.as_ptr(), target.len(), matching.as_ptr(), matching.len(),
                 source_room.as_mut_ptr(), source_room.len(), target_room.as_mut_ptr(), target_room.len(),
                 entry_room.as_mut_ptr(), entry_room.len(), &mut source_memory, &mut target_memory, &mut result,
@@ -120,7 +126,9 @@ fn write_trace(list: List, form: Number, trace: &Trace) -> Result<Vec<u8>, usize
     written(|out, result| unsafe {
         let (bytes, size) = (out.as_mut_ptr(), out.len());
         match list {
-            Some(list) => laprunto_write_trace_listed(list.as_ptr(), list.len(), form, memory, room, words, bytes, size, result),
+            Some(Registers { text: list, group }) => {
+                laprunto_write_trace_listed(list.as_ptr(), list.len(), group, form, memory, room, words, bytes, size, result)
+            }
             None => laprunto_write_trace(form, memory, room, words, bytes, size, result),
         }
     })
@@ -130,7 +138,9 @@ fn move_trace(list: List, to_form: Number, text: &[u8]) -> Result<Vec<u8>, usize
     written(|out, result| unsafe {
         let (bytes, size) = (out.as_mut_ptr(), out.len());
         match list {
-            Some(list) => laprunto_move_trace_listed(list.as_ptr(), list.len(), to_form, text.as_ptr(), text.len(), bytes, size, result),
+            Some(Registers { text: list, group }) => {
+                laprunto_move_trace_listed(list.as_ptr(), list.len(), group, to_form, text.as_ptr(), text.len(), bytes, size, result)
+            }
             None => laprunto_move_trace(to_form, text.as_ptr(), text.len(), bytes, size, result),
         }
     })
@@ -143,7 +153,9 @@ fn shorten_trace(list: List, text: &[u8]) -> Result<[Vec<u8>; 2], usize> {
     unsafe {
         let (bytes, size, lent, named) = (out.as_mut_ptr(), out.len(), names.as_mut_ptr(), names.len());
         match list {
-            Some(list) => laprunto_shorten_listed(list.as_ptr(), list.len(), text.as_ptr(), text.len(), bytes, size, lent, named, &mut result),
+            Some(Registers { text: list, group }) => {
+                laprunto_shorten_listed(list.as_ptr(), list.len(), group, text.as_ptr(), text.len(), bytes, size, lent, named, &mut result)
+            }
             None => laprunto_shorten(text.as_ptr(), text.len(), bytes, size, lent, named, &mut result),
         }
     }
@@ -160,7 +172,9 @@ fn read_trace(list: List, text: &[u8]) -> Option<Trace> {
     unsafe {
         let (bytes, size, room, lent) = (text.as_ptr(), text.len(), words.as_mut_ptr(), words.len());
         match list {
-            Some(list) => laprunto_read_trace_listed(list.as_ptr(), list.len(), bytes, size, room, lent, &mut memory, &mut result),
+            Some(Registers { text: list, group }) => {
+                laprunto_read_trace_listed(list.as_ptr(), list.len(), group, bytes, size, room, lent, &mut memory, &mut result)
+            }
             None => laprunto_read_trace(bytes, size, room, lent, &mut memory, &mut result),
         }
     }
@@ -209,7 +223,7 @@ fn runs(list: List, source: &[u8], target: &[u8], matching: &[u8], accepted: boo
     unsafe {
         match list {
             Some(list) => laprunto_start_listed(
-                list.as_ptr(), list.len(),
+                list.text.as_ptr(), list.text.len(), list.group,
                 source.as_ptr(), source.len(), target.as_ptr(), target.len(), matching.as_ptr(), matching.len(),
                 source_room.as_mut_ptr(), source_room.len(), target_room.as_mut_ptr(), target_room.len(),
                 entry_room.as_mut_ptr(), entry_room.len(), &mut tags, &mut run, &mut result,
@@ -268,7 +282,8 @@ fn main() {
     let mut names = std::env::args().skip(1);
     let [source, target, matching] = [(); 3].map(|()| read_file(names.next()));
     let list = names.next().map(|name| read_file(Some(name)));
-    let list = list.as_deref();
+    let group = names.next().map_or(1, |group| group.parse().expect("a group"));
+    let list = list.as_deref().map(|text| Registers { text, group });
     let checked = check(list, &source, &target, &matching);
     let word = if checked.number == 0 { "accepted" } else { "refused" };
     println!("{word}\t{}\t{}\t{}", checked.number, checked.side, checked.place);

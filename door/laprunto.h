@@ -18,8 +18,10 @@
  * Forms. A trace text is of form 2 where it begins with the line `trace`, tab, `2`, else of form 1. Where a form is handed in, 2 is
  * form 2 and any other number is form 1.
  *
- * Lists. A function whose name ends in _listed is the one without that ending, and takes the text of a list of registers first. The list is
- * read ahead of everything else: where it refuses, with 1, 2 or 22 and side 4, that is the answer and nothing is stored. The two that go on
+ * Lists. A function whose name ends in _listed is the one without that ending, and takes the text of a list of registers first, and a group:
+ * of a list that two groups share, 1 and 2, the group's own lines are used; a list of form 1 is group 1's, and any other group has no
+ * line. The list is read ahead of everything else: where it refuses, with 1, 2 or 22 and side 4, that is the answer and nothing is stored.
+ * A line of the other group refuses too. The two that go on
  * with a run take the list's marks first, as laprunto_read_list leaves them: a location is listed where its byte is not 0.
  *
  * Results. Each begins with the answer, the number, side and place of the table in README.md; number 0 is done. Counts come
@@ -124,26 +126,27 @@ void laprunto_check(const uint8_t *source, size_t source_bytes, const uint8_t *t
                     size_t entry_room_entries, laprunto_word source_memory[LAPRUNTO_CELLS],
                     laprunto_word target_memory[LAPRUNTO_CELLS], size_t result[LAPRUNTO_CHECKED]);
 
-/* Reads a list of registers alone: side 4 where it refuses. Writes all of result and of listed: 1 for each location that is listed, 0 for any
- * other, and 0 for all under a refusal. */
-void laprunto_read_list(const uint8_t *list, size_t list_bytes, size_t result[LAPRUNTO_ANSWER], uint8_t listed[LAPRUNTO_CELLS]);
+/* Reads a list of registers alone, for a group: side 4 where it refuses. Writes all of result and of listed: 1 for each location that is
+ * listed for the group, 0 for any other, and 0 for all under a refusal. */
+void laprunto_read_list(const uint8_t *list, size_t list_bytes, laprunto_word group, size_t result[LAPRUNTO_ANSWER],
+                        uint8_t listed[LAPRUNTO_CELLS]);
 
 /* The same as above, with a list. */
-void laprunto_read_trace_listed(const uint8_t *list, size_t list_bytes, const uint8_t *text, size_t text_bytes, laprunto_word *room,
-                                size_t room_words, laprunto_word memory[LAPRUNTO_CELLS], size_t result[LAPRUNTO_READ]);
+void laprunto_read_trace_listed(const uint8_t *list, size_t list_bytes, laprunto_word group, const uint8_t *text, size_t text_bytes,
+                                laprunto_word *room, size_t room_words, laprunto_word memory[LAPRUNTO_CELLS], size_t result[LAPRUNTO_READ]);
 
-void laprunto_write_trace_listed(const uint8_t *list, size_t list_bytes, laprunto_number form,
+void laprunto_write_trace_listed(const uint8_t *list, size_t list_bytes, laprunto_word group, laprunto_number form,
                                  const laprunto_word memory[LAPRUNTO_CELLS], const laprunto_word *room, size_t room_words,
                                  uint8_t *out, size_t out_bytes, size_t result[LAPRUNTO_ANSWER]);
 
-void laprunto_move_trace_listed(const uint8_t *list, size_t list_bytes, laprunto_number to_form, const uint8_t *text,
-                                size_t text_bytes, uint8_t *out, size_t out_bytes, size_t result[LAPRUNTO_ANSWER]);
+void laprunto_move_trace_listed(const uint8_t *list, size_t list_bytes, laprunto_word group, laprunto_number to_form,
+                                const uint8_t *text, size_t text_bytes, uint8_t *out, size_t out_bytes, size_t result[LAPRUNTO_ANSWER]);
 
-void laprunto_shorten_listed(const uint8_t *list, size_t list_bytes, const uint8_t *text, size_t text_bytes, uint8_t *out,
-                             size_t out_bytes, uint8_t *matching_out, size_t matching_out_bytes, size_t result[LAPRUNTO_SHORTENED]);
+void laprunto_shorten_listed(const uint8_t *list, size_t list_bytes, laprunto_word group, const uint8_t *text, size_t text_bytes,
+                             uint8_t *out, size_t out_bytes, uint8_t *matching_out, size_t matching_out_bytes, size_t result[LAPRUNTO_SHORTENED]);
 
-void laprunto_check_listed(const uint8_t *list, size_t list_bytes, const uint8_t *source, size_t source_bytes, const uint8_t *target,
-                           size_t target_bytes, const uint8_t *matching, size_t matching_bytes, laprunto_word *source_room,
+void laprunto_check_listed(const uint8_t *list, size_t list_bytes, laprunto_word group, const uint8_t *source, size_t source_bytes,
+                           const uint8_t *target, size_t target_bytes, const uint8_t *matching, size_t matching_bytes, laprunto_word *source_room,
                            size_t source_room_words, laprunto_word *target_room, size_t target_room_words,
                            laprunto_entry *entry_room, size_t entry_room_entries, laprunto_word source_memory[LAPRUNTO_CELLS],
                            laprunto_word target_memory[LAPRUNTO_CELLS], size_t result[LAPRUNTO_CHECKED]);
@@ -174,8 +177,8 @@ size_t laprunto_apply(size_t run[LAPRUNTO_RUN], size_t tags[LAPRUNTO_TAGS], cons
                       const laprunto_word *target, size_t target_words, size_t kind, size_t place, size_t number);
 
 /* The same three with a list: its text, and then its marks. */
-void laprunto_start_listed(const uint8_t *list, size_t list_bytes, const uint8_t *source, size_t source_bytes, const uint8_t *target,
-                           size_t target_bytes, const uint8_t *matching, size_t matching_bytes, laprunto_word *source_room,
+void laprunto_start_listed(const uint8_t *list, size_t list_bytes, laprunto_word group, const uint8_t *source, size_t source_bytes,
+                           const uint8_t *target, size_t target_bytes, const uint8_t *matching, size_t matching_bytes, laprunto_word *source_room,
                            size_t source_room_words, laprunto_word *target_room, size_t target_room_words,
                            laprunto_entry *entry_room, size_t entry_room_entries, size_t tags[LAPRUNTO_TAGS],
                            size_t run[LAPRUNTO_RUN], size_t result[LAPRUNTO_STARTED]);

@@ -46,32 +46,32 @@ extern "C" {
         kind: usize, place: usize, number: usize,
     ) -> usize;
 
-    // The same with a list of registers.
-    pub fn laprunto_read_list(list: *const u8, list_bytes: usize, result: *mut [usize; 3], listed: *mut Listed);
+    // The same with a list of registers, for a group.
+    pub fn laprunto_read_list(list: *const u8, list_bytes: usize, group: Word, result: *mut [usize; 3], listed: *mut Listed);
     pub fn laprunto_read_trace_listed(
-        list: *const u8, list_bytes: usize, text: *const u8, bytes: usize, room: *mut Word, words: usize, memory: *mut Memory,
+        list: *const u8, list_bytes: usize, group: Word, text: *const u8, bytes: usize, room: *mut Word, words: usize, memory: *mut Memory,
         result: *mut [usize; 4],
     );
     pub fn laprunto_write_trace_listed(
-        list: *const u8, list_bytes: usize, form: Number, memory: *const Memory, room: *const Word, words: usize, out: *mut u8, bytes: usize,
+        list: *const u8, list_bytes: usize, group: Word, form: Number, memory: *const Memory, room: *const Word, words: usize, out: *mut u8, bytes: usize,
         result: *mut [usize; 3],
     );
     pub fn laprunto_move_trace_listed(
-        list: *const u8, list_bytes: usize, to_form: Number, text: *const u8, bytes: usize, out: *mut u8, out_bytes: usize,
+        list: *const u8, list_bytes: usize, group: Word, to_form: Number, text: *const u8, bytes: usize, out: *mut u8, out_bytes: usize,
         result: *mut [usize; 3],
     );
     pub fn laprunto_shorten_listed(
-        list: *const u8, list_bytes: usize, text: *const u8, bytes: usize, out: *mut u8, out_bytes: usize,
+        list: *const u8, list_bytes: usize, group: Word, text: *const u8, bytes: usize, out: *mut u8, out_bytes: usize,
         matching_out: *mut u8, matching_out_bytes: usize, result: *mut [usize; 5],
     );
     pub fn laprunto_check_listed(
-        list: *const u8, list_bytes: usize,
+        list: *const u8, list_bytes: usize, group: Word,
         source: *const u8, source_bytes: usize, target: *const u8, target_bytes: usize, matching: *const u8, matching_bytes: usize,
         source_room: *mut Word, source_words: usize, target_room: *mut Word, target_words: usize, entry_room: *mut Entry, entries: usize,
         source_memory: *mut Memory, target_memory: *mut Memory, result: *mut [usize; 6],
     );
     pub fn laprunto_start_listed(
-        list: *const u8, list_bytes: usize,
+        list: *const u8, list_bytes: usize, group: Word,
         source: *const u8, source_bytes: usize, target: *const u8, target_bytes: usize, matching: *const u8, matching_bytes: usize,
         source_room: *mut Word, source_words: usize, target_room: *mut Word, target_words: usize, entry_room: *mut Entry, entries: usize,
         tags: *mut [usize; 800], run: *mut [usize; 2], result: *mut [usize; 7],

@@ -11,7 +11,7 @@ use Rattle.trace.specs.Reading.{eventsOf, readIn, surveyIn}
 use Rattle.trace.proofs.OneText.{text-whole}
 use Rattle.trace.proofs.Readings.{counts, read-passed}
 use Rattle.rules.proofs.Entries.{entries}
-use Rattle.registers.specs.Reading.{listOf}
+use Rattle.registers.specs.declared.ListRead.{ListRead}
 use Rattle.checker.specs.Check.{ChecksIn, Lent, checkIn, entriesRead, entryRoomIn, refused}
 use Rattle.checker.specs.Demand.{AdmittedIn, entriesFor, premise, sourceOf, targetOf}
 use Rattle.checker.specs.declared.Checked.{Checked}
@@ -125,23 +125,23 @@ refuses regs l c tags r h z q =
 
 -- ---- with the text of a list: it refuses, or the beginning is the one under what it lists
 
-module _ (list : List ℕ) (l : Lent) where
-  pub by-list : listOf list .answer .number ≡ 0 → startedListed list l ≡ startedIn (listOf list .listed) l
+module _ (list : ListRead) (l : Lent) where
+  pub by-list : list .answer .number ≡ 0 → startedListed list l ≡ startedIn (list .listed) l
   unfolding startedListed
   by-list z = rw z
 
-  pub by-refused : (listOf list .answer .number ≡ 0 → ⊥) → startedListed list l ≡ notBegun (refused (listOf list .answer))
+  pub by-refused : (list .answer .number ≡ 0 → ⊥) → startedListed list l ≡ notBegun (refused (list .answer))
   unfolding startedListed
   by-refused h = rw (ne-eqb _ _ h)
 
-  pub listed-refused : (tags : List ℕ) (r : Started) → (listOf list .answer .number ≡ 0 → ⊥) → r ≡ notBegun (refused (listOf list .answer))
+  pub listed-refused : (tags : List ℕ) (r : Started) → (list .answer .number ≡ 0 → ⊥) → r ≡ notBegun (refused (list .answer))
       → StartsListed list l tags r (l .sourceRoom) (l .targetRoom) (l .entryRoom) tags
   listed-refused tags r h e =
-      let z = ne-eqb (listOf list .answer .number) 0 h in
+      let z = ne-eqb (list .answer .number) 0 h in
       record { result = e ∙ sym (by-refused h); source = rw z; target = rw z; entries = rw z; left = rw z }
 
-  pub listed-starts : (tags : List ℕ) (r : Started) (s t e after : List ℕ) → listOf list .answer .number ≡ 0
-      → StartsIn (listOf list .listed) l tags r s t e after → StartsListed list l tags r s t e after
+  pub listed-starts : (tags : List ℕ) (r : Started) (s t e after : List ℕ) → list .answer .number ≡ 0
+      → StartsIn (list .listed) l tags r s t e after → StartsListed list l tags r s t e after
   listed-starts tags r s t e after z c = record {
     result = c .result ∙ sym (by-list z);
     source = rw z (c .source);

@@ -3,4 +3,5 @@ pub mod Counted
 pub mod Tally
 pub mod Begun
 pub mod Texts
+pub mod Groups
 pub mod Unique

@@ -14,7 +14,7 @@ use Rattle.event.specs.Answer.{done}
 use Rattle.memory.specs.Listed.{noneListed}
 use Rattle.event.specs.declared.Answer.{Answer}
 use Rattle.event.specs.declared.Event.{Event}
-use Rattle.registers.specs.Reading.{listOf}
+use Rattle.registers.specs.declared.ListRead.{ListRead}
 use Rattle.rules.specs.View.{View, viewIn}
 use Rattle.rules.specs.Moves.{Run as RunOf}
 use Rattle.rules.specs.Run.{Ends, Traced, changes, number}
@@ -199,41 +199,41 @@ no-step regs look l tags z s t ns swapped st = let e = ne-eqb (checkIn regs l .a
 
 -- ---- with the text of a list: one that refuses is the answer, and accepts nothing
 
-module _ (list : List ℕ) where
+module _ (list : ListRead) where
   pub checked-listed : CheckedListed list
   checked-listed l =
-      cases (either (eqb (listOf list .answer .number) 0))
+      cases (either (eqb (list .answer .number) 0))
       (λ e. let z = eqb-true _ _ e in
       ap (λ (s : Started). s .checked) (by-list list l z) ∙ sym (check-by-list list l z))
       (λ e. let z = eqb-false _ _ e in
       ap (λ (s : Started). s .checked) (by-refused list l z) ∙ sym (check-by-refused list l z))
 
-  accepted-list : (l : Lent) → startedListed list l .checked .answer ≡ done → listOf list .answer .number ≡ 0
+  accepted-list : (l : Lent) → startedListed list l .checked .answer ≡ done → list .answer .number ≡ 0
   accepted-list l h =
-      cases (either (eqb (listOf list .answer .number) 0)) (λ e. eqb-true _ _ e)
+      cases (either (eqb (list .answer .number) 0)) (λ e. eqb-true _ _ e)
       (λ e. ap (λ (a : Answer). a .number) (rw (by-refused list l (eqb-false _ _ e)) at h))
 
   pub printed-listed : PrintedListed list
   printed-listed l tags h budget b =
       let z = accepted-list l h in
       let e = by-list list l z in
-      rw (e, z) (printed-in (listOf list .listed) l tags (rw e at h) budget b)
+      rw (e, z) (printed-in (list .listed) l tags (rw e at h) budget b)
 
   pub as-many-listed : AsManyListed list
   as-many-listed l tags h budget =
       let z = accepted-list l h in
       let e = by-list list l z in
-      rw (e, z) (as-many-in (listOf list .listed) l tags (rw e at h) budget)
+      rw (e, z) (as-many-in (list .listed) l tags (rw e at h) budget)
 
   pub no-fewer-listed : NoFewerListed list
   no-fewer-listed l h u r k =
       let e = by-list list l (accepted-list l h) in
-      rw e (no-fewer-in (listOf list .listed) l (rw e at h) u r k)
+      rw e (no-fewer-in (list .listed) l (rw e at h) u r k)
 
   pub no-step-listed : NoStepListed list
   no-step-listed l tags h s t ns swapped st =
-      cases (either (eqb (listOf list .answer .number) 0))
+      cases (either (eqb (list .answer .number) 0))
       (λ q. let z = eqb-true _ _ q in
       let e = by-list list l z in
-      rw (e, z) (no-step (listOf list .listed) (viewIn (listOf list .listed)) l tags (rw e at h) s t ns swapped st))
+      rw (e, z) (no-step (list .listed) (viewIn (list .listed)) l tags (rw e at h) s t ns swapped st))
       (λ q. rw (by-refused list l (eqb-false _ _ q), q) (refl, refl, refl))

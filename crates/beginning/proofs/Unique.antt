@@ -38,14 +38,14 @@ start-in-tags κ a x y s t h k = h .left ∙ sym (k .left)
 start-listed-one : OneAnswer start-listed.Post
 start-listed-one κ a x y s t h k = h .result ∙ sym (k .result)
 
-start-listed-source : OneOf start-listed.Post (λ κ r s. s .1 .1 .1 .1 .0 .now)
+start-listed-source : OneOf start-listed.Post (λ κ r s. s .1 .1 .1 .1 .1 .0 .now)
 start-listed-source κ a x y s t h k = h .source ∙ sym (k .source)
 
-start-listed-target : OneOf start-listed.Post (λ κ r s. s .1 .1 .1 .1 .1 .0 .now)
+start-listed-target : OneOf start-listed.Post (λ κ r s. s .1 .1 .1 .1 .1 .1 .0 .now)
 start-listed-target κ a x y s t h k = h .target ∙ sym (k .target)
 
-start-listed-entries : OneOf start-listed.Post (λ κ r s. s .1 .1 .1 .1 .1 .1 .0 .now)
+start-listed-entries : OneOf start-listed.Post (λ κ r s. s .1 .1 .1 .1 .1 .1 .1 .0 .now)
 start-listed-entries κ a x y s t h k = h .entries ∙ sym (k .entries)
 
-start-listed-tags : OneOf start-listed.Post (λ κ r s. s .1 .1 .1 .1 .1 .1 .1 .0 .now)
+start-listed-tags : OneOf start-listed.Post (λ κ r s. s .1 .1 .1 .1 .1 .1 .1 .1 .0 .now)
 start-listed-tags κ a x y s t h k = h .left ∙ sym (k .left)

@@ -10,7 +10,7 @@ use Rattle.event.specs.declared.Event.{Event}
 use Rattle.rules.specs.View.{View, view, viewIn}
 use Rattle.rules.specs.Moves.{Run}
 use Rattle.rules.specs.Run.{Traced, number, changes, Ends}
-use Rattle.registers.specs.Reading.{listOf}
+use Rattle.registers.specs.declared.ListRead.{ListRead}
 use Rattle.checker.specs.Check.{Lent, checkListed}
 use Rattle.checker.specs.Demand.{entriesFor, sourceOf, targetOf}
 use Rattle.changes.specs.Apply.{outcomeBy, stands}
@@ -88,18 +88,18 @@ abbrev pub NoStep : Type 0
 NoStep = NoStepBy startedOf tagsOf view
 
 -- With the text of a list.
-module _ (list : List ℕ) where
+module _ (list : ListRead) where
   abbrev pub PrintedListed : Type 0
-  PrintedListed = PrintedBy (startedListed list) (tagsListed list) (viewIn (listOf list .listed))
+  PrintedListed = PrintedBy (startedListed list) (tagsListed list) (viewIn (list .listed))
 
   abbrev pub AsManyListed : Type 0
-  AsManyListed = AsManyBy (startedListed list) (tagsListed list) (viewIn (listOf list .listed))
+  AsManyListed = AsManyBy (startedListed list) (tagsListed list) (viewIn (list .listed))
 
   abbrev pub NoFewerListed : Type 0
-  NoFewerListed = NoFewerBy (startedListed list) (tagsListed list) (viewIn (listOf list .listed))
+  NoFewerListed = NoFewerBy (startedListed list) (tagsListed list) (viewIn (list .listed))
 
   abbrev pub NoStepListed : Type 0
-  NoStepListed = NoStepBy (startedListed list) (tagsListed list) (viewIn (listOf list .listed))
+  NoStepListed = NoStepBy (startedListed list) (tagsListed list) (viewIn (list .listed))
 
   -- It checks as a check with the list does.
   abbrev pub CheckedListed : Type 0

@@ -7,7 +7,7 @@ use lib.Dec.{eqb}
 use lib.ListN.{length}
 use Rattle.memory.specs.Listed.{noneListed}
 use Rattle.frame.specs.Reading.{settle}
-use Rattle.registers.specs.Reading.{listOf}
+use Rattle.registers.specs.declared.ListRead.{ListRead}
 use Rattle.trace.specs.Listed.{unlessListed}
 use Rattle.checker.specs.Check.{Lent, checkIn, entryRoomIn, entryRoomListed, refused, sourceRoomIn, sourceRoomListed, targetRoomIn, targetRoomListed}
 use Rattle.checker.specs.Demand.{entriesFor, targetOf}
@@ -66,13 +66,13 @@ abbrev pub notBegun : Checked → Started
 notBegun c = record { checked = c; run = record { begun = false; standing = 0 }; cost = 0 }
 
 -- With the text of a list: its answer comes ahead of the source's, and its refusal begins no run and stores nothing.
-unfoldable pub startedListed : List ℕ → Lent → Started
-startedListed list l = settle (λ a. notBegun (refused a)) (listOf list .answer) (startedIn (listOf list .listed) l)
+unfoldable pub startedListed : ListRead → Lent → Started
+startedListed list l = settle (λ a. notBegun (refused a)) (list .answer) (startedIn (list .listed) l)
 
-abbrev pub tagsListed : List ℕ → Lent → List ℕ → List ℕ
-tagsListed list l tags = unlessListed list tags (tagsIn (listOf list .listed) l tags)
+abbrev pub tagsListed : ListRead → Lent → List ℕ → List ℕ
+tagsListed list l tags = unlessListed list tags (tagsIn (list .listed) l tags)
 
-pub record StartsListed (list : List ℕ) (l : Lent) (tags : List ℕ) (r : Started) (sourceRoom targetRoom entryRoom after : List ℕ) : Type 0 where
+pub record StartsListed (list : ListRead) (l : Lent) (tags : List ℕ) (r : Started) (sourceRoom targetRoom entryRoom after : List ℕ) : Type 0 where
   pub result : r ≡ startedListed list l
   pub source : sourceRoom ≡ sourceRoomListed list l
   pub target : targetRoom ≡ targetRoomListed list l

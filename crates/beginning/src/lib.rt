@@ -3,6 +3,7 @@ mod cost;
 mod tag;
 
 ghost use mathlib.Core.Path.{_≡_};
+ghost use Rattle.registers.specs.Reading.{listOf};
 ghost use Rattle.beginning.specs.Start.{Starts, StartsIn, StartsListed, notBegun};
 ghost use Rattle.checker.specs.Check.{lent};
 use changes::Run;
@@ -112,9 +113,10 @@ pub fn start(
     )
 }
 
-// With the text of a list, whose answer comes first.
+// With the text of a list and a group of it: the list's answer comes first.
 pub fn start_listed(
     list: &[u8],
+    group: Word,
     source: &[u8],
     target: &[u8],
     matching: &[u8],
@@ -123,12 +125,12 @@ pub fn start_listed(
     entry_room: &mut [Entry],
     tags: &mut [usize; EVENT_LIMIT],
 ) -> Started
-    ensures { λ r. ⌜ StartsListed (now (list .entry))
+    ensures { λ r. ⌜ StartsListed (listOf group (now (list .entry)))
         (lent (now (source .entry)) (now (target .entry)) (now (matching .entry))
         (now («source_room» .entry)) (now («target_room» .entry)) (now («entry_room» .entry))) (now (tags .entry))
         r (now («source_room» .exit)) (now («target_room» .exit)) (now («entry_room» .exit)) (now (tags .exit)) ⌝ }
 {
-    let read = registers::read(list);
+    let read = registers::read(list, group);
     let found = read.answer;
     if found.number != 0 {
         return not_begun(refusal(found));

@@ -32,17 +32,17 @@ pub(crate) fn count_of(back: Back) -> usize {
 }
 
 // A trace text, written as it was read.
-pub(crate) fn written_back(listed: bool, list: &[u8], text: &[u8]) -> Back {
+pub(crate) fn written_back(group: Word, list: &[u8], text: &[u8]) -> Back {
     let mut room: [Word; 4800] = [0; 4800];
     let mut out: [u8; 57300] = [0; 57300];
-    let got = read_with(listed, list, text, &mut room);
+    let got = read_with(group, list, text, &mut room);
     let answer = got.answer;
     if answer.number != 0 {
         return nothing();
     }
     let words = lent_words(&room, words_of(got.events));
     let written = write_with(
-        listed,
+        group,
         list,
         form_of(text),
         got.memory,
@@ -56,9 +56,9 @@ pub(crate) fn written_back(listed: bool, list: &[u8], text: &[u8]) -> Back {
 }
 
 // A text moved from another, moved to the form of that.
-pub(crate) fn moved_back(listed: bool, list: &[u8], moved: &[u8], text: &[u8]) -> Back {
+pub(crate) fn moved_back(group: Word, list: &[u8], moved: &[u8], text: &[u8]) -> Back {
     let mut out: [u8; 57300] = [0; 57300];
-    let answer = move_with(listed, list, form_of(text), moved, &mut out);
+    let answer = move_with(group, list, form_of(text), moved, &mut out);
     Back {
         there: true,
         right: same_bytes(between(&out, 0, answer.place), text),

@@ -109,7 +109,7 @@ fn are_unchanged(
 
 // A check in rooms of the lengths that the header says.
 fn check_in(
-    listed: bool,
+    group: Word,
     list: &[u8],
     source: &[u8],
     target: &[u8],
@@ -123,7 +123,7 @@ fn check_in(
     let target_words = lent_words(target_room, number_at(header, TARGET_WORDS));
     let entry_words = lent_entries(entry_room, number_at(header, ENTRY_WORDS));
     let checked = check_with(
-        listed,
+        group,
         list,
         source,
         target,
@@ -142,7 +142,7 @@ fn check_in(
 
 // A vector's texts checked, and all that comes back compared.
 fn outcome_of<'a>(
-    listed: bool,
+    group: Word,
     list: &[u8],
     source: &'a [u8],
     target: &'a [u8],
@@ -154,7 +154,7 @@ fn outcome_of<'a>(
     let mut target_room: [Word; 4800] = [MARK; 4800];
     let mut entry_room: [Entry; 800] = [ENTRY_MARK; 800];
     let ran = check_in(
-        listed,
+        group,
         list,
         source,
         target,
@@ -167,8 +167,8 @@ fn outcome_of<'a>(
     let answer = ran.answer;
     let answer_right = is_said(header, answer);
     let line_right = same_bytes(offending_line(source, target, answer), line);
-    let source_back = written_back(listed, list, source);
-    let target_back = written_back(listed, list, target);
+    let source_back = written_back(group, list, source);
+    let target_back = written_back(group, list, target);
     Outcome {
         answer,
         answer_right,
@@ -206,11 +206,11 @@ fn print_outcome(ordinal: usize, header: &[u8], outcome: Outcome) {
 }
 
 // The check of the data that begins at a place, with a list or without.
-pub(crate) fn run_check(listed: bool, data: &[u8], at: usize, ordinal: usize) -> Ran {
-    let vector = check_vector(listed, data, at);
+pub(crate) fn run_check(group: Word, data: &[u8], at: usize, ordinal: usize) -> Ran {
+    let vector = check_vector(group != 0, data, at);
     let header = between(data, at, vector.header_end);
     let outcome = outcome_of(
-        listed,
+        group,
         between(data, vector.list, vector.end),
         between(data, vector.source, vector.target),
         between(data, vector.target, vector.matching),

@@ -8,6 +8,7 @@ use super::tell::print_unless;
 use super::vector::between;
 use super::vector::text_vector;
 use event::Answer;
+use event::Word;
 use memory::listed::Listed;
 
 // The locations that a list can name.
@@ -44,12 +45,12 @@ fn is_right(header: &[u8], answer: Answer, back: Back) -> bool {
     back.right
 }
 
-// The list of the data that begins at a place.
-pub(crate) fn run_list(data: &[u8], at: usize, ordinal: usize) -> Ran {
+// The list of the data that begins at a place, read for a group.
+pub(crate) fn run_list(group: Word, data: &[u8], at: usize, ordinal: usize) -> Ran {
     let vector = text_vector(false, data, at);
     let header = between(data, at, vector.header_end);
     let marks = between(data, vector.written, vector.list);
-    let read = registers::read(between(data, vector.text, vector.written));
+    let read = registers::read(between(data, vector.text, vector.written), group);
     let answer = read.answer;
     let listed = read.listed;
     let back = Back {

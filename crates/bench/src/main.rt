@@ -15,6 +15,7 @@ mod written;
 ghost use mathlib.Core.Path.{_≡_};
 ghost use lib.ListN.{length};
 use check::run_check;
+use event::Word;
 use event::number_index;
 use files::list::list_of;
 use files::list::no_list;
@@ -112,17 +113,24 @@ fn print_examples() {
     );
     judge_files(
         Wanted::Answer,
-        list_of(b"examples/sensor/list"),
+        list_of(b"examples/sensor/list", 1),
         b"examples/sensor/source",
         b"examples/sensor/target",
         b"examples/sensor/matching",
     );
     judge_files(
         Wanted::Answer,
-        list_of(b"examples/poll/list"),
+        list_of(b"examples/poll/list", 1),
         b"examples/poll/source",
         b"examples/poll/target",
         b"examples/poll/matching",
+    );
+    judge_files(
+        Wanted::Answer,
+        list_of(b"examples/gateway/list", 2),
+        b"examples/gateway/source",
+        b"examples/gateway/target",
+        b"examples/gateway/matching",
     );
 }
 
@@ -133,15 +141,15 @@ fn count(counts: &mut [usize; ANSWERS], number: usize) {
     }
 }
 
-// The vector of the data that begins at a place, run; `listed` says whether each has a list.
-fn run_at(task: Task, listed: bool, data: &[u8], at: usize, ordinal: usize) -> Ran {
+// The vector of the data that begins at a place, run; its list is for a group, and there is none for group 0.
+fn run_at(task: Task, group: Word, data: &[u8], at: usize, ordinal: usize) -> Ran {
     match task {
-        Task::Check => run_check(listed, data, at, ordinal),
-        Task::Move => run_move(listed, data, at, ordinal),
-        Task::Write => run_write(listed, data, at, ordinal),
-        Task::Run => run_steps(listed, data, at, ordinal),
-        Task::List => run_list(data, at, ordinal),
-        Task::Short => run_short(listed, data, at, ordinal),
+        Task::Check => run_check(group, data, at, ordinal),
+        Task::Move => run_move(group, data, at, ordinal),
+        Task::Write => run_write(group, data, at, ordinal),
+        Task::Run => run_steps(group, data, at, ordinal),
+        Task::List => run_list(group, data, at, ordinal),
+        Task::Short => run_short(group, data, at, ordinal),
     }
 }
 
@@ -164,7 +172,7 @@ fn after(totals: Totals, ran: Ran) -> Totals {
 }
 
 // All vectors of the data, one after the other.
-fn run_all(task: Task, listed: bool, data: &[u8], counts: &mut [usize; ANSWERS]) -> Totals {
+fn run_all(task: Task, group: Word, data: &[u8], counts: &mut [usize; ANSWERS]) -> Totals {
     let mut totals = Totals {
         vectors: 0,
         differing: 0,
@@ -172,7 +180,7 @@ fn run_all(task: Task, listed: bool, data: &[u8], counts: &mut [usize; ANSWERS])
     };
     let mut at: usize = 0;
     while at < data.len() {
-        let ran = run_at(task, listed, data, at, and_more(totals.vectors, 1));
+        let ran = run_at(task, group, data, at, and_more(totals.vectors, 1));
         totals = after(totals, ran);
         count(counts, number_index(ran.answer.number));
         let next = forth(data, ran.end, 1);
@@ -204,11 +212,11 @@ fn print_counts(counts: &[usize; ANSWERS]) {
 }
 
 // Every vector of a file run, and the totals printed; `back` says what it is for a text to come back, or that steps were followed.
-fn run_file(task: Task, listed: bool, name: &[u8], back: &[u8]) {
+fn run_file(task: Task, group: Word, name: &[u8], back: &[u8]) {
     let mut counts: [usize; ANSWERS] = [0; ANSWERS];
     let mut data = vectors_buffer();
     let bytes = read_file(name, &mut data);
-    let totals = run_all(task, listed, &data[..bytes], &mut counts);
+    let totals = run_all(task, group, &data[..bytes], &mut counts);
     print(name);
     print_number(totals.vectors as u64);
     print(b"\ndiffering");
@@ -222,19 +230,25 @@ fn run_file(task: Task, listed: bool, name: &[u8], back: &[u8]) {
 
 fn main() {
     print_examples();
-    run_file(Task::Check, false, b"vectors", b"written back");
-    run_file(Task::Check, false, b"forms", b"written back");
-    run_file(Task::Check, false, b"counters", b"written back");
-    run_file(Task::Check, false, b"zeros", b"written back");
-    run_file(Task::Check, false, b"exchanges", b"written back");
-    run_file(Task::Move, false, b"moves", b"moved back");
-    run_file(Task::Write, false, b"writes", b"written back");
-    run_file(Task::Run, false, b"runs", b"steps");
-    run_file(Task::Check, true, b"lists", b"written back");
-    run_file(Task::List, false, b"list_texts", b"listed");
-    run_file(Task::Move, true, b"list_moves", b"moved back");
-    run_file(Task::Write, true, b"list_writes", b"written back");
-    run_file(Task::Run, true, b"list_runs", b"steps");
-    run_file(Task::Short, false, b"shorts", b"accepted");
-    run_file(Task::Short, true, b"list_shorts", b"accepted");
+    run_file(Task::Check, 0, b"vectors", b"written back");
+    run_file(Task::Check, 0, b"forms", b"written back");
+    run_file(Task::Check, 0, b"counters", b"written back");
+    run_file(Task::Check, 0, b"zeros", b"written back");
+    run_file(Task::Check, 0, b"exchanges", b"written back");
+    run_file(Task::Move, 0, b"moves", b"moved back");
+    run_file(Task::Write, 0, b"writes", b"written back");
+    run_file(Task::Run, 0, b"runs", b"steps");
+    run_file(Task::Check, 1, b"lists", b"written back");
+    run_file(Task::List, 1, b"list_texts", b"listed");
+    run_file(Task::Move, 1, b"list_moves", b"moved back");
+    run_file(Task::Write, 1, b"list_writes", b"written back");
+    run_file(Task::Run, 1, b"list_runs", b"steps");
+    run_file(Task::Short, 0, b"shorts", b"accepted");
+    run_file(Task::Short, 1, b"list_shorts", b"accepted");
+    run_file(Task::Check, 2, b"groups", b"written back");
+    run_file(Task::List, 2, b"group_texts", b"listed");
+    run_file(Task::Move, 2, b"group_moves", b"moved back");
+    run_file(Task::Write, 2, b"group_writes", b"written back");
+    run_file(Task::Run, 2, b"group_runs", b"steps");
+    run_file(Task::Short, 2, b"group_shorts", b"accepted");
 }

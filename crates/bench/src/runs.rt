@@ -201,11 +201,11 @@ fn is_right(header: &[u8], outcome: Outcome) -> bool {
 }
 
 // The run of the data that begins at a place, with a list or without.
-pub(crate) fn run_steps(listed: bool, data: &[u8], at: usize, ordinal: usize) -> Ran {
-    let vector = check_vector(listed, data, at);
+pub(crate) fn run_steps(group: Word, data: &[u8], at: usize, ordinal: usize) -> Ran {
+    let vector = check_vector(group != 0, data, at);
     let header = between(data, at, vector.header_end);
     let outcome = outcome_of(
-        list_with(listed, between(data, vector.list, vector.end)),
+        list_with(group, between(data, vector.list, vector.end)),
         between(data, vector.source, vector.target),
         between(data, vector.target, vector.matching),
         between(data, vector.matching, vector.given),

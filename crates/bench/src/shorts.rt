@@ -32,7 +32,7 @@ struct Outcome {
 
 // The text shortened into as many bytes as the header says; a shortening's header has the bytes lent where a check's has the words.
 fn shorten_into(
-    listed: bool,
+    group: Word,
     list: &[u8],
     header: &[u8],
     text: &[u8],
@@ -42,7 +42,7 @@ fn shorten_into(
     let bytes = lent_bytes(out, number_at(header, SOURCE_WORDS));
     let matching_bytes = lent_bytes(matching_out, number_at(header, TARGET_WORDS));
     shorten_with(
-        listed,
+        group,
         list,
         text,
         &mut out[..bytes],
@@ -63,7 +63,7 @@ fn is_told(header: &[u8], made: Shortened, short: &[u8], matching: &[u8]) -> boo
 
 // The check of a text that was shortened.
 fn checked(
-    listed: bool,
+    group: Word,
     list: &[u8],
     answer: Answer,
     text: &[u8],
@@ -77,7 +77,7 @@ fn checked(
     let mut target_room: [Word; 4800] = [0; 4800];
     let mut entry_room: [Entry; 800] = [0; 800];
     let found = check_with(
-        listed,
+        group,
         list,
         text,
         short,
@@ -115,8 +115,8 @@ fn print_outcome(ordinal: usize, header: &[u8], answer: Answer, outcome: Outcome
 }
 
 // The shortening of the data that begins at a place, with a list or without.
-pub(crate) fn run_short(listed: bool, data: &[u8], at: usize, ordinal: usize) -> Ran {
-    let vector = check_vector(listed, data, at);
+pub(crate) fn run_short(group: Word, data: &[u8], at: usize, ordinal: usize) -> Ran {
+    let vector = check_vector(group != 0, data, at);
     let header = between(data, at, vector.header_end);
     let text = between(data, vector.source, vector.target);
     let short = between(data, vector.target, vector.matching);
@@ -124,9 +124,9 @@ pub(crate) fn run_short(listed: bool, data: &[u8], at: usize, ordinal: usize) ->
     let list = between(data, vector.list, vector.end);
     let mut out: [u8; 57300] = [MARK; 57300];
     let mut matching_out: [u8; 57300] = [MARK; 57300];
-    let made = shorten_into(listed, list, header, text, &mut out, &mut matching_out);
+    let made = shorten_into(group, list, header, text, &mut out, &mut matching_out);
     let answer = made.answer;
-    let back = checked(listed, list, answer, text, short, matching);
+    let back = checked(group, list, answer, text, short, matching);
     let outcome = Outcome {
         answer: is_told(header, made, short, matching),
         text: is_front(&out, short),

@@ -1,4 +1,4 @@
-// Every call with a list of registers, or without one: `listed` says which, and without one the list is empty.
+// Every call with a list of registers for a group, or without one: then the group is 0, and the list is empty.
 use checker::Checked;
 use checker::check;
 use checker::check_listed;
@@ -20,15 +20,15 @@ use writer::moving::move_to;
 use writer::write;
 use writer::write_listed;
 
-pub(crate) fn list_with(listed: bool, list: &[u8]) -> ListRead {
-    if listed {
-        return registers::read(list);
+pub(crate) fn list_with(group: Word, list: &[u8]) -> ListRead {
+    if group != 0 {
+        return registers::read(list, group);
     }
     no_list()
 }
 
 pub(crate) fn check_with(
-    listed: bool,
+    group: Word,
     list: &[u8],
     source: &[u8],
     target: &[u8],
@@ -37,9 +37,10 @@ pub(crate) fn check_with(
     target_room: &mut [Word],
     entry_room: &mut [Entry],
 ) -> Checked {
-    if listed {
+    if group != 0 {
         return check_listed(
             list,
+            group,
             source,
             target,
             matching,
@@ -58,49 +59,43 @@ pub(crate) fn check_with(
     )
 }
 
-pub(crate) fn read_with(listed: bool, list: &[u8], text: &[u8], room: &mut [Word]) -> TraceRead {
-    if listed {
-        return read_listed(list, text, room);
+pub(crate) fn read_with(group: Word, list: &[u8], text: &[u8], room: &mut [Word]) -> TraceRead {
+    if group != 0 {
+        return read_listed(list, group, text, room);
     }
     read(text, room)
 }
 
 pub(crate) fn write_with(
-    listed: bool,
+    group: Word,
     list: &[u8],
     form: Form,
     memory: Memory,
     room: &[Word],
     out: &mut [u8],
 ) -> Answer {
-    if listed {
-        return write_listed(list, form, memory, room, out);
+    if group != 0 {
+        return write_listed(list, group, form, memory, room, out);
     }
     write(form, memory, room, out)
 }
 
-pub(crate) fn move_with(
-    listed: bool,
-    list: &[u8],
-    to: Form,
-    text: &[u8],
-    out: &mut [u8],
-) -> Answer {
-    if listed {
-        return move_listed(list, to, text, out);
+pub(crate) fn move_with(group: Word, list: &[u8], to: Form, text: &[u8], out: &mut [u8]) -> Answer {
+    if group != 0 {
+        return move_listed(list, group, to, text, out);
     }
     move_to(to, text, out)
 }
 
 pub(crate) fn shorten_with(
-    listed: bool,
+    group: Word,
     list: &[u8],
     text: &[u8],
     out: &mut [u8],
     matching_out: &mut [u8],
 ) -> Shortened {
-    if listed {
-        return shorten_listed(list, text, out, matching_out);
+    if group != 0 {
+        return shorten_listed(list, group, text, out, matching_out);
     }
     shorten(text, out, matching_out)
 }

@@ -31,7 +31,7 @@ fn change(room: &mut [Word], header: &[u8]) {
 
 // As much of the room as the header says written in the form that it says, into as many bytes.
 fn write_in(
-    listed: bool,
+    group: Word,
     list: &[u8],
     header: &[u8],
     memory: Memory,
@@ -41,7 +41,7 @@ fn write_in(
     let words = lent_words(room, number_at(header, ROOM_WORDS));
     let bytes = lent_bytes(out, number_at(header, OUT_BYTES));
     write_with(
-        listed,
+        group,
         list,
         form_in(header),
         memory,
@@ -50,16 +50,16 @@ fn write_in(
     )
 }
 
-fn back_of(listed: bool, list: &[u8], answer: Answer, text: &[u8]) -> Back {
+fn back_of(group: Word, list: &[u8], answer: Answer, text: &[u8]) -> Back {
     if answer.number != 0 {
         return nothing();
     }
-    written_back(listed, list, text)
+    written_back(group, list, text)
 }
 
 // The writing of the data that begins at a place, with a list or without; its trace is read without.
-pub(crate) fn run_write(listed: bool, data: &[u8], at: usize, ordinal: usize) -> Ran {
-    let vector = text_vector(listed, data, at);
+pub(crate) fn run_write(group: Word, data: &[u8], at: usize, ordinal: usize) -> Ran {
+    let vector = text_vector(group != 0, data, at);
     let header = between(data, at, vector.header_end);
     let written = between(data, vector.written, vector.list);
     let list = between(data, vector.list, vector.end);
@@ -67,7 +67,7 @@ pub(crate) fn run_write(listed: bool, data: &[u8], at: usize, ordinal: usize) ->
     let mut out: [u8; 57300] = [MARK; 57300];
     let got = read(between(data, vector.text, vector.written), &mut room);
     change(&mut room, header);
-    let answer = write_in(listed, list, header, got.memory, &room, &mut out);
-    let back = back_of(listed, list, answer, written);
+    let answer = write_in(group, list, header, got.memory, &room, &mut out);
+    let back = back_of(group, list, answer, written);
     ran_with(ordinal, header, answer, &out, written, back, vector.end)
 }

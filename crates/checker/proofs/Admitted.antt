@@ -17,6 +17,7 @@ use Rattle.event.specs.declared.Answer.{Answer}
 use Rattle.event.proofs.Answers.{Among, among-first, among-more, among-done, among-has, among-not, given-among, in-first}
 use Rattle.laws.proofs.Has.{has-every}
 use Rattle.registers.specs.Reading.{listOf}
+use Rattle.registers.specs.declared.ListRead.{ListRead}
 use Rattle.registers.proofs.Answers.{listFaults, read-among as list-among, read-in as list-in}
 use Rattle.trace.proofs.Answers.{traceFaults, source-in, target-in}
 use Rattle.trace.proofs.Answers.{read-among as trace-among}
@@ -137,28 +138,31 @@ admitted-exactly = admitted-exactly-in noneListed
 
 -- ---- with the text of a list
 
-module _ (list : List ℕ) (l : Lent) where
+module _ (g : ℕ) (text : List ℕ) (l : Lent) where
+  abbrev list : ListRead
+  list = listOf g text
+
   abbrev marks : List Bool
-  marks = listOf list .listed
+  marks = list .listed
 
   pub check-listed-in : InTable (checkListed list l .answer)
   check-listed-in =
-      cases (either (eqb (listOf list .answer .number) 0))
+      cases (either (eqb (list .answer .number) 0))
       (λ e. rw (by-list list l (eqb-true _ _ e)) (check-in marks l))
-      (λ e. rw (by-refused list l (eqb-false _ _ e)) (list-in list))
+      (λ e. rw (by-refused list l (eqb-false _ _ e)) (list-in g text))
 
   listed-back : has (checkListed list l .answer .number) premise ≡ false → AdmittedListed list l
   listed-back p =
-      let z : listOf list .answer .number ≡ 0 =
-      cases (either (eqb (listOf list .answer .number) 0)) (λ e. eqb-true _ _ e)
-      (λ e. passes (listOf list .answer) done listFaults (list-among list) refl (rw e (rw (by-refused list l (eqb-false _ _ e)) at p))) in
+      let z : list .answer .number ≡ 0 =
+      cases (either (eqb (list .answer .number) 0)) (λ e. eqb-true _ _ e)
+      (λ e. passes (list .answer) done listFaults (list-among g text) refl (rw e (rw (by-refused list l (eqb-false _ _ e)) at p))) in
       record { reading = z; others = back marks l (rw (by-list list l z) at p) }
 
 pub checked-under : CheckedUnder
 checked-under list l a = by-list list l (a .reading)
 
 pub admitted-listed-exactly : AdmittedListedExactly
-admitted-listed-exactly list l = (λ a. rw (checked-under list l a) (into (listOf list .listed) l (a .others)), listed-back list l)
+admitted-listed-exactly g text l = (λ a. rw (checked-under (listOf g text) l a) (into (listOf g text .listed) l (a .others)), listed-back g text l)
 
 pub accepted-listed-exactly : AcceptedListedExactly
-accepted-listed-exactly list l a = rw (checked-under list l a) (accepted-exactly-in (listOf list .listed) l (a .others))
+accepted-listed-exactly list l a = rw (checked-under list l a) (accepted-exactly-in (list .listed) l (a .others))

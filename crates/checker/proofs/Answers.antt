@@ -7,7 +7,7 @@ use borrow.Author.Tests.{ne-eqb}
 use Rattle.event.specs.declared.Answer.{Answer}
 use Rattle.trace.specs.Reading.{eventsOf, front}
 use Rattle.matching.specs.Reading.{entriesOf, front as entryFront}
-use Rattle.registers.specs.Reading.{listOf}
+use Rattle.registers.specs.declared.ListRead.{ListRead}
 use Rattle.checker.specs.Check.{
   Lent,
   sourceReadIn,
@@ -62,21 +62,21 @@ module _ (regs : List Bool) (l : Lent) where
   refuses r a e h p = checks-refused r (λ z. h (rw e at z)) (p ∙ ap refused (sym e))
 
 -- with the text of a list: it refuses, or the check is the one under what it lists
-module _ (list : List ℕ) (l : Lent) where
-  pub by-list : listOf list .answer .number ≡ 0 → checkListed list l ≡ checkIn (listOf list .listed) l
+module _ (list : ListRead) (l : Lent) where
+  pub by-list : list .answer .number ≡ 0 → checkListed list l ≡ checkIn (list .listed) l
   unfolding checkListed
   by-list z = rw z
 
-  pub by-refused : (listOf list .answer .number ≡ 0 → ⊥) → checkListed list l ≡ refused (listOf list .answer)
+  pub by-refused : (list .answer .number ≡ 0 → ⊥) → checkListed list l ≡ refused (list .answer)
   unfolding checkListed
   by-refused h = rw (ne-eqb _ _ h)
 
-  pub listed-refused : (r : Checked) → (listOf list .answer .number ≡ 0 → ⊥) → r ≡ refused (listOf list .answer)
+  pub listed-refused : (r : Checked) → (list .answer .number ≡ 0 → ⊥) → r ≡ refused (list .answer)
       → ChecksListed list l r (l .sourceRoom) (l .targetRoom) (l .entryRoom)
   listed-refused r h e =
-      let z = ne-eqb (listOf list .answer .number) 0 h in
+      let z = ne-eqb (list .answer .number) 0 h in
       record { result = e ∙ sym (by-refused h); source = rw z; target = rw z; entries = rw z }
 
-  pub listed-checks : (r : Checked) (s t e : List ℕ) → listOf list .answer .number ≡ 0 → ChecksIn (listOf list .listed) l r s t e → ChecksListed list l r s t e
+  pub listed-checks : (r : Checked) (s t e : List ℕ) → list .answer .number ≡ 0 → ChecksIn (list .listed) l r s t e → ChecksListed list l r s t e
   listed-checks r s t e z c =
       record { result = c .result ∙ sym (by-list z); source = rw z (c .source); target = rw z (c .target); entries = rw z (c .entries) }

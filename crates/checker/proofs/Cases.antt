@@ -21,15 +21,15 @@ use Rattle.frame.specs.Reading.{headFault, linesFault, textFault}
 use Rattle.matching.specs.Reading.{entriesOf, surveyOf as matchingSurvey, readOf as matchingRead}
 use Rattle.text.specs.Line.{saidIn}
 use Rattle.rules.specs.Verdict.{startAnswerIn, countAnswer, entryAnswer, sourceAnswer, targetAnswer, verdictIn}
-use Rattle.registers.specs.Reg.{regRest, regOf}
-use Rattle.registers.specs.Reading.{regsOf, marked, listOf}
+use Rattle.registers.specs.Reg.{afterWord, groupRest, regRest, regOf}
+use Rattle.registers.specs.Reading.{isGrouped, regsOf, marked, listOf}
 use Rattle.checker.specs.Check.{Lent, readingAnswerIn, verdictFor, checkIn, checkOf, checkListed}
 use Rattle.checker.specs.Line.{counted, nthLine, lineOf, faultSide, offending, offendingLine, standing}
 use Rattle.checker.specs.Cases.{table, counters, zeros, exchanges, registers, all-hold, all-listed}
 
 cases : (all-hold table ≡ true)
     × ((all-hold counters ≡ true) × ((all-hold zeros ≡ true) × ((all-hold exchanges ≡ true) × (all-listed registers ≡ true))))
-unfolding checkListed listOf regsOf regOf regRest marked checkIn readingAnswerIn verdictFor verdictIn startAnswerIn countAnswer entryAnswer
+unfolding checkListed listOf isGrouped regsOf regOf afterWord groupRest regRest marked checkIn readingAnswerIn verdictFor verdictIn startAnswerIn countAnswer entryAnswer
     sourceAnswer targetAnswer readIn surveyIn formOf faultIn textFault headFault linesFault saidIn startIn eventsOf initsOf coverFault lined firstBad
     eventFaultIn uses recordOf eventRest initRest unlessSilent numberIf orderIf numberIn matchingRead matchingSurvey entriesOf entryOf keepRest
     goneRest numberOf digitsOn valueOn allDigits cut sameBytes stepped after latest lawful takes row
@@ -51,8 +51,8 @@ pub registers-hold : all-listed registers ≡ true
 registers-hold = cases .1 .1 .1 .1
 
 -- "A call without a list lists none", as a list of none does.
-pub lists-none : (l : Lent) → checkListed (bytes "regs\t1\n") l ≡ checkOf l
-unfolding checkListed listOf regsOf regOf regRest marked textFault headFault linesFault saidIn cut sameBytes
+pub lists-none : (l : Lent) → checkListed (listOf 1 (bytes "regs\t1\n")) l ≡ checkOf l
+unfolding checkListed listOf isGrouped regsOf regOf afterWord groupRest regRest marked textFault headFault linesFault saidIn cut sameBytes
 lists-none l = refl
 
 -- The lines that the program prints for P10: of form 1, and of form 2 with its code line, against a target of form 1.

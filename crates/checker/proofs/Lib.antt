@@ -5,4 +5,5 @@ pub mod Answers
 pub mod Filled
 pub mod Demand3
 pub mod Admitted
+pub mod Groups
 pub mod Unique

@@ -38,13 +38,13 @@ check-in-entries κ a x y s t h k = h .entries ∙ sym (k .entries)
 check-listed-one : OneAnswer check-listed.Post
 check-listed-one κ a x y s t h k = h .result ∙ sym (k .result)
 
-check-listed-source : OneOf check-listed.Post (λ κ r s. s .1 .1 .1 .1 .0 .now)
+check-listed-source : OneOf check-listed.Post (λ κ r s. s .1 .1 .1 .1 .1 .0 .now)
 check-listed-source κ a x y s t h k = h .source ∙ sym (k .source)
 
-check-listed-target : OneOf check-listed.Post (λ κ r s. s .1 .1 .1 .1 .1 .0 .now)
+check-listed-target : OneOf check-listed.Post (λ κ r s. s .1 .1 .1 .1 .1 .1 .0 .now)
 check-listed-target κ a x y s t h k = h .target ∙ sym (k .target)
 
-check-listed-entries : OneOf check-listed.Post (λ κ r s. s .1 .1 .1 .1 .1 .1 .0 .now)
+check-listed-entries : OneOf check-listed.Post (λ κ r s. s .1 .1 .1 .1 .1 .1 .1 .0 .now)
 check-listed-entries κ a x y s t h k = h .entries ∙ sym (k .entries)
 
 offending-span-one : OneAnswer offending-span.Post

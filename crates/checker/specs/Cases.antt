@@ -6,6 +6,7 @@ use Prim.Native.Nat.{ℕ}
 use Prim.Native.String.{String}
 use lib.Dec.{eqb}
 use lib.ListN.{replicate}
+use Rattle.registers.specs.Reading.{listOf}
 use Rattle.event.specs.Answer.{answer, done}
 use Rattle.event.specs.declared.Answer.{Answer}
 use Rattle.text.specs.Word.{bytes}
@@ -50,7 +51,7 @@ abbrev pub under : String → Case → Listed
 under l c = record { list = l; case = c }
 
 abbrev pub listed-holds : Listed → Bool
-listed-holds c = equal (checkListed (bytes (c .list)) (lentIn (c .case)) .answer) (c .case .answer)
+listed-holds c = equal (checkListed (listOf 1 (bytes (c .list))) (lentIn (c .case)) .answer) (c .case .answer)
 
 abbrev pub all-listed : List Listed → Bool
 all-listed [] = true

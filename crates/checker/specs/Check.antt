@@ -18,7 +18,7 @@ use Rattle.matching.specs.Reading.{entriesOf}
 use Rattle.matching.specs.Reading.{readOf as matchingRead, front as entryFront}
 use Rattle.matching.specs.declared.MatchingRead.{MatchingRead}
 use Rattle.frame.specs.Reading.{settle}
-use Rattle.registers.specs.Reading.{listOf}
+use Rattle.registers.specs.declared.ListRead.{ListRead}
 use Rattle.rules.specs.Verdict.{verdictIn}
 use Rattle.checker.specs.declared.Checked.{Checked}
 use Rattle.checker.specs.declared.Held.{Held}
@@ -133,19 +133,19 @@ abbrev pub Checks : Lent → Checked → List ℕ → List ℕ → List ℕ → 
 Checks = ChecksIn noneListed
 
 -- With the text of a list: its answer comes ahead of the source's, and its refusal stores nothing.
-unfoldable pub checkListed : List ℕ → Lent → Checked
-checkListed list l = settle refused (listOf list .answer) (checkIn (listOf list .listed) l)
+unfoldable pub checkListed : ListRead → Lent → Checked
+checkListed list l = settle refused (list .answer) (checkIn (list .listed) l)
 
-abbrev pub sourceRoomListed : List ℕ → Lent → List ℕ
-sourceRoomListed list l = unlessListed list (l .sourceRoom) (sourceRoomIn (listOf list .listed) l)
+abbrev pub sourceRoomListed : ListRead → Lent → List ℕ
+sourceRoomListed list l = unlessListed list (l .sourceRoom) (sourceRoomIn (list .listed) l)
 
-abbrev pub targetRoomListed : List ℕ → Lent → List ℕ
-targetRoomListed list l = unlessListed list (l .targetRoom) (targetRoomIn (listOf list .listed) l)
+abbrev pub targetRoomListed : ListRead → Lent → List ℕ
+targetRoomListed list l = unlessListed list (l .targetRoom) (targetRoomIn (list .listed) l)
 
-abbrev pub entryRoomListed : List ℕ → Lent → List ℕ
-entryRoomListed list l = unlessListed list (l .entryRoom) (entryRoomIn (listOf list .listed) l)
+abbrev pub entryRoomListed : ListRead → Lent → List ℕ
+entryRoomListed list l = unlessListed list (l .entryRoom) (entryRoomIn (list .listed) l)
 
-pub record ChecksListed (list : List ℕ) (l : Lent) (r : Checked) (sourceRoom targetRoom entryRoom : List ℕ) : Type 0 where
+pub record ChecksListed (list : ListRead) (l : Lent) (r : Checked) (sourceRoom targetRoom entryRoom : List ℕ) : Type 0 where
   pub result : r ≡ checkListed list l
   pub source : sourceRoom ≡ sourceRoomListed list l
   pub target : targetRoom ≡ targetRoomListed list l

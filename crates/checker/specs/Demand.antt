@@ -14,6 +14,7 @@ use Rattle.event.specs.declared.Event.{Event}
 use Rattle.trace.specs.Reading.{eventsOf}
 use Rattle.matching.specs.Reading.{entriesOf}
 use Rattle.registers.specs.Reading.{listOf}
+use Rattle.registers.specs.declared.ListRead.{ListRead}
 use Rattle.rules.specs.View.{View, view, viewIn}
 use Rattle.rules.specs.Moves.{Run, By}
 use Rattle.rules.specs.Run.{Traced, eventOf, number, changes, Realises}
@@ -90,19 +91,19 @@ abbrev pub SameMemory : Type 0
 SameMemory =
     (l : Lent) → Admitted l → checkOf l .answer ≡ done → final (targetRead l .memory) (targetOf l) ≡ final (sourceRead l .memory) (sourceOf l)
 
--- With the text of a list: it is read without refusal too.
-pub record AdmittedListed (list : List ℕ) (l : Lent) : Type 0 where
-  pub reading : listOf list .answer .number ≡ 0
-  pub others : AdmittedIn (listOf list .listed) l
+-- With what was read of a list: it is read without refusal too.
+pub record AdmittedListed (list : ListRead) (l : Lent) : Type 0 where
+  pub reading : list .answer .number ≡ 0
+  pub others : AdmittedIn (list .listed) l
 
 abbrev pub AdmittedListedExactly : Type 0
-AdmittedListedExactly = (list : List ℕ) (l : Lent) → AdmittedListed list l ↔ (has (checkListed list l .answer .number) premise ≡ false)
+AdmittedListedExactly = (g : ℕ) (text : List ℕ) (l : Lent) → AdmittedListed (listOf g text) l ↔ (has (checkListed (listOf g text) l .answer .number) premise ≡ false)
 
 -- Such a check is the one under what the list lists, so what is said of that is said of it.
 abbrev pub CheckedUnder : Type 0
-CheckedUnder = (list : List ℕ) (l : Lent) → AdmittedListed list l → checkListed list l ≡ checkIn (listOf list .listed) l
+CheckedUnder = (list : ListRead) (l : Lent) → AdmittedListed list l → checkListed list l ≡ checkIn (list .listed) l
 
 abbrev pub AcceptedListedExactly : Type 0
 AcceptedListedExactly =
-    (list : List ℕ) (l : Lent) → AdmittedListed list l
-    → (checkListed list l .answer ≡ done) ↔ Realises (viewIn (listOf list .listed)) (sourceOf l) (targetOf l) (entriesFor l)
+    (list : ListRead) (l : Lent) → AdmittedListed list l
+    → (checkListed list l .answer ≡ done) ↔ Realises (viewIn (list .listed)) (sourceOf l) (targetOf l) (entriesFor l)

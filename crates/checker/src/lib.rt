@@ -4,6 +4,7 @@ pub mod line;
 ghost use mathlib.Core.Path.{_≡_};
 ghost use Prim.Native.Nat.{_*_, _≤_};
 ghost use lib.ListN.{length, take};
+ghost use Rattle.registers.specs.Reading.{listOf};
 ghost use Rattle.event.specs.Room.{Placed, eventWords};
 ghost use Rattle.checker.specs.Check.{Checks, ChecksIn, ChecksListed, heldOf, judgedIn, lent, refused};
 ghost use Rattle.event.specs.Limit.{eventLimit};
@@ -168,9 +169,10 @@ pub fn check(
     )
 }
 
-// With the text of a list, whose answer comes first.
+// With the text of a list and a group of it: the list's answer comes first.
 pub fn check_listed(
     list: &[u8],
+    group: Word,
     source: &[u8],
     target: &[u8],
     matching: &[u8],
@@ -178,12 +180,12 @@ pub fn check_listed(
     target_room: &mut [Word],
     entry_room: &mut [Entry],
 ) -> Checked
-    ensures { λ r. ⌜ ChecksListed (now (list .entry))
+    ensures { λ r. ⌜ ChecksListed (listOf group (now (list .entry)))
         (lent (now (source .entry)) (now (target .entry)) (now (matching .entry))
         (now («source_room» .entry)) (now («target_room» .entry)) (now («entry_room» .entry)))
         r (now («source_room» .exit)) (now («target_room» .exit)) (now («entry_room» .exit)) ⌝ }
 {
-    let read = registers::read(list);
+    let read = registers::read(list, group);
     let found = read.answer;
     if found.number != 0 {
         return refusal(found);

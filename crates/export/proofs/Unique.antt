@@ -77,49 +77,49 @@ offending-line-from κ a x y s t h k = ap (λ (p : Span). p .from) (h .1 ∙ sym
 offending-line-to : OneOf offending-line.Post (λ κ r s. s .1 .1 .1 .1 .1 .1 .0 .now)
 offending-line-to κ a x y s t h k = ap (λ (p : Span). p .to) (h .1 ∙ sym (k .1))
 
-read-list-result : OneOf read-list.Post (λ κ r s. s .1 .0 .now)
+read-list-result : OneOf read-list.Post (λ κ r s. s .1 .1 .0 .now)
 read-list-result κ a x y s t h k = h .0 ∙ sym (k .0)
 
-read-list-marks : OneOf read-list.Post (λ κ r s. s .1 .1 .0 .now)
+read-list-marks : OneOf read-list.Post (λ κ r s. s .1 .1 .1 .0 .now)
 read-list-marks κ a x y s t h k = h .1 ∙ sym (k .1)
 
-read-trace-listed-result : OneOf read-trace-listed.Post (λ κ r s. s .1 .1 .1 .1 .0 .now)
+read-trace-listed-result : OneOf read-trace-listed.Post (λ κ r s. s .1 .1 .1 .1 .1 .0 .now)
 read-trace-listed-result κ a x y s t h k = h .0 ∙ sym (k .0)
 
-read-trace-listed-memory : OneOf read-trace-listed.Post (λ κ r s. s .1 .1 .1 .0 .now)
+read-trace-listed-memory : OneOf read-trace-listed.Post (λ κ r s. s .1 .1 .1 .1 .0 .now)
 read-trace-listed-memory κ a x y s t h k = h .1 .0 ∙ sym (k .1 .0)
 
-read-trace-listed-room : OneOf read-trace-listed.Post (λ κ r s. s .1 .1 .0 .now)
+read-trace-listed-room : OneOf read-trace-listed.Post (λ κ r s. s .1 .1 .1 .0 .now)
 read-trace-listed-room κ a x y s t h k = h .1 .1 ∙ sym (k .1 .1)
 
-write-trace-listed-result : OneOf write-trace-listed.Post (λ κ r s. s .1 .1 .1 .1 .1 .0 .now)
+write-trace-listed-result : OneOf write-trace-listed.Post (λ κ r s. s .1 .1 .1 .1 .1 .1 .0 .now)
 write-trace-listed-result κ a x y s t h k = h .0 ∙ sym (k .0)
 
-write-trace-listed-bytes : OneOf write-trace-listed.Post (λ κ r s. s .1 .1 .1 .1 .0 .now)
+write-trace-listed-bytes : OneOf write-trace-listed.Post (λ κ r s. s .1 .1 .1 .1 .1 .0 .now)
 write-trace-listed-bytes κ a x y s t h k = h .1 ∙ sym (k .1)
 
-move-trace-listed-result : OneOf move-trace-listed.Post (λ κ r s. s .1 .1 .1 .1 .0 .now)
+move-trace-listed-result : OneOf move-trace-listed.Post (λ κ r s. s .1 .1 .1 .1 .1 .0 .now)
 move-trace-listed-result κ a x y s t h k = h .0 ∙ sym (k .0)
 
-move-trace-listed-bytes : OneOf move-trace-listed.Post (λ κ r s. s .1 .1 .1 .0 .now)
+move-trace-listed-bytes : OneOf move-trace-listed.Post (λ κ r s. s .1 .1 .1 .1 .0 .now)
 move-trace-listed-bytes κ a x y s t h k = h .1 ∙ sym (k .1)
 
-check-listed-result : OneOf check-listed.Post (λ κ r s. s .1 .1 .1 .1 .1 .1 .1 .1 .1 .0 .now)
+check-listed-result : OneOf check-listed.Post (λ κ r s. s .1 .1 .1 .1 .1 .1 .1 .1 .1 .1 .0 .now)
 check-listed-result κ a x y s t h k = h .numbers ∙ sym (k .numbers)
 
-check-listed-source-memory : OneOf check-listed.Post (λ κ r s. s .1 .1 .1 .1 .1 .1 .1 .0 .now)
+check-listed-source-memory : OneOf check-listed.Post (λ κ r s. s .1 .1 .1 .1 .1 .1 .1 .1 .0 .now)
 check-listed-source-memory κ a x y s t h k = h .sourceStart ∙ sym (k .sourceStart)
 
-check-listed-target-memory : OneOf check-listed.Post (λ κ r s. s .1 .1 .1 .1 .1 .1 .1 .1 .0 .now)
+check-listed-target-memory : OneOf check-listed.Post (λ κ r s. s .1 .1 .1 .1 .1 .1 .1 .1 .1 .0 .now)
 check-listed-target-memory κ a x y s t h k = h .targetStart ∙ sym (k .targetStart)
 
-check-listed-source-room : OneOf check-listed.Post (λ κ r s. s .1 .1 .1 .1 .0 .now)
+check-listed-source-room : OneOf check-listed.Post (λ κ r s. s .1 .1 .1 .1 .1 .0 .now)
 check-listed-source-room κ a x y s t h k = h .sourceEvents ∙ sym (k .sourceEvents)
 
-check-listed-target-room : OneOf check-listed.Post (λ κ r s. s .1 .1 .1 .1 .1 .0 .now)
+check-listed-target-room : OneOf check-listed.Post (λ κ r s. s .1 .1 .1 .1 .1 .1 .0 .now)
 check-listed-target-room κ a x y s t h k = h .targetEvents ∙ sym (k .targetEvents)
 
-check-listed-entry-room : OneOf check-listed.Post (λ κ r s. s .1 .1 .1 .1 .1 .1 .0 .now)
+check-listed-entry-room : OneOf check-listed.Post (λ κ r s. s .1 .1 .1 .1 .1 .1 .1 .0 .now)
 check-listed-entry-room κ a x y s t h k = h .entries ∙ sym (k .entries)
 
 start-result : OneOf start.Post (λ κ r s. s .1 .1 .1 .1 .1 .1 .1 .1 .0 .now)
@@ -152,22 +152,22 @@ apply-run κ a x y s t h k = h .standing ∙ sym (k .standing)
 apply-tags : OneOf apply.Post (λ κ r s. s .1 .0 .now)
 apply-tags κ a x y s t h k = h .left ∙ sym (k .left)
 
-start-listed-result : OneOf start-listed.Post (λ κ r s. s .1 .1 .1 .1 .1 .1 .1 .1 .1 .0 .now)
+start-listed-result : OneOf start-listed.Post (λ κ r s. s .1 .1 .1 .1 .1 .1 .1 .1 .1 .1 .0 .now)
 start-listed-result κ a x y s t h k = h .numbers ∙ sym (k .numbers)
 
-start-listed-run : OneOf start-listed.Post (λ κ r s. s .1 .1 .1 .1 .1 .1 .1 .1 .0 .now)
+start-listed-run : OneOf start-listed.Post (λ κ r s. s .1 .1 .1 .1 .1 .1 .1 .1 .1 .0 .now)
 start-listed-run κ a x y s t h k = h .begun ∙ sym (k .begun)
 
-start-listed-source-room : OneOf start-listed.Post (λ κ r s. s .1 .1 .1 .1 .0 .now)
+start-listed-source-room : OneOf start-listed.Post (λ κ r s. s .1 .1 .1 .1 .1 .0 .now)
 start-listed-source-room κ a x y s t h k = h .sourceEvents ∙ sym (k .sourceEvents)
 
-start-listed-target-room : OneOf start-listed.Post (λ κ r s. s .1 .1 .1 .1 .1 .0 .now)
+start-listed-target-room : OneOf start-listed.Post (λ κ r s. s .1 .1 .1 .1 .1 .1 .0 .now)
 start-listed-target-room κ a x y s t h k = h .targetEvents ∙ sym (k .targetEvents)
 
-start-listed-entry-room : OneOf start-listed.Post (λ κ r s. s .1 .1 .1 .1 .1 .1 .0 .now)
+start-listed-entry-room : OneOf start-listed.Post (λ κ r s. s .1 .1 .1 .1 .1 .1 .1 .0 .now)
 start-listed-entry-room κ a x y s t h k = h .entries ∙ sym (k .entries)
 
-start-listed-tags : OneOf start-listed.Post (λ κ r s. s .1 .1 .1 .1 .1 .1 .1 .0 .now)
+start-listed-tags : OneOf start-listed.Post (λ κ r s. s .1 .1 .1 .1 .1 .1 .1 .1 .0 .now)
 start-listed-tags κ a x y s t h k = h .left ∙ sym (k .left)
 
 next-listed-step : OneOf next-listed.Post (λ κ r s. s .1 .1 .1 .1 .1 .1 .1 .0 .now)
@@ -191,11 +191,11 @@ shorten-text κ a x y s t h k = h .shortened ∙ sym (k .shortened)
 shorten-matching : OneOf shorten.Post (λ κ r s. s .1 .1 .0 .now)
 shorten-matching κ a x y s t h k = h .matched ∙ sym (k .matched)
 
-shorten-listed-result : OneOf shorten-listed.Post (λ κ r s. s .1 .1 .1 .1 .0 .now)
+shorten-listed-result : OneOf shorten-listed.Post (λ κ r s. s .1 .1 .1 .1 .1 .0 .now)
 shorten-listed-result κ a x y s t h k = h .numbers ∙ sym (k .numbers)
 
-shorten-listed-text : OneOf shorten-listed.Post (λ κ r s. s .1 .1 .0 .now)
+shorten-listed-text : OneOf shorten-listed.Post (λ κ r s. s .1 .1 .1 .0 .now)
 shorten-listed-text κ a x y s t h k = h .shortened ∙ sym (k .shortened)
 
-shorten-listed-matching : OneOf shorten-listed.Post (λ κ r s. s .1 .1 .1 .0 .now)
+shorten-listed-matching : OneOf shorten-listed.Post (λ κ r s. s .1 .1 .1 .1 .0 .now)
 shorten-listed-matching κ a x y s t h k = h .matched ∙ sym (k .matched)

@@ -2,6 +2,7 @@
 use Prim.Native.Nat.{ℕ}
 use mathlib.Core.List.{List}
 use mathlib.Core.Path.{_≡_}
+use Rattle.registers.specs.declared.ListRead.{ListRead}
 use Rattle.memory.specs.declared.Memory.{Memory}
 use Rattle.checker.specs.declared.Checked.{Checked}
 use Rattle.checker.specs.Check.{Lent, checkOf, sourceRoomAfter, targetRoomAfter, entryRoomAfter}
@@ -25,5 +26,5 @@ pub record Lays (c : Checked) (source target matching : List ℕ) (result source
 abbrev pub Leaves : Lent → List ℕ → List ℕ → List ℕ → List ℕ → List ℕ → List ℕ → Type 0
 Leaves l = Lays (checkOf l) (sourceRoomAfter l) (targetRoomAfter l) (entryRoomAfter l)
 
-abbrev pub LeavesListed : List ℕ → Lent → List ℕ → List ℕ → List ℕ → List ℕ → List ℕ → List ℕ → Type 0
+abbrev pub LeavesListed : ListRead → Lent → List ℕ → List ℕ → List ℕ → List ℕ → List ℕ → List ℕ → Type 0
 LeavesListed list l = Lays (checkListed list l) (sourceRoomListed list l) (targetRoomListed list l) (entryRoomListed list l)

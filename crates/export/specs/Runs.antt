@@ -3,6 +3,7 @@ use Prim.Native.Nat.{ℕ}
 use mathlib.Core.Option.{Option}
 use mathlib.Core.List.{List}
 use mathlib.Core.Path.{_≡_}
+use Rattle.registers.specs.declared.ListRead.{ListRead}
 use Rattle.rules.specs.Run.{Traced}
 use Rattle.checker.specs.Check.{Lent, sourceRoomAfter, targetRoomAfter, entryRoomAfter, sourceRoomListed, targetRoomListed, entryRoomListed}
 use Rattle.changes.specs.Apply.{appliedOf, tagsAfter}
@@ -25,7 +26,7 @@ pub record Opens (s : Started) (source target matching tags : List ℕ) (result 
 abbrev pub Begins : Lent → List ℕ → List ℕ → List ℕ → List ℕ → List ℕ → List ℕ → List ℕ → Type 0
 Begins l tags = Opens (startedOf l) (sourceRoomAfter l) (targetRoomAfter l) (entryRoomAfter l) (tagsOf l tags)
 
-abbrev pub BeginsListed : List ℕ → Lent → List ℕ → List ℕ → List ℕ → List ℕ → List ℕ → List ℕ → List ℕ → Type 0
+abbrev pub BeginsListed : ListRead → Lent → List ℕ → List ℕ → List ℕ → List ℕ → List ℕ → List ℕ → List ℕ → Type 0
 BeginsListed list l tags =
     Opens (startedListed list l) (sourceRoomListed list l) (targetRoomListed list l) (entryRoomListed list l) (tagsListed list l tags)
 

@@ -42,13 +42,14 @@ use writer::write_listed;
 #[no_mangle]
 pub extern "C" fn laprunto_read_list(
     list: &[u8],
+    group: Word,
     result: &mut [usize; 3],
     listed: &mut [u8; PLACES],
 )
-    ensures { λ _. ⌜ now (result .exit) ≡ answerNumbers (listOf (now (list .entry)) .answer) ⌝ }
-    ensures { λ _. ⌜ now (listed .exit) ≡ marks (listOf (now (list .entry)) .listed) ⌝ }
+    ensures { λ _. ⌜ now (result .exit) ≡ answerNumbers (listOf group (now (list .entry)) .answer) ⌝ }
+    ensures { λ _. ⌜ now (listed .exit) ≡ marks (listOf group (now (list .entry)) .listed) ⌝ }
 {
-    let read = registers::read(list);
+    let read = registers::read(list, group);
     let named = read.listed;
     *listed = marks_of(named);
     *result = answer_numbers(read.answer);
@@ -58,16 +59,17 @@ pub extern "C" fn laprunto_read_list(
 #[no_mangle]
 pub extern "C" fn laprunto_read_trace_listed(
     list: &[u8],
+    group: Word,
     text: &[u8],
     room: &mut [Word],
     memory: &mut [Word; PLACES],
     result: &mut [usize; 4],
 )
-    ensures { λ _. ⌜ now (result .exit) ≡ traceNumbers (readListed (now (list .entry)) (now (text .entry)) (now (room .entry))) ⌝ }
-    ensures { λ _. ⌜ now (memory .exit) ≡ readListed (now (list .entry)) (now (text .entry)) (now (room .entry)) .memory .cells ⌝ }
-    ensures { λ _. ⌜ now (room .exit) ≡ roomListed (now (list .entry)) (now (text .entry)) (now (room .entry)) ⌝ }
+    ensures { λ _. ⌜ now (result .exit) ≡ traceNumbers (readListed (listOf group (now (list .entry))) (now (text .entry)) (now (room .entry))) ⌝ }
+    ensures { λ _. ⌜ now (memory .exit) ≡ readListed (listOf group (now (list .entry))) (now (text .entry)) (now (room .entry)) .memory .cells ⌝ }
+    ensures { λ _. ⌜ now (room .exit) ≡ roomListed (listOf group (now (list .entry))) (now (text .entry)) (now (room .entry)) ⌝ }
 {
-    let read = read_listed(list, text, room);
+    let read = read_listed(list, group, text, room);
     lay_trace(read, memory, result);
 }
 
@@ -75,19 +77,27 @@ pub extern "C" fn laprunto_read_trace_listed(
 #[no_mangle]
 pub extern "C" fn laprunto_write_trace_listed(
     list: &[u8],
+    group: Word,
     form: Number,
     memory: &[Word; PLACES],
     room: &[Word],
     out: &mut [u8],
     result: &mut [usize; 3],
 )
-    ensures { λ _. ⌜ now (result .exit) ≡ answerNumbers (writeListed (now (list .entry)) (formNumbered form) (starting (now (memory .entry)))
+    ensures { λ _. ⌜ now (result .exit) ≡ answerNumbers (writeListed (listOf group (now (list .entry))) (formNumbered form) (starting (now (memory .entry)))
         (now (room .entry)) (now (out .entry))) ⌝ }
-    ensures { λ _. ⌜ now (out .exit) ≡ outListed (now (list .entry)) (formNumbered form) (starting (now (memory .entry))) (now (room .entry))
+    ensures { λ _. ⌜ now (out .exit) ≡ outListed (listOf group (now (list .entry))) (formNumbered form) (starting (now (memory .entry))) (now (room .entry))
         (now (out .entry)) ⌝ }
 {
     let cells = *memory;
-    let written = write_listed(list, form_numbered(form), Memory { cells }, room, out);
+    let written = write_listed(
+        list,
+        group,
+        form_numbered(form),
+        Memory { cells },
+        room,
+        out,
+    );
     *result = answer_numbers(written);
 }
 
@@ -95,15 +105,16 @@ pub extern "C" fn laprunto_write_trace_listed(
 #[no_mangle]
 pub extern "C" fn laprunto_move_trace_listed(
     list: &[u8],
+    group: Word,
     to_form: Number,
     text: &[u8],
     out: &mut [u8],
     result: &mut [usize; 3],
 )
-    ensures { λ _. ⌜ now (result .exit) ≡ answerNumbers (moveListed (now (list .entry)) (formNumbered «to_form») (now (text .entry)) (now (out .entry))) ⌝ }
-    ensures { λ _. ⌜ now (out .exit) ≡ movedListed (now (list .entry)) (formNumbered «to_form») (now (text .entry)) (now (out .entry)) ⌝ }
+    ensures { λ _. ⌜ now (result .exit) ≡ answerNumbers (moveListed (listOf group (now (list .entry))) (formNumbered «to_form») (now (text .entry)) (now (out .entry))) ⌝ }
+    ensures { λ _. ⌜ now (out .exit) ≡ movedListed (listOf group (now (list .entry))) (formNumbered «to_form») (now (text .entry)) (now (out .entry)) ⌝ }
 {
-    let moved = move_listed(list, form_numbered(to_form), text, out);
+    let moved = move_listed(list, group, form_numbered(to_form), text, out);
     *result = answer_numbers(moved);
 }
 
@@ -111,6 +122,7 @@ pub extern "C" fn laprunto_move_trace_listed(
 #[no_mangle]
 pub extern "C" fn laprunto_check_listed(
     list: &[u8],
+    group: Word,
     source: &[u8],
     target: &[u8],
     matching: &[u8],
@@ -121,7 +133,7 @@ pub extern "C" fn laprunto_check_listed(
     target_memory: &mut [Word; PLACES],
     result: &mut [usize; 6],
 )
-    ensures { λ _. ⌜ LeavesListed (now (list .entry))
+    ensures { λ _. ⌜ LeavesListed (listOf group (now (list .entry)))
         (lent (now (source .entry)) (now (target .entry)) (now (matching .entry))
         (now («source_room» .entry)) (now («target_room» .entry)) (now («entry_room» .entry)))
         (now (result .exit)) (now («source_memory» .exit)) (now («target_memory» .exit))
@@ -129,6 +141,7 @@ pub extern "C" fn laprunto_check_listed(
 {
     let checked = check_listed(
         list,
+        group,
         source,
         target,
         matching,
@@ -143,6 +156,7 @@ pub extern "C" fn laprunto_check_listed(
 #[no_mangle]
 pub extern "C" fn laprunto_start_listed(
     list: &[u8],
+    group: Word,
     source: &[u8],
     target: &[u8],
     matching: &[u8],
@@ -153,7 +167,7 @@ pub extern "C" fn laprunto_start_listed(
     run: &mut [usize; 2],
     result: &mut [usize; 7],
 )
-    ensures { λ _. ⌜ BeginsListed (now (list .entry))
+    ensures { λ _. ⌜ BeginsListed (listOf group (now (list .entry)))
         (lent (now (source .entry)) (now (target .entry)) (now (matching .entry))
         (now («source_room» .entry)) (now («target_room» .entry)) (now («entry_room» .entry))) (now (tags .entry))
         (now (result .exit)) (now (run .exit))
@@ -161,6 +175,7 @@ pub extern "C" fn laprunto_start_listed(
 {
     let started = start_listed(
         list,
+        group,
         source,
         target,
         matching,

@@ -1,8 +1,10 @@
 // The list of registers of a call: what its file says, or that none is listed.
+use crate::args::Options;
 use crate::read::read_file;
 use crate::read::text_buffer;
 use event::Answer;
 use event::PLACES;
+use event::Word;
 use registers::ListRead;
 
 // Without a list nothing is refused, and none is listed.
@@ -13,19 +15,19 @@ pub fn no_list() -> ListRead {
     }
 }
 
-// The list in the file of this name.
-pub fn list_of(name: &[u8]) -> ListRead {
+// The list in the file of this name, for a group.
+pub fn list_of(name: &[u8], group: Word) -> ListRead {
     let mut list = text_buffer();
     let bytes = read_file(name, &mut list);
-    registers::read(&list[..bytes])
+    registers::read(&list[..bytes], group)
 }
 
-// The list in the file that a word of the call names; the word at place 0 names none.
-pub fn list_at(place: usize) -> ListRead {
-    if place == 0 {
+// The list that the options of a call name; the word at place 0 names none.
+pub fn list_given(options: Options) -> ListRead {
+    if options.list == 0 {
         return no_list();
     }
     let mut name = io::buffer();
-    let bytes = os::arg(place, &mut name);
-    list_of(&name[..bytes])
+    let bytes = os::arg(options.list, &mut name);
+    list_of(&name[..bytes], options.group)
 }

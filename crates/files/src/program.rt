@@ -1,7 +1,7 @@
 // What the programs `laprunto` and `laprunto_run` do: three files read and checked under the list of the call, and what is wanted of them printed.
 use crate::args::options_of;
 use crate::check::print_check;
-use crate::list::list_at;
+use crate::list::list_given;
 use crate::print::print_answer_line;
 use crate::read::read_file;
 use crate::read::text_buffer;
@@ -71,7 +71,7 @@ pub fn judge_named(wanted: Wanted, usage: &[u8]) {
     let matching_bytes = os::arg(3, &mut matching);
     judge_files(
         wanted,
-        list_at(options.list),
+        list_given(options),
         &source[..source_bytes],
         &target[..target_bytes],
         &matching[..matching_bytes],

@@ -1,8 +1,8 @@
-// The program: a form, 1 or 2, the name of a trace and the name of a file to write, and the option `--list` with the name of a list. It moves the trace to the form and prints the answer.
+// The program: a form, 1 or 2, the name of a trace and the name of a file to write, and the options `--list` with the name of a list and `--group`. It moves the trace to the form and prints the answer.
 use files::args::is_short;
 use files::args::options_of;
 use files::args::print_usage;
-use files::list::list_at;
+use files::list::list_given;
 use files::moving::move_file;
 use record::form::Form;
 use text::word::same_bytes;
@@ -25,7 +25,8 @@ fn form_named(word: &[u8]) -> Named {
 
 // A word too few or too many, or another form, is no move.
 fn main() {
-    let usage = b"usage: laprunto_move FORM TRACE OUT [--list FILE] (FORM is 1 or 2)\n";
+    let usage =
+        b"usage: laprunto_move FORM TRACE OUT [--list FILE] [--group N] (FORM and N are 1 or 2)\n";
     let options = options_of(usage);
     if !options.right {
         return;
@@ -44,7 +45,7 @@ fn main() {
         return;
     };
     move_file(
-        list_at(options.list),
+        list_given(options),
         to,
         &name[..name_bytes],
         &out_name[..out_bytes],

@@ -2,5 +2,6 @@
 pub mod Reg
 pub mod Reading
 pub mod Text
+pub mod Groups
 -- Inner: the steps of the reading. Assumes nothing.
 pub mod Lines

@@ -1,7 +1,7 @@
-// A register's line: `reg` and a location.
+// A register's line: `reg`, in form 2 its group, and a location.
 ghost use mathlib.Core.Path.{_≡_};
 ghost use Rattle.text.specs.Field.{fieldsFrom};
-ghost use Rattle.registers.specs.Reg.{regRest, regOf};
+ghost use Rattle.registers.specs.Reg.{regRest, groupRest, afterWord, regOf};
 use event::Word;
 use kinds::LAST_PLACE;
 use text::field::FieldStep;
@@ -11,32 +11,64 @@ use text::take::ends_at;
 use text::take::take_number;
 use text::word::same_bytes;
 
-// The location of a register, at most 255.
+// The groups are 1 and 2.
+pub const LAST_GROUP: Word = 2;
+
+// A location that is a register of a group.
+pub struct Register {
+    pub group: Word,
+    pub location: Word,
+}
+
 pub enum RegRead {
-    Reg(Word),
+    Reg(Register),
     Refused,
 }
 
-fn reg_rest(line: &[u8], at: usize) -> RegRead
-    ensures { λ r. ⌜ r ≡ regRest (fieldsFrom (now (line .entry)) at) ⌝ }
+fn reg_rest(group: Word, line: &[u8], at: usize) -> RegRead
+    ensures { λ r. ⌜ r ≡ regRest group (fieldsFrom (now (line .entry)) at) ⌝ }
 {
     let Taken::Number { value, next } = take_number(line, at, LAST_PLACE) else {
         return RegRead::Refused;
     };
     if ends_at(line, next) {
-        return RegRead::Reg(value);
+        return RegRead::Reg(Register {
+            group,
+            location: value,
+        });
     }
     RegRead::Refused
 }
 
-pub(crate) fn reg_of(line: &[u8]) -> RegRead
-    ensures { λ r. ⌜ r ≡ regOf (now (line .entry)) ⌝ }
+fn group_rest(line: &[u8], at: usize) -> RegRead
+    ensures { λ r. ⌜ r ≡ groupRest (fieldsFrom (now (line .entry)) at) ⌝ }
+{
+    let Taken::Number { value, next } = take_number(line, at, LAST_GROUP) else {
+        return RegRead::Refused;
+    };
+    if value == 0 {
+        return RegRead::Refused;
+    }
+    reg_rest(value, line, next)
+}
+
+fn after_word(grouped: bool, line: &[u8], at: usize) -> RegRead
+    ensures { λ r. ⌜ r ≡ afterWord grouped (fieldsFrom (now (line .entry)) at) ⌝ }
+{
+    if grouped {
+        return group_rest(line, at);
+    }
+    reg_rest(1, line, at)
+}
+
+pub(crate) fn reg_of(grouped: bool, line: &[u8]) -> RegRead
+    ensures { λ r. ⌜ r ≡ regOf grouped (now (line .entry)) ⌝ }
 {
     let FieldStep::Field { from, to } = field_of(line, 0) else {
         return RegRead::Refused;
     };
     if same_bytes(&line[from..to], b"reg") {
-        return reg_rest(line, to + 1);
+        return after_word(grouped, line, to + 1);
     }
     RegRead::Refused
 }

@@ -50,7 +50,7 @@ module _ (regs : List Bool) (t out matchingOut : List ℕ) where
   unfolding shortenIn
   shorten-in = cases (either (eqb (shortFault regs t out matchingOut .number) 0)) (λ e. rw e refl) (λ e. rw e fault-in)
 
-pub shorten-listed-in : (list t out matchingOut : List ℕ) → InTable (shortenListed list t out matchingOut .answer)
+pub shorten-listed-in : (g : ℕ) (list t out matchingOut : List ℕ) → InTable (shortenListed (listOf g list) t out matchingOut .answer)
 unfolding shortenListed
-shorten-listed-in list t out matchingOut =
-    cases (either (eqb (listOf list .answer .number) 0)) (λ e. rw e (shorten-in (listOf list .listed) t out matchingOut)) (λ e. rw e (list-in list))
+shorten-listed-in g list t out matchingOut =
+    cases (either (eqb (listOf g list .answer .number) 0)) (λ e. rw e (shorten-in (listOf g list .listed) t out matchingOut)) (λ e. rw e (list-in g list))

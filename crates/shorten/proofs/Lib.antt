@@ -5,5 +5,6 @@ pub mod Texts
 pub mod Written
 pub mod Quiet
 pub mod Promised
+pub mod Groups
 pub mod Answers
 pub mod Unique

@@ -13,7 +13,6 @@ use Rattle.event.specs.Room.{capacity}
 use Rattle.event.specs.declared.Event.{Event}
 use Rattle.memory.specs.Listed.{noneListed}
 use Rattle.memory.specs.declared.Memory.{Memory}
-use Rattle.registers.specs.Reading.{listOf}
 use Rattle.record.specs.declared.form.Form.{Form}
 use Rattle.trace.specs.Fault.{eventFaultIn}
 use Rattle.trace.specs.Reading.{formOf, startOf, eventsOf, faultIn, surveyIn, readAs}
@@ -171,4 +170,4 @@ twice-text = twice-text-in noneListed
 
 -- with the text of a list
 pub accepted-text-listed : AcceptedTextListed
-accepted-text-listed list l z s = rw (by-list list l z) (accepted-text-in (listOf list .listed) l s)
+accepted-text-listed list l z s = rw (by-list list l z) (accepted-text-in (list .listed) l s)

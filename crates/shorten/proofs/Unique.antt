@@ -26,8 +26,8 @@ shorten-in-matching κ a x y s t h k = h .matching ∙ sym (k .matching)
 shorten-listed-one : OneAnswer shorten-listed.Post
 shorten-listed-one κ a x y s t h k = h .result ∙ sym (k .result)
 
-shorten-listed-text : OneOf shorten-listed.Post (λ κ r s. s .1 .1 .0 .now)
+shorten-listed-text : OneOf shorten-listed.Post (λ κ r s. s .1 .1 .1 .0 .now)
 shorten-listed-text κ a x y s t h k = h .text ∙ sym (k .text)
 
-shorten-listed-matching : OneOf shorten-listed.Post (λ κ r s. s .1 .1 .1 .0 .now)
+shorten-listed-matching : OneOf shorten-listed.Post (λ κ r s. s .1 .1 .1 .1 .0 .now)
 shorten-listed-matching κ a x y s t h k = h .matching ∙ sym (k .matching)

@@ -11,7 +11,7 @@ use borrow.Author.Tests.{eqb-false, le-leb, lt-leb, ne-eqb}
 use Rattle.laws.proofs.Cases.{cases, either}
 use Rattle.event.specs.Answer.{answer, done}
 use Rattle.event.specs.declared.Answer.{Answer}
-use Rattle.registers.specs.Reading.{listOf}
+use Rattle.registers.specs.declared.ListRead.{ListRead}
 use Rattle.trace.specs.Reading.{faultIn, surveyIn}
 use Rattle.trace.specs.declared.reading.TraceRead.{TraceRead}
 use Rattle.trace.proofs.Readings.{survey-done}
@@ -106,12 +106,12 @@ module _ (regs : List Bool) (t out matchingOut : List ℕ) where
 
 -- ---- with the text of a list: its refusal, or what comes under it
 
-module _ (list t out matchingOut : List ℕ) where
-  pub list-refuses : {r : Shortened} → (listOf list .answer .number ≡ 0 → ⊥) → r ≡ refused (listOf list .answer) → ShortensListed list t out matchingOut r out matchingOut
+module _ (list : ListRead) (t out matchingOut : List ℕ) where
+  pub list-refuses : {r : Shortened} → (list .answer .number ≡ 0 → ⊥) → r ≡ refused (list .answer) → ShortensListed list t out matchingOut r out matchingOut
   unfolding shortenListed shortOutListed matchingOutListed
-  list-refuses n e = let z = ne-eqb (listOf list .answer .number) 0 n in record { result = rw z e; text = rw z; matching = rw z }
+  list-refuses n e = let z = ne-eqb (list .answer .number) 0 n in record { result = rw z e; text = rw z; matching = rw z }
 
-  pub list-passes : {r : Shortened} {after matchingAfter : List ℕ} → listOf list .answer .number ≡ 0
-      → ShortensIn (listOf list .listed) t out matchingOut r after matchingAfter → ShortensListed list t out matchingOut r after matchingAfter
+  pub list-passes : {r : Shortened} {after matchingAfter : List ℕ} → list .answer .number ≡ 0
+      → ShortensIn (list .listed) t out matchingOut r after matchingAfter → ShortensListed list t out matchingOut r after matchingAfter
   unfolding shortenListed shortOutListed matchingOutListed
   list-passes z w = record { result = rw z (w .result); text = rw z (w .text); matching = rw z (w .matching) }

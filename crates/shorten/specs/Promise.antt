@@ -7,7 +7,7 @@ use lib.ListN.{length}
 use Rattle.event.specs.Answer.{done}
 use Rattle.event.specs.Room.{capacity}
 use Rattle.memory.specs.Listed.{noneListed}
-use Rattle.registers.specs.Reading.{listOf}
+use Rattle.registers.specs.declared.ListRead.{ListRead}
 use Rattle.trace.specs.Reading.{formOf, startOf, eventsOf, faultIn}
 use Rattle.matching.specs.Reading.{entriesOf}
 use Rattle.rules.specs.View.{viewIn}
@@ -64,7 +64,7 @@ LeastText = LeastTextIn noneListed
 abbrev pub TwiceText : Type 0
 TwiceText = TwiceTextIn noneListed
 
--- With the text of a list that is read without refusal: the check under it accepts too.
+-- With what was read of a list without refusal: the check under it accepts too.
 abbrev pub AcceptedTextListed : Type 0
 AcceptedTextListed =
-    (list : List ℕ) (l : Lent) → listOf list .answer .number ≡ 0 → ShelvedIn (listOf list .listed) l → checkListed list l .answer ≡ done
+    (list : ListRead) (l : Lent) → list .answer .number ≡ 0 → ShelvedIn (list .listed) l → checkListed list l .answer ≡ done

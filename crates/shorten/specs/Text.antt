@@ -10,7 +10,7 @@ use Rattle.event.specs.Answer.{answer, done, first}
 use Rattle.event.specs.declared.Answer.{Answer}
 use Rattle.memory.specs.Listed.{noneListed}
 use Rattle.frame.specs.Reading.{settle}
-use Rattle.registers.specs.Reading.{listOf}
+use Rattle.registers.specs.declared.ListRead.{ListRead}
 use Rattle.trace.specs.Reading.{formOf, startOf, eventsOf, faultIn}
 use Rattle.trace.specs.Writing.{traceText}
 use Rattle.trace.specs.Listed.{unlessListed}
@@ -77,17 +77,17 @@ pub record ShortensIn (regs : List Bool) (t out matchingOut : List ℕ) (r : Sho
 abbrev pub Shortens : List ℕ → List ℕ → List ℕ → Shortened → List ℕ → List ℕ → Type 0
 Shortens = ShortensIn noneListed
 
--- With the text of a list, whose answer comes ahead of everything and changes nothing.
-unfoldable pub shortenListed : List ℕ → List ℕ → List ℕ → List ℕ → Shortened
-shortenListed list t out matchingOut = settle refused (listOf list .answer) (shortenIn (listOf list .listed) t out matchingOut)
+-- With what was read of a list, whose answer comes ahead of everything and changes nothing.
+unfoldable pub shortenListed : ListRead → List ℕ → List ℕ → List ℕ → Shortened
+shortenListed list t out matchingOut = settle refused (list .answer) (shortenIn (list .listed) t out matchingOut)
 
-unfoldable pub shortOutListed : List ℕ → List ℕ → List ℕ → List ℕ → List ℕ
-shortOutListed list t out matchingOut = unlessListed list out (shortOutIn (listOf list .listed) t out matchingOut)
+unfoldable pub shortOutListed : ListRead → List ℕ → List ℕ → List ℕ → List ℕ
+shortOutListed list t out matchingOut = unlessListed list out (shortOutIn (list .listed) t out matchingOut)
 
-unfoldable pub matchingOutListed : List ℕ → List ℕ → List ℕ → List ℕ → List ℕ
-matchingOutListed list t out matchingOut = unlessListed list matchingOut (matchingOutIn (listOf list .listed) t out matchingOut)
+unfoldable pub matchingOutListed : ListRead → List ℕ → List ℕ → List ℕ → List ℕ
+matchingOutListed list t out matchingOut = unlessListed list matchingOut (matchingOutIn (list .listed) t out matchingOut)
 
-pub record ShortensListed (list t out matchingOut : List ℕ) (r : Shortened) (after matchingAfter : List ℕ) : Type 0 where
+pub record ShortensListed (list : ListRead) (t out matchingOut : List ℕ) (r : Shortened) (after matchingAfter : List ℕ) : Type 0 where
   pub result : r ≡ shortenListed list t out matchingOut
   pub text : after ≡ shortOutListed list t out matchingOut
   pub matching : matchingAfter ≡ matchingOutListed list t out matchingOut

@@ -5,6 +5,7 @@ pub mod stay;
 pub mod write;
 
 ghost use mathlib.Core.Path.{_≡_};
+ghost use Rattle.registers.specs.Reading.{listOf};
 ghost use Rattle.matching.specs.Text.{matchText};
 ghost use Rattle.trace.specs.Reading.{formOf, eventsOf};
 ghost use Rattle.trace.specs.Writing.{textBy};
@@ -16,6 +17,7 @@ use event::Answer;
 use event::EVENT_LIMIT;
 use event::PLACES;
 use event::WORDS;
+use event::Word;
 use memory::Memory;
 use memory::listed::Listed;
 use stay::stay_flags;
@@ -107,17 +109,18 @@ pub fn shorten(text: &[u8], out: &mut [u8], matching_out: &mut [u8]) -> Shortene
     shorten_in(&listed, text, out, matching_out)
 }
 
-// With the text of a list, whose answer comes first.
+// With the text of a list and a group of it: the list's answer comes first.
 pub fn shorten_listed(
     list: &[u8],
+    group: Word,
     text: &[u8],
     out: &mut [u8],
     matching_out: &mut [u8],
 ) -> Shortened
-    ensures { λ r. ⌜ ShortensListed (now (list .entry)) (now (text .entry)) (now (out .entry)) (now («matching_out» .entry))
+    ensures { λ r. ⌜ ShortensListed (listOf group (now (list .entry))) (now (text .entry)) (now (out .entry)) (now («matching_out» .entry))
         r (now (out .exit)) (now («matching_out» .exit)) ⌝ }
 {
-    let read = registers::read(list);
+    let read = registers::read(list, group);
     let found = read.answer;
     if found.number != 0 {
         return refusal(found);

@@ -11,6 +11,7 @@ pub mod WriteBack
 pub mod OneText
 pub mod Cycle
 pub mod Moved
+pub mod Groups
 pub mod Answers
 pub mod Unique
 pub mod Judged

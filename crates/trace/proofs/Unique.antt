@@ -37,7 +37,7 @@ read-in-room κ a x y s t h k = h .1 ∙ sym (k .1)
 read-listed-one : OneAnswer read-listed.Post
 read-listed-one κ a x y s t h k = h .0 ∙ sym (k .0)
 
-read-listed-room : OneOf read-listed.Post (λ κ r s. s .1 .1 .0 .now)
+read-listed-room : OneOf read-listed.Post (λ κ r s. s .1 .1 .1 .0 .now)
 read-listed-room κ a x y s t h k = h .1 ∙ sym (k .1)
 
 is-right-one : OneAnswer is-right.Post

@@ -4,6 +4,7 @@ pub mod form;
 pub mod reading;
 
 ghost use mathlib.Core.Path.{_≡_};
+ghost use Rattle.registers.specs.Reading.{listOf};
 ghost use Rattle.trace.specs.Listed.{readListed, roomListed};
 ghost use Rattle.trace.specs.Reading.{readIn, roomAfterIn, readOf, roomAfter};
 use event::PLACES;
@@ -35,11 +36,12 @@ pub fn read(text: &[u8], room: &mut [Word]) -> TraceRead
     read_in(&listed, text, room)
 }
 
-// With the text of a list, whose answer comes first.
-pub fn read_listed(list: &[u8], text: &[u8], room: &mut [Word]) -> TraceRead
-    ensures { λ r. ⌜ (r ≡ readListed (now (list .entry)) (now (text .entry)) (now (room .entry))) × (now (room .exit) ≡ roomListed (now (list .entry)) (now (text .entry)) (now (room .entry))) ⌝ }
+// With the text of a list and a group of it: the list's answer comes first.
+pub fn read_listed(list: &[u8], group: Word, text: &[u8], room: &mut [Word]) -> TraceRead
+    ensures { λ r. ⌜ (r ≡ readListed (listOf group (now (list .entry))) (now (text .entry)) (now (room .entry)))
+        × (now (room .exit) ≡ roomListed (listOf group (now (list .entry))) (now (text .entry)) (now (room .entry))) ⌝ }
 {
-    let read = registers::read(list);
+    let read = registers::read(list, group);
     let found = read.answer;
     if found.number != 0 {
         return refusal(found);

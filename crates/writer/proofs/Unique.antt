@@ -40,7 +40,7 @@ write-in-room κ a x y s t h k = h .1 ∙ sym (k .1)
 write-listed-one : OneAnswer write-listed.Post
 write-listed-one κ a x y s t h k = h .0 ∙ sym (k .0)
 
-write-listed-room : OneOf write-listed.Post (λ κ r s. s .1 .1 .1 .1 .0 .now)
+write-listed-room : OneOf write-listed.Post (λ κ r s. s .1 .1 .1 .1 .1 .0 .now)
 write-listed-room κ a x y s t h k = h .1 ∙ sym (k .1)
 
 move-in-one : OneAnswer move-in.Post
@@ -52,7 +52,7 @@ move-in-room κ a x y s t h k = h .1 ∙ sym (k .1)
 move-listed-one : OneAnswer move-listed.Post
 move-listed-one κ a x y s t h k = h .0 ∙ sym (k .0)
 
-move-listed-room : OneOf move-listed.Post (λ κ r s. s .1 .1 .1 .0 .now)
+move-listed-room : OneOf move-listed.Post (λ κ r s. s .1 .1 .1 .1 .0 .now)
 move-listed-room κ a x y s t h k = h .1 ∙ sym (k .1)
 
 put-one : OneAnswer put.Post

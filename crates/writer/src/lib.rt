@@ -5,6 +5,7 @@ pub mod put;
 pub mod touch;
 
 ghost use mathlib.Core.Path.{_≡_};
+ghost use Rattle.registers.specs.Reading.{listOf};
 ghost use Rattle.trace.specs.Listed.{writeListed, outListed};
 ghost use Rattle.trace.specs.Writing.{writeIn, outAfterIn, writeOf, outAfter};
 use event::Answer;
@@ -56,18 +57,19 @@ pub fn write(form: Form, memory: Memory, room: &[Word], out: &mut [u8]) -> Answe
     write_in(&listed, form, memory, room, out)
 }
 
-// With the text of a list, whose answer comes first.
+// With the text of a list and a group of it: the list's answer comes first.
 pub fn write_listed(
     list: &[u8],
+    group: Word,
     form: Form,
     memory: Memory,
     room: &[Word],
     out: &mut [u8],
 ) -> Answer
-    ensures { λ r. ⌜ (r ≡ writeListed (now (list .entry)) form memory (now (room .entry)) (now (out .entry)))
-        × (now (out .exit) ≡ outListed (now (list .entry)) form memory (now (room .entry)) (now (out .entry))) ⌝ }
+    ensures { λ r. ⌜ (r ≡ writeListed (listOf group (now (list .entry))) form memory (now (room .entry)) (now (out .entry)))
+        × (now (out .exit) ≡ outListed (listOf group (now (list .entry))) form memory (now (room .entry)) (now (out .entry))) ⌝ }
 {
-    let read = registers::read(list);
+    let read = registers::read(list, group);
     let found = read.answer;
     if found.number != 0 {
         return found;

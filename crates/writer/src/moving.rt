@@ -3,6 +3,7 @@
 ghost use mathlib.Core.Path.{_≡_};
 ghost use mathlib.Core.List.{map};
 ghost use lib.ListN.{length};
+ghost use Rattle.registers.specs.Reading.{listOf};
 ghost use Rattle.record.specs.Layout.{eventLine};
 ghost use Rattle.trace.specs.Listed.{moveListed, movedListed};
 ghost use Rattle.trace.specs.Moving.{moveIn, movedOutIn, moveOf, movedOut};
@@ -14,6 +15,7 @@ use crate::put::put_event;
 use crate::put::put_start;
 use event::Answer;
 use event::PLACES;
+use event::Word;
 use memory::Memory;
 use memory::listed::Listed;
 use record::Record;
@@ -131,11 +133,12 @@ pub fn move_to(to: Form, text: &[u8], out: &mut [u8]) -> Answer
     move_in(&listed, to, text, out)
 }
 
-// With the text of a list, whose answer comes first.
-pub fn move_listed(list: &[u8], to: Form, text: &[u8], out: &mut [u8]) -> Answer
-    ensures { λ r. ⌜ (r ≡ moveListed (now (list .entry)) to (now (text .entry)) (now (out .entry))) × (now (out .exit) ≡ movedListed (now (list .entry)) to (now (text .entry)) (now (out .entry))) ⌝ }
+// With the text of a list and a group of it: the list's answer comes first.
+pub fn move_listed(list: &[u8], group: Word, to: Form, text: &[u8], out: &mut [u8]) -> Answer
+    ensures { λ r. ⌜ (r ≡ moveListed (listOf group (now (list .entry))) to (now (text .entry)) (now (out .entry)))
+        × (now (out .exit) ≡ movedListed (listOf group (now (list .entry))) to (now (text .entry)) (now (out .entry))) ⌝ }
 {
-    let read = registers::read(list);
+    let read = registers::read(list, group);
     let found = read.answer;
     if found.number != 0 {
         return found;

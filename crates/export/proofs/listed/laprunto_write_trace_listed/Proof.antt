@@ -1,4 +1,5 @@
 -- The form is the one that the number names, and the answer is laid out. Assumes nothing.
+use Rattle.registers.specs.Reading.{listOf}
 use Rattle.record.specs.declared.form.Form.{Form}
 use Rattle.trace.specs.Listed.{writeListed, outListed}
 use borrow.Author.Needs.{needs}
@@ -13,8 +14,8 @@ returns c =
     let a = w .before .before .before .before .before .before .before .args in
     let m = starting (a .memory .now) in
     let form = w .before .before .form-numbered in
-    written-laid (λ (f : Form). writeListed (a .list .now) f m (a .room .now) (a .out .now))
-    (λ (f : Form). outListed (a .list .now) f m (a .room .now) (a .out .now)) _ _ (w .write-listed .result) _ _ (w .write-listed .ensures) (form .ensures)
+    written-laid (λ (f : Form). writeListed (listOf (a .group) (a .list .now)) f m (a .room .now) (a .out .now))
+    (λ (f : Form). outListed (listOf (a .group) (a .list .now)) f m (a .room .now) (a .out .now)) _ _ (w .write-listed .result) _ _ (w .write-listed .ensures) (form .ensures)
     (c .answer-numbers .ensures)
 
 pub laprunto-write-trace-listed-spec : {M : Type 1} → statement M

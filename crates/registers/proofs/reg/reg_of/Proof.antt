@@ -36,14 +36,14 @@ returns : tie.Need-returns
 unfolding regOf
 returns c = rw (sym (fields-start _) ∙ line-end _ _ (sym (c .before .before .field-of .ensures) ∙ c .enum-told .given .1))
 
-add-reg-rest : tie.Need-add-reg-rest
-add-reg-rest c = let f = c .before .before .before .before .before in omega (arith, inside f, f .before .before .before .before .good)
+add-after-word : tie.Need-add-after-word
+add-after-word c = let f = c .before .before .before .before .before in omega (arith, inside f, f .before .before .before .before .good)
 
 returns-2 : tie.Need-returns-2
 unfolding regOf
 returns-2 c =
     let w = c .before .before in
-    rw (split-at (w .before .before .before .before), sym (w .same-bytes .ensures) ∙ c .before .if1 .taken) (c .reg-rest .ensures)
+    rw (split-at (w .before .before .before .before), sym (w .same-bytes .ensures) ∙ c .before .if1 .taken) (c .after-word .ensures)
 
 returns-3 : tie.Need-returns-3
 unfolding regOf
@@ -62,7 +62,7 @@ reg-of-spec =
     (λ c. omega (arith, inside (c .before)))
     (search needs)
     (search needs)
-    add-reg-rest
+    add-after-word
     (search needs)
     returns-2
     returns-3)
