@@ -26,7 +26,7 @@ mod steps;
 #[allow(dead_code)]
 mod texts;
 
-use peer::{order, Event, Kind, Locations, Memory, Word, CELLS, NO_LOCATIONS};
+use peer::{order, Event, Kind, ListFor, Locations, Memory, Word, CELLS, NO_LOCATIONS};
 use random::Random;
 use std::collections::HashMap;
 
@@ -43,7 +43,7 @@ struct Setting {
     /// The locations of plain accesses, registers among them.
     places: Vec<u8>,
     listed: Locations,
-    list: Option<Vec<u8>>,
+    list: Option<ListFor>,
 }
 
 impl Setting {
@@ -56,7 +56,7 @@ impl Setting {
         let mut setting = Setting::new(start, places);
         setting.starts[1][usize::from(register)] += 1;
         setting.listed[usize::from(register)] = true;
-        setting.list = Some(texts::list_text(&setting.listed));
+        setting.list = Some(ListFor { text: texts::list_text(&setting.listed), group: 1 });
         setting
     }
 
@@ -260,7 +260,7 @@ impl<'a> Bench<'a> {
         if !self.reached.contains_key(&pack(&codes)) || least != Some(codes.len()) {
             self.tally.differences += 1;
             let source = String::from_utf8_lossy(&self.source_text);
-            let list = String::from_utf8_lossy(self.setting.list.as_deref().unwrap_or_default());
+            let list = String::from_utf8_lossy(self.setting.list.as_ref().map_or(&[], |list| &list.text));
             println!("DIFFERENCE shortened to {codes:?}, least {least:?}\n{list}{source}");
         }
     }
@@ -284,7 +284,7 @@ impl<'a> Bench<'a> {
         }
         let (mut room1, mut room2, mut room3) = ([0; ROOM], [0; ROOM], [0; MAX_LEN]);
         let texts = (&self.source_text, &self.target_text, &self.matching_text);
-        peer::check(self.setting.list.as_deref(), texts.0, texts.1, texts.2, &mut room1, &mut room2, &mut room3).answer.number
+        peer::check(self.setting.list.as_ref(), texts.0, texts.1, texts.2, &mut room1, &mut room2, &mut room3).answer.number
     }
 
     /// The steps of the shortest run that reaches the target with the matching.
@@ -322,7 +322,7 @@ impl<'a> Bench<'a> {
             self.tally.differences += 1;
             let source = String::from_utf8_lossy(&self.source_text);
             let target = String::from_utf8_lossy(&self.target_text);
-            let list = String::from_utf8_lossy(self.setting.list.as_deref().unwrap_or_default());
+            let list = String::from_utf8_lossy(self.setting.list.as_ref().map_or(&[], |list| &list.text));
             println!("DIFFERENCE shortest {shortest:?} answer {answer} cost {}\n{list}{source}{target}{entries:?}", cost());
         }
         self.tally.compared += 1;

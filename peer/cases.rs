@@ -2,7 +2,7 @@
 //! limits of every number, count, line and room. `forms.rs` has those of form 2,
 //! `counters.rs` those of counters of 64 bits, `lists.rs` those with registers.
 
-use crate::peer::{MAX_MATCHING, MAX_TEXT};
+use crate::peer::{ListFor, MAX_MATCHING, MAX_TEXT};
 
 pub type Triple = (u32, u32, u32);
 
@@ -12,7 +12,7 @@ pub const ALL: usize = 800;
 /// and entries.
 #[derive(Clone)]
 pub struct Case {
-    pub list: Option<Vec<u8>>,
+    pub list: Option<ListFor>,
     pub source: Vec<u8>,
     pub target: Vec<u8>,
     pub matching: Vec<u8>,
@@ -24,8 +24,8 @@ impl Case {
         [&self.source, &self.target, &self.matching]
     }
 
-    pub fn list(&self) -> Option<&[u8]> {
-        self.list.as_deref()
+    pub fn list(&self) -> Option<&ListFor> {
+        self.list.as_ref()
     }
 }
 
@@ -77,7 +77,7 @@ pub fn raw(head: &str, rest: &[u8]) -> Vec<u8> {
 #[derive(Default)]
 pub struct List {
     pub known: Vec<Known>,
-    pub list: Option<Vec<u8>>,
+    pub list: Option<ListFor>,
 }
 
 impl List {

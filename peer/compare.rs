@@ -21,6 +21,8 @@ mod forms;
 #[allow(dead_code)]
 mod generate;
 #[allow(dead_code)]
+mod groups;
+#[allow(dead_code)]
 mod lists;
 #[allow(dead_code)]
 mod ours;
@@ -38,7 +40,7 @@ use cases::Case;
 use forms::{KnownWriting, Move};
 use generate::{Lists, Short};
 use lists::KnownList;
-use peer::{form_of, Answer, Checked, Entry, Form, Memory, Word, CELLS, EVENT_WORDS, MAX_EVENTS, MAX_MATCHING};
+use peer::{form_of, Answer, Checked, Entry, Form, ListFor, Memory, Word, CELLS, EVENT_WORDS, MAX_EVENTS, MAX_MATCHING};
 use random::Random;
 use std::collections::BTreeMap;
 use std::fmt::Debug;
@@ -128,7 +130,7 @@ fn by_form<T>(form: Form, one: T, two: T) -> T {
 }
 
 /// What a call is counted as, without a list or with one.
-fn by_list(list: Option<&[u8]>, plain: &'static str, listed: &'static str) -> &'static str {
+fn by_list(list: Option<&ListFor>, plain: &'static str, listed: &'static str) -> &'static str {
     if list.is_some() { listed } else { plain }
 }
 
@@ -224,7 +226,7 @@ fn try_any_answer(random: &mut Random, case: &Case) -> Same {
 }
 
 /// A trace read alone. Hands back its words and memory if it is lawful.
-fn compare_trace(list: Option<&[u8]>, text: &[u8], room: &[Word], tally: &mut Tally) -> Result<Option<(Memory, Vec<Word>)>, Difference> {
+fn compare_trace(list: Option<&ListFor>, text: &[u8], room: &[Word], tally: &mut Tally) -> Result<Option<(Memory, Vec<Word>)>, Difference> {
     let [mut ours_room, mut peer_room] = [room.to_vec(), room.to_vec()];
     let ours = ours::read_trace(list, text, &mut ours_room);
     let peer = peer::read_trace(list, text, &mut peer_room);
@@ -269,7 +271,7 @@ fn compare_bytes(
 /// A trace written into so many bytes, and read back.
 fn compare_writing(
     random: &mut Random,
-    list: Option<&[u8]>,
+    list: Option<&ListFor>,
     form: Form,
     memory: &Memory,
     words: &[Word],
@@ -293,7 +295,7 @@ fn compare_writing(
 
 /// A text moved to a form, and back.
 fn compare_move(random: &mut Random, Move { list, to, text, bytes }: &Move, tally: &mut Tally) -> Same {
-    let list = list.as_deref();
+    let list = list.as_ref();
     let ours = |out: &mut [u8]| ours::move_to(list, *to, text, out);
     let peer = |out: &mut [u8]| peer::move_to(list, *to, text, out);
     let (answer, moved) = compare_bytes(random, "move", *bytes, ours, peer)?;
@@ -310,7 +312,7 @@ fn compare_move(random: &mut Random, Move { list, to, text, bytes }: &Move, tall
 
 /// A text shortened: both parts, what the check says of them, and what is shortened again.
 fn compare_short(random: &mut Random, Short { list, text, bytes }: &Short, tally: &mut Tally) -> Same {
-    let list = list.as_deref();
+    let list = list.as_ref();
     let lent = bytes.map(|bytes| (0..bytes).map(|_| random.next() as u8).collect::<Vec<u8>>());
     let [mut our_out, mut our_names] = lent.clone();
     let [mut peer_out, mut peer_names] = lent;
@@ -334,7 +336,7 @@ fn compare_short(random: &mut Random, Short { list, text, bytes }: &Short, tally
     Ok(())
 }
 
-fn compare_list(list: &[u8], tally: &mut Tally) -> Same {
+fn compare_list(list: &ListFor, tally: &mut Tally) -> Same {
     let peer = peer::read_list(list);
     same("reading a list", &ours::read_list(list), &Some(peer.clone()))?;
     tally.add("list", peer.answer);
@@ -354,8 +356,12 @@ fn compare_run(case: &Case, tally: &mut Tally) -> Same {
 }
 
 /// The list that the writer is handed: that of the trace, or any other.
-fn changed_list(random: &mut Random, list: &[u8]) -> Vec<u8> {
-    if random.once_in(8) { generate::any_list(random) } else { list.to_vec() }
+fn changed_list(random: &mut Random, list: &ListFor) -> ListFor {
+    match random.below(8) {
+        0 => generate::any_list(random),
+        1 => generate::any_group_list(random),
+        _ => list.clone(),
+    }
 }
 
 /// The memory that the writer is handed: that of the trace, or another.
@@ -396,9 +402,9 @@ fn changed_words(random: &mut Random, words: &[Word]) -> Vec<Word> {
     words
 }
 
-fn try_writing(random: &mut Random, list: Option<&[u8]>, memory: &Memory, words: &[Word], tally: &mut Tally) -> Same {
+fn try_writing(random: &mut Random, list: Option<&ListFor>, memory: &Memory, words: &[Word], tally: &mut Tally) -> Same {
     let list = list.map(|list| changed_list(random, list));
-    let list = list.as_deref();
+    let list = list.as_ref();
     let memory = changed_memory(random, memory);
     let words = changed_words(random, words);
     let form = random.pick(&[Form::One, Form::Two]);
@@ -493,7 +499,7 @@ fn exchanged_case(random: &mut Random, lists: Lists) -> Case {
 fn tell(given: &Given, difference: &Difference) {
     println!("DIFFERENCE in {}", difference.0);
     if let Some(list) = given.case.list() {
-        println!("list, {} bytes:\n{}", list.len(), list.escape_ascii());
+        println!("list for group {}, {} bytes:\n{}", list.group, list.text.len(), list.text.escape_ascii());
     }
     for (name, text) in ["source", "target", "matching"].iter().zip(given.case.texts()) {
         println!("{name}, {} bytes:\n{}", text.len(), text.escape_ascii());
@@ -515,15 +521,15 @@ fn print_tally(tally: &Tally) {
 /// The moves, the writings and the lists that are known by hand.
 fn compare_known(random: &mut Random, tally: &mut Tally) -> Same {
     let told = |name: &str, same: Same| same.map_err(|Difference(told)| Difference(format!("{name}: {told}")));
-    for known in [forms::moves(), counters::moves(), zeros::moves(), exchanges::moves(), lists::moves()].concat() {
+    for known in [forms::moves(), counters::moves(), zeros::moves(), exchanges::moves(), lists::moves(), groups::moves()].concat() {
         told(&known.name, compare_move(random, &known.handed, tally))?;
     }
-    for KnownWriting { name, handed, .. } in [forms::writings(), counters::writings(), zeros::writings(), exchanges::writings(), lists::writings()].concat() {
+    for KnownWriting { name, handed, .. } in [forms::writings(), counters::writings(), zeros::writings(), exchanges::writings(), lists::writings(), groups::writings()].concat() {
         let (memory, words) = handed.read();
-        told(&name, compare_writing(random, handed.list.as_deref(), handed.form, &memory, &words, handed.bytes, tally))?;
+        told(&name, compare_writing(random, handed.list.as_ref(), handed.form, &memory, &words, handed.bytes, tally))?;
     }
-    for KnownList { name, text, .. } in lists::texts() {
-        told(&name, compare_list(&text, tally))?;
+    for KnownList { name, list, .. } in [lists::texts(), groups::texts()].concat() {
+        told(&name, compare_list(&list, tally))?;
     }
     Ok(())
 }
@@ -532,7 +538,7 @@ fn main() {
     let mut arguments = std::env::args().skip(1).map(|word| word.parse::<u64>().expect("a number"));
     let count = arguments.next().expect("compare COUNT [SEED]");
     let seed = arguments.next().unwrap_or(1);
-    let known = [cases::all(), forms::checks(), counters::checks(), zeros::checks(), exchanges::checks(), lists::checks(), lists::examples()].concat();
+    let known = [cases::all(), forms::checks(), counters::checks(), zeros::checks(), exchanges::checks(), lists::checks(), lists::examples(), groups::checks(), groups::examples()].concat();
     let known: Vec<Case> = known.into_iter().map(|known| known.case).collect();
     let by_hand = known.len();
     println!("seed {seed}, {count} cases, after {by_hand} known by hand");
@@ -545,7 +551,7 @@ fn main() {
     let known = known.into_iter().map(Some);
     for (index, known) in known.chain((0..count).map(|_| None)).enumerate() {
         let mut random = Random::new(seeds.next());
-        let lists = [Lists::Without, Lists::With][index % 2];
+        let lists = [Lists::Without, Lists::With, Lists::Without, Lists::Grouped(1 + index as Word / 4 % 2)][index % 4];
         let case = known.unwrap_or_else(|| exchanged_case(&mut random, lists));
         let given = lend(&mut random, case);
         if let Err(difference) = compare(&mut random, &given, &mut tally) {

@@ -3,7 +3,7 @@
 //! that C-15 wants are added to them; `zeros.rs` has what those are about.
 
 use crate::cases::{filled, matching, raw, runs, text, trace, Known, List, Triple, ALL, DONE, MATCH, TRACE};
-use crate::peer::{self, Form, Memory, Word, EVENT_WORDS, MAX_CODED_TEXT, MAX_MATCHING, MAX_TEXT};
+use crate::peer::{self, Form, ListFor, Memory, Word, EVENT_WORDS, MAX_CODED_TEXT, MAX_MATCHING, MAX_TEXT};
 use crate::texts;
 
 pub const CODED: &str = "trace\t2\n";
@@ -200,7 +200,7 @@ pub const PLENTY: usize = Form::Two.limit();
 /// many bytes.
 #[derive(Clone)]
 pub struct Move {
-    pub list: Option<Vec<u8>>,
+    pub list: Option<ListFor>,
     pub to: Form,
     pub text: Vec<u8>,
     pub bytes: usize,
@@ -219,7 +219,7 @@ pub struct KnownMove {
 #[derive(Default)]
 pub struct Moves {
     pub known: Vec<KnownMove>,
-    pub list: Option<Vec<u8>>,
+    pub list: Option<ListFor>,
 }
 
 impl Moves {
@@ -340,7 +340,7 @@ pub const WRITING_WORDS: usize = (ALL + 1) * EVENT_WORDS;
 /// one word changed, cut to so many words; and so many bytes.
 #[derive(Clone)]
 pub struct Writing {
-    pub list: Option<Vec<u8>>,
+    pub list: Option<ListFor>,
     pub form: Form,
     pub text: Vec<u8>,
     pub words: usize,
@@ -374,7 +374,7 @@ pub struct KnownWriting {
 #[derive(Default)]
 pub struct Writings {
     pub known: Vec<KnownWriting>,
-    pub list: Option<Vec<u8>>,
+    pub list: Option<ListFor>,
 }
 
 impl Writings {

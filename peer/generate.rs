@@ -8,7 +8,7 @@
 
 use crate::cases::Case;
 use crate::forms::{Move, Writing, PLENTY};
-use crate::peer::{self, order, Answer, Event, Form, Kind, Locations, Memory, Word};
+use crate::peer::{self, order, Answer, Event, Form, Kind, ListFor, Locations, Memory, Word};
 use crate::peer::{CELLS, EVENT_WORDS, MAX_EVENTS, MAX_REGISTERS, NO_LOCATIONS};
 use crate::random::Random;
 use crate::{rules, texts};
@@ -36,6 +36,9 @@ struct World {
     sync_rarity: usize,
     /// The locations that are registers; none in a world without a list.
     listed: Option<Locations>,
+    /// The group whose registers they are, and those of the other, where groups share
+    /// the list.
+    shared: Option<(Word, Locations)>,
 }
 
 fn shuffled<T: Copy>(random: &mut Random, items: &[T]) -> Vec<T> {
@@ -62,6 +65,7 @@ impl World {
             updates: if wide { &UPDATES } else { &UPDATES[..2] },
             sync_rarity: 3 + random.below(8),
             listed: None,
+            shared: None,
         }
     }
 
@@ -73,6 +77,14 @@ impl World {
             listed[usize::from(*place)] |= random.once_in(3);
         }
         world.listed = Some(listed);
+        world
+    }
+
+    /// The same for a group of a list that it shares with the other, which has any
+    /// registers.
+    fn with_group(random: &mut Random, group: Word) -> World {
+        let mut world = World::with_list(random);
+        world.shared = Some((group, any_locations(random)));
         world
     }
 
@@ -159,6 +171,8 @@ fn step(memory: &mut Memory, event: &Event) {
 pub enum Lists {
     Without,
     With,
+    /// Of form 2, for this group.
+    Grouped(Word),
 }
 
 /// A triple before it becomes texts. Each target event has its source number,
@@ -176,6 +190,7 @@ impl Draft {
         let world = match lists {
             Lists::Without => World::new(random),
             Lists::With => World::with_list(random),
+            Lists::Grouped(group) => World::with_group(random, group),
         };
         let start = world.start(random);
         let mut memory = start;
@@ -313,8 +328,13 @@ impl Draft {
         start
     }
 
-    fn list(&self) -> Option<Vec<u8>> {
-        self.world.listed.as_ref().map(texts::list_text)
+    fn list(&self) -> Option<ListFor> {
+        let listed = self.world.listed.as_ref()?;
+        Some(match &self.world.shared {
+            None => ListFor { text: texts::list_text(listed), group: 1 },
+            Some((1, others)) => ListFor { text: texts::group_text([listed, others]), group: 1 },
+            Some((group, others)) => ListFor { text: texts::group_text([others, listed]), group: *group },
+        })
     }
 
     /// One location more on the list, seldom one of atomic use.
@@ -406,11 +426,19 @@ pub fn disorder(random: &mut Random, text: &mut Vec<u8>) {
 fn damage_list(random: &mut Random, list: &mut Vec<u8>) {
     let mut lines: Vec<Vec<u8>> = list.split_inclusive(|&byte| byte == b'\n').map(<[u8]>::to_vec).collect();
     let [from, to] = [(); 2].map(|()| random.below(lines.len()));
+    let grouped = list.starts_with(b"regs\t2\n");
     match random.below(5) {
         0 => return damage(random, list),
         1 => lines.swap(from, to),
         2 => lines.insert(from, lines[to].clone()),
+        3 if grouped => lines.insert(from, random.pick(&[b"reg\t7\n".as_slice(), b"reg\t0\t7\n", b"reg\t3\t7\n", b"reg\t2\t256\n", b"reg\t1\t\n"]).to_vec()),
         3 => lines.insert(from, random.pick(&[b"reg\t256\n".as_slice(), b"reg\t07\n", b"reg\t7\t\n", b"regs\t1\n"]).to_vec()),
+        _ if grouped => {
+            let [ones, twos] = [(); 2].map(|()| random.pick(&[0, 3, MAX_REGISTERS, MAX_REGISTERS + 1]));
+            lines.truncate(1);
+            lines.extend((0..ones).map(|location| format!("reg\t1\t{}\n", 5 * location).into_bytes()));
+            lines.extend((0..twos).map(|location| format!("reg\t2\t{}\n", 2 * location).into_bytes()));
+        }
         _ => {
             let registers = MAX_REGISTERS - 1 + random.below(3);
             lines.truncate(1);
@@ -420,17 +448,32 @@ fn damage_list(random: &mut Random, list: &mut Vec<u8>) {
     *list = lines.concat();
 }
 
-/// A list that knows nothing of a trace, sometimes damaged.
-pub fn any_list(random: &mut Random) -> Vec<u8> {
+/// Some of the locations that traces use.
+fn any_locations(random: &mut Random) -> Locations {
     let mut listed = NO_LOCATIONS;
     for place in PLACES {
         listed[usize::from(place)] = random.once_in(2);
     }
-    let mut list = texts::list_text(&listed);
+    listed
+}
+
+fn seldom_damaged(random: &mut Random, mut text: Vec<u8>, group: Word) -> ListFor {
     if random.once_in(6) {
-        damage_list(random, &mut list);
+        damage_list(random, &mut text);
     }
-    list
+    ListFor { text, group }
+}
+
+/// A list that knows nothing of a trace, sometimes damaged.
+pub fn any_list(random: &mut Random) -> ListFor {
+    let listed = any_locations(random);
+    seldom_damaged(random, texts::list_text(&listed), 1)
+}
+
+/// The same of form 2, for group 2.
+pub fn any_group_list(random: &mut Random) -> ListFor {
+    let [ones, twos] = [(); 2].map(|()| any_locations(random));
+    seldom_damaged(random, texts::group_text([&ones, &twos]), 2)
 }
 
 /// Code lines of one to five digits, often the one that form 1 does not lose.
@@ -579,7 +622,7 @@ pub fn faulty_case(random: &mut Random, lists: Lists) -> Case {
     }
     if let Some(list) = &mut case.list {
         match random.below(8) {
-            0 => damage_list(random, list),
+            0 => damage_list(random, &mut list.text),
             1 => {
                 draft.list_one(random);
                 *list = draft.list().expect("a world with a list");
@@ -610,32 +653,32 @@ pub fn bytes_needed(refused: Answer) -> usize {
 }
 
 /// A move of a text, mostly to the form that it has not.
-pub fn move_of(random: &mut Random, list: Option<&[u8]>, text: &[u8]) -> Move {
+pub fn move_of(random: &mut Random, list: Option<&ListFor>, text: &[u8]) -> Move {
     let to = match (peer::form_of(text), random.once_in(8)) {
         (Form::One, false) | (Form::Two, true) => Form::Two,
         _ => Form::One,
     };
     let needed = bytes_needed(peer::move_to(list, to, text, &mut []));
-    Move { list: list.map(<[u8]>::to_vec), to, text: text.to_vec(), bytes: bytes_for(random, needed) }
+    Move { list: list.cloned(), to, text: text.to_vec(), bytes: bytes_for(random, needed) }
 }
 
 /// A text to be shortened, with the bytes lent for the shortened one and for its matching.
 pub struct Short {
-    pub list: Option<Vec<u8>>,
+    pub list: Option<ListFor>,
     pub text: Vec<u8>,
     pub bytes: [usize; 2],
 }
 
 /// A shortening of a text, mostly into enough bytes.
-pub fn short_of(random: &mut Random, list: Option<&[u8]>, text: &[u8]) -> Short {
+pub fn short_of(random: &mut Random, list: Option<&ListFor>, text: &[u8]) -> Short {
     let needed = bytes_needed(peer::shorten(list, text, &mut [], &mut []).answer);
     let named = bytes_needed(peer::shorten(list, text, &mut vec![0; needed], &mut []).answer);
     let bytes = [needed, named].map(|needed| bytes_for(random, needed));
-    Short { list: list.map(<[u8]>::to_vec), text: text.to_vec(), bytes }
+    Short { list: list.cloned(), text: text.to_vec(), bytes }
 }
 
 /// A writing of a lawful trace in one of the forms, often with one word changed.
-pub fn writing_of(random: &mut Random, list: Option<&[u8]>, text: &[u8], events: usize) -> Writing {
+pub fn writing_of(random: &mut Random, list: Option<&ListFor>, text: &[u8], events: usize) -> Writing {
     let form = random.pick(&[Form::One, Form::Two]);
     let words = match random.below(12) {
         0 => random.below(events * EVENT_WORDS + EVENT_WORDS),
@@ -646,7 +689,7 @@ pub fn writing_of(random: &mut Random, list: Option<&[u8]>, text: &[u8], events:
         let at = if random.once_in(2) { code } else { random.below(words) };
         (at, random.pick(&[0, 1, 2, 7, 9, 255, 256, 65_535, 65_536, Word::from(u32::MAX), 1 << 32, Word::MAX]))
     });
-    let mut writing = Writing { list: list.map(<[u8]>::to_vec), form, text: text.to_vec(), words, change, bytes: 0 };
+    let mut writing = Writing { list: list.cloned(), form, text: text.to_vec(), words, change, bytes: 0 };
     let (memory, words) = writing.read();
     let needed = bytes_needed(peer::write_trace(list, form, &memory, &words, &mut []));
     writing.bytes = bytes_for(random, needed);

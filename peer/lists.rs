@@ -4,7 +4,7 @@
 
 use crate::cases::{filled, matching, raw, runs, text, trace, Known, List, Triple, ALL, DONE, TRACE};
 use crate::forms::{coded, KnownMove, KnownWriting, Moves, Writings, CODED, PLENTY};
-use crate::peer::{Form, Locations, Word, MAX_LIST, MAX_TEXT, NO_LOCATIONS};
+use crate::peer::{Form, ListFor, Locations, Word, MAX_LIST, MAX_TEXT, NO_LOCATIONS};
 
 const REGS: &str = "regs\t1\n";
 
@@ -12,15 +12,21 @@ pub fn list(lines: &str) -> Vec<u8> {
     text(REGS, lines)
 }
 
+/// A list of a call, for group 1.
+fn first(text: Vec<u8>) -> ListFor {
+    ListFor { text, group: 1 }
+}
+
 /// A trace of form 2 as it stands.
 fn bare(lines: &str) -> Vec<u8> {
     text(CODED, lines)
 }
 
-/// A list text, the answer that it must get, and the locations that it lists.
+/// A list, the answer that it must get, and the locations that it lists for its group.
+#[derive(Clone)]
 pub struct KnownList {
     pub name: String,
-    pub text: Vec<u8>,
+    pub list: ListFor,
     pub answer: Triple,
     pub listed: Locations,
 }
@@ -34,11 +40,11 @@ impl Texts {
         let lines: String = locations.iter().map(|location| format!("reg {location};")).collect();
         let mut listed = NO_LOCATIONS;
         locations.iter().for_each(|&location| listed[location] = true);
-        self.known.push(KnownList { name: name.to_string(), text: list(&lines), answer: DONE, listed });
+        self.known.push(KnownList { name: name.to_string(), list: first(list(&lines)), answer: DONE, listed });
     }
 
     fn bad(&mut self, name: &str, text: Vec<u8>, number: u32, place: u32) {
-        self.known.push(KnownList { name: name.to_string(), text, answer: (number, 4, place), listed: NO_LOCATIONS });
+        self.known.push(KnownList { name: name.to_string(), list: first(text), answer: (number, 4, place), listed: NO_LOCATIONS });
     }
 }
 
@@ -61,7 +67,7 @@ fn good_texts(texts: &mut Texts) {
 fn bad_lines(texts: &mut Texts) {
     texts.bad("empty text", vec![], 2, 1);
     for head in [
-        "\n", "regs\t1", "regs\t2\n", "regs\t01\n", "regs\t1\t\n", "regs\t1\r\n", "regs 1\n", "regs\n", "Regs\t1\n", "reg\t1\n", "\nregs\t1\n", "trace\t1\n",
+        "\n", "regs\t1", "regs\t2", "regs\t3\n", "regs\t01\n", "regs\t1\t\n", "regs\t1\r\n", "regs 1\n", "regs\n", "Regs\t1\n", "reg\t1\n", "\nregs\t1\n", "trace\t1\n",
         "match\t1\n", "regs\t1 \n", "regs\t1\treg\t1\n",
     ] {
         texts.bad(&format!("first line {}", head.escape_debug()), raw(head, b""), 2, 1);
@@ -123,7 +129,7 @@ pub fn texts() -> Vec<KnownList> {
 
 /// Cases under the list of these lines.
 fn under(known: &mut List, lines: &str) {
-    known.list = Some(list(lines));
+    known.list = Some(first(list(lines)));
 }
 
 /// What a register is, beside the same location without a list.
@@ -308,13 +314,13 @@ fn ahead(known: &mut List) {
     let good = trace("load 7 3 used");
     let refused = [
         ("an empty list", vec![], (2, 4, 1)),
-        ("another list's form", raw("regs\t2\n", b""), (2, 4, 1)),
+        ("another list's form", raw("regs\t3\n", b""), (2, 4, 1)),
         ("a malformed list", list("reg 7; reg 256"), (2, 4, 3)),
         ("a list out of order", list("reg 7; reg 7"), (22, 4, 3)),
         ("33 registers", list(&many(33)), (22, 4, 34)),
     ];
     for (name, list, answer) in refused {
-        known.list = Some(list);
+        known.list = Some(first(list));
         for (what, source) in [("a good source", &good), ("no source", &vec![]), ("a bad source", &trace("lock"))] {
             known.add(&format!("{name}, {what}"), source.clone(), good.clone(), matching("keep 1"), [ALL; 3], answer);
         }
@@ -322,7 +328,7 @@ fn ahead(known: &mut List) {
         known.add(&format!("{name}, all bad"), trace("lock"), trace("lock"), matching("kept"), [0; 3], answer);
     }
     known.add("33 registers, a long source", filled(TRACE, "lock\t0\n", MAX_TEXT + 1), good.clone(), matching(""), [ALL; 3], (22, 4, 34));
-    known.list = Some(filled(REGS, "reg\t1\n", MAX_LIST + 1));
+    known.list = Some(first(filled(REGS, "reg\t1\n", MAX_LIST + 1)));
     known.add("a list over its limit", trace("lock"), vec![], vec![], [0; 3], (1, 4, 0));
     under(known, "reg 7");
     let mut rooms = |name: &str, rooms: [usize; 3], answer: Triple| known.add(name, good.clone(), good.clone(), matching("keep 1"), rooms, answer);
@@ -359,7 +365,7 @@ macro_rules! example {
 /// gone would be accepted.
 pub fn examples() -> Vec<Known> {
     let mut known = List::default();
-    let lists = [Some(include_bytes!("../examples/sensor/list").to_vec()), None];
+    let lists = [Some(first(include_bytes!("../examples/sensor/list").to_vec())), None];
     let mut add = |name: &str, [source, target, matching]: [Vec<u8>; 3], answers: [Triple; 2]| {
         for (list, answer) in lists.iter().zip(answers) {
             known.list = list.clone();
@@ -382,7 +388,7 @@ pub fn checks() -> Vec<Known> {
 
 /// The moves that are known by hand.
 pub fn moves() -> Vec<KnownMove> {
-    let mut moves = Moves { list: Some(list("reg 7")), ..Moves::default() };
+    let mut moves = Moves { list: Some(first(list("reg 7"))), ..Moves::default() };
     moves.there_and_back("a register", &trace("load 7 3 used"), &bare("init 7 0; load 7 3 used 0"));
     moves.there_and_back(
         "a register's start",
@@ -397,7 +403,7 @@ pub fn moves() -> Vec<KnownMove> {
     moves.refused("5 before 19", Form::One, bare("init 7 0; aload 7 rlx 0 9"), PLENTY, (5, 1, 1));
     moves.refused("19 at a register", Form::One, bare("init 7 0; load 7 3 used 9"), PLENTY, (19, 1, 1));
     for (lines, number, place) in [("reg 7; reg 7", 22, 3), ("reg 256", 2, 2)] {
-        moves.list = Some(list(lines));
+        moves.list = Some(first(list(lines)));
         for to in [Form::One, Form::Two] {
             for text in [trace("load 7 3 used"), bare("init 7 0; load 7 3 used 0"), trace("lock"), vec![]] {
                 moves.refused("a list refused", to, text.clone(), PLENTY, (number, 4, place));
@@ -406,7 +412,7 @@ pub fn moves() -> Vec<KnownMove> {
         }
     }
     for lines in ["", "reg 8"] {
-        moves.list = Some(list(lines));
+        moves.list = Some(first(list(lines)));
         moves.refused("6 at no register", Form::Two, trace("load 7 3 used"), PLENTY, (6, 1, 1));
         moves.there_and_back("an atomic use of no register", &trace("aload 7 rlx 0"), &bare("init 7 0; aload 7 rlx 0 0"));
     }
@@ -420,7 +426,7 @@ pub fn writings() -> Vec<KnownWriting> {
     let read: (usize, Word) = (3, 9);
     for (form, size) in [(Form::One, 8 + 14), (Form::Two, 8 + 9 + 16)] {
         let mut changed = |lines: Option<&str>, name: &str, events: &str, words: usize, change, answer| {
-            known.list = lines.map(list);
+            known.list = lines.map(list).map(first);
             known.changed(name, form, events, words, change, answer);
         };
         changed(Some("reg 7"), "a register's value", "load 7 0 used 0", 6, read, (0, 0, size));
@@ -434,16 +440,16 @@ pub fn writings() -> Vec<KnownWriting> {
         changed(Some("reg 7"), "18 before 5", "aload 7 rlx 0 0; lock 0 0", 12, (6, 12), (18, 0, 2));
         changed(Some("reg 7; reg 7"), "a list refused before 18", "load 7 0 used 0", 6, (0, 12), (22, 4, 3));
         changed(Some("reg 07"), "a list refused before 6", "load 7 0 used 0", 6, read, (2, 4, 2));
-        known.list = Some(list("reg 7"));
+        known.list = Some(first(list("reg 7")));
         known.add("a mutex of its number", form, coded("lock 7 0"), 6, PLENTY, (0, 0, if form == Form::One { 8 + 7 } else { 8 + 9 }));
         known.add("an atomic use", form, coded("aload 7 rlx 0 0"), 6, PLENTY, (5, 0, 1));
         known.add("17 with a list", form, coded("load 7 0 used 0"), 6, 0, (17, 0, size));
         known.add("cut short", form, coded("aload 7 rlx 0 0"), 5, PLENTY, (18, 0, 1));
-        known.list = Some(list(&many(33)));
+        known.list = Some(first(list(&many(33))));
         known.add("a list refused before 17", form, coded("load 7 0 used 0"), 6, 0, (22, 4, 34));
         known.add("a list refused, 801 events", form, coded(""), 4_801, PLENTY, (22, 4, 34));
     }
-    known.list = Some(list("reg 7"));
+    known.list = Some(first(list("reg 7")));
     known.add("19 at a register", Form::One, coded("load 7 0 used 4"), 6, PLENTY, (19, 0, 1));
     known.add("5 before 19", Form::One, coded("aload 7 rlx 0 4"), 6, PLENTY, (5, 0, 1));
     known.known

@@ -2,7 +2,7 @@
 //! functions, with the results of `peer.rs`. A call with a list has a function of its
 //! own there.
 
-use crate::peer::{Answer, Checked, Entry, Form, ListRead, MatchingRead, Memory, Shortened, TraceRead, Word, CELLS, EVENT_WORDS, MAX_EVENTS};
+use crate::peer::{Answer, Checked, Entry, Form, ListFor, ListRead, MatchingRead, Memory, Shortened, TraceRead, Word, CELLS, EVENT_WORDS, MAX_EVENTS};
 use crate::steps::Step;
 
 #[path = "../door/laprunto.rs"]
@@ -13,7 +13,7 @@ macro_rules! call {
     ($list:expr, $plain:ident, $listed:ident, $($argument:expr),* $(,)?) => {
         match $list {
             None => door::$plain($($argument),*),
-            Some(list) => door::$listed(list.as_ptr(), list.len(), $($argument),*),
+            Some(list) => door::$listed(list.text.as_ptr(), list.text.len(), list.group, $($argument),*),
         }
     };
 }
@@ -23,7 +23,7 @@ fn answer(number: usize, side: usize, place: usize) -> Answer {
 }
 
 /// The call itself: number, side, place, events.
-pub fn read_trace_to(list: Option<&[u8]>, text: &[u8], room: &mut [Word], memory: &mut Memory) -> [usize; 4] {
+pub fn read_trace_to(list: Option<&ListFor>, text: &[u8], room: &mut [Word], memory: &mut Memory) -> [usize; 4] {
     let mut result = [STALE; 4];
     let (room, words) = (room.as_mut_ptr(), room.len());
     // Each pointer is that of a slice and comes with its length.
@@ -35,7 +35,7 @@ pub fn read_trace_to(list: Option<&[u8]>, text: &[u8], room: &mut [Word], memory
 
 /// The call itself: number, side, place, source events, target events, entries.
 pub fn check_to(
-    list: Option<&[u8]>,
+    list: Option<&ListFor>,
     texts: [&[u8]; 3],
     rooms: [&mut [Word]; 2],
     entry_room: &mut [Entry],
@@ -72,7 +72,7 @@ pub fn check_to(
 
 /// The call itself: a check's numbers, then how many steps there are; and the run.
 pub fn start_to(
-    list: Option<&[u8]>,
+    list: Option<&ListFor>,
     texts: [&[u8]; 3],
     rooms: [&mut [Word]; 2],
     entry_room: &mut [Entry],
@@ -111,22 +111,22 @@ const STALE: usize = 77_777;
 const STALE_MEMORY: Memory = [77_777; CELLS];
 
 /// The call itself: number, side, place; and the marks.
-fn read_list_to(list: &[u8]) -> ([usize; 3], door::Listed) {
+fn read_list_to(list: &ListFor) -> ([usize; 3], door::Listed) {
     let (mut result, mut marks) = ([STALE; 3], [77; CELLS]);
     unsafe {
-        door::laprunto_read_list(list.as_ptr(), list.len(), &mut result, &mut marks);
+        door::laprunto_read_list(list.text.as_ptr(), list.text.len(), list.group, &mut result, &mut marks);
     }
     (result, marks)
 }
 
 /// A mark that is neither 0 nor 1 is none.
-pub fn read_list(list: &[u8]) -> Option<ListRead> {
+pub fn read_list(list: &ListFor) -> Option<ListRead> {
     let ([number, side, place], marks) = read_list_to(list);
     let listed = marks.map(|mark| mark == 1);
     marks.iter().all(|&mark| mark <= 1).then_some(ListRead { answer: answer(number, side, place), listed })
 }
 
-pub fn read_trace(list: Option<&[u8]>, text: &[u8], room: &mut [Word]) -> TraceRead {
+pub fn read_trace(list: Option<&ListFor>, text: &[u8], room: &mut [Word]) -> TraceRead {
     let mut memory = STALE_MEMORY;
     let [number, side, place, events] = read_trace_to(list, text, room, &mut memory);
     TraceRead { answer: answer(number, side, place), events, memory }
@@ -154,7 +154,7 @@ pub fn trace_form(text: &[u8]) -> u32 {
     unsafe { door::laprunto_trace_form(text.as_ptr(), text.len()) }
 }
 
-pub fn write_trace(list: Option<&[u8]>, form: Form, memory: &Memory, room: &[Word], out: &mut [u8]) -> Answer {
+pub fn write_trace(list: Option<&ListFor>, form: Form, memory: &Memory, room: &[Word], out: &mut [u8]) -> Answer {
     let mut result = [STALE; 3];
     let (form, room, words, out, bytes) = (form_number(form), room.as_ptr(), room.len(), out.as_mut_ptr(), out.len());
     unsafe {
@@ -164,7 +164,7 @@ pub fn write_trace(list: Option<&[u8]>, form: Form, memory: &Memory, room: &[Wor
     answer(number, side, place)
 }
 
-pub fn move_to(list: Option<&[u8]>, to: Form, text: &[u8], out: &mut [u8]) -> Answer {
+pub fn move_to(list: Option<&ListFor>, to: Form, text: &[u8], out: &mut [u8]) -> Answer {
     let mut result = [STALE; 3];
     let (form, out, bytes) = (form_number(to), out.as_mut_ptr(), out.len());
     unsafe {
@@ -174,7 +174,7 @@ pub fn move_to(list: Option<&[u8]>, to: Form, text: &[u8], out: &mut [u8]) -> An
     answer(number, side, place)
 }
 
-pub fn shorten(list: Option<&[u8]>, text: &[u8], out: &mut [u8], matching_out: &mut [u8]) -> Shortened {
+pub fn shorten(list: Option<&ListFor>, text: &[u8], out: &mut [u8], matching_out: &mut [u8]) -> Shortened {
     let mut result = [STALE; 5];
     let (out, size, names, room) = (out.as_mut_ptr(), out.len(), matching_out.as_mut_ptr(), matching_out.len());
     unsafe {
@@ -184,7 +184,7 @@ pub fn shorten(list: Option<&[u8]>, text: &[u8], out: &mut [u8], matching_out: &
     Shortened { answer: answer(number, side, place), bytes, matching_bytes }
 }
 
-pub fn check(list: Option<&[u8]>, texts: [&[u8]; 3], rooms: [&mut [Word]; 2], entry_room: &mut [Entry]) -> Checked {
+pub fn check(list: Option<&ListFor>, texts: [&[u8]; 3], rooms: [&mut [Word]; 2], entry_room: &mut [Entry]) -> Checked {
     let mut memories = [STALE_MEMORY; 2];
     let [number, side, place, source_events, target_events, entries] = check_to(list, texts, rooms, entry_room, &mut memories);
     let answer = answer(number, side, place);
@@ -263,7 +263,7 @@ pub struct Run {
 }
 
 /// A check and, if it accepts, the run that it begins: no step is known yet.
-fn begin(list: Option<&[u8]>, texts: [&[u8]; 3]) -> (Run, Begun) {
+fn begin(list: Option<&ListFor>, texts: [&[u8]; 3]) -> (Run, Begun) {
     let [mut source, mut target] = [(); 2].map(|()| vec![0; MAX_EVENTS * EVENT_WORDS]);
     let (mut entries, mut tags) = (vec![0; MAX_EVENTS], [STALE; MAX_EVENTS]);
     let (result, run) = start_to(list, texts, [&mut source, &mut target], &mut entries, &mut tags);
@@ -276,7 +276,7 @@ fn begin(list: Option<&[u8]>, texts: [&[u8]; 3]) -> (Run, Begun) {
 }
 
 /// The run of three texts under a list or none: every step, asked for and applied in turn.
-pub fn run(list: Option<&[u8]>, texts: [&[u8]; 3]) -> Result<Run, String> {
+pub fn run(list: Option<&ListFor>, texts: [&[u8]; 3]) -> Result<Run, String> {
     let (mut run, mut begun) = begin(list, texts);
     let mut swapped = 0;
     loop {

@@ -23,8 +23,10 @@ pub const MAX_TEXT: usize = 52_500;
 pub const MAX_CODED_TEXT: usize = 57_300;
 /// The most events of a trace, and the most entries of a matching.
 pub const MAX_EVENTS: usize = 800;
-/// The most registers of a list.
+/// The most registers of a group.
 pub const MAX_REGISTERS: usize = 32;
+/// The groups of a list are 1 to this one.
+const GROUPS: Word = 2;
 /// Locations are numbered 0 to 255, and so are mutexes.
 pub const CELLS: usize = 256;
 /// An event in a room is this many words.
@@ -48,6 +50,7 @@ const LF: u8 = b'\n';
 
 const MATCHING_HEADER: &[u8] = b"match\t1\n";
 const LIST_HEADER: &[u8] = b"regs\t1\n";
+const GROUP_HEADER: &[u8] = b"regs\t2\n";
 
 /// The number of an answer.
 pub mod number {
@@ -170,7 +173,14 @@ impl Answer {
     }
 }
 
-/// The locations that a list names; none under a refusal.
+/// The list of a call: its text, and the group whose lines are used.
+#[derive(Clone, Debug, PartialEq, Eq, PartialOrd, Ord)]
+pub struct ListFor {
+    pub text: Vec<u8>,
+    pub group: Word,
+}
+
+/// The locations that a list names for a group; none under a refusal.
 #[derive(Clone, Debug, PartialEq, Eq)]
 pub struct ListRead {
     pub answer: Answer,
@@ -569,10 +579,15 @@ impl<'a> Cursor<'a> {
         }
     }
 
-    /// A whole line of a list with its LF: the location.
-    fn register(&mut self) -> Option<u8> {
+    /// A whole line of a list with its LF: the group, which a line of form 1 does not
+    /// name, and the location.
+    fn register(&mut self) -> Option<(Word, u8)> {
         self.rest = self.rest.strip_prefix(b"reg\t")?;
-        self.place(LF)
+        let group = match self.form {
+            Form::One => 1,
+            Form::Two => self.number(GROUPS, TAB).filter(|&group| group != 0)?,
+        };
+        Some((group, self.place(LF)?))
     }
 }
 
@@ -592,36 +607,45 @@ fn body<'a>(text: &'a [u8], header: &[u8], form: Form, side: u32) -> Result<Curs
     }
 }
 
-/// Answers 1, 2 and 22 of a list.
-fn parse_list(text: &[u8]) -> Result<Locations, Answer> {
+/// Answers 1, 2 and 22 of a list, whichever group's line is at fault; and the
+/// locations that it names for a group.
+fn parse_list(ListFor { text, group: wanted }: &ListFor) -> Result<Locations, Answer> {
     within(MAX_LIST, text, side::LIST)?;
-    let mut cursor = body(text, LIST_HEADER, Form::One, side::LIST)?;
+    let form = if text.starts_with(GROUP_HEADER) { Form::Two } else { Form::One };
+    let header = if form == Form::Two { GROUP_HEADER } else { LIST_HEADER };
+    let mut cursor = body(text, header, form, side::LIST)?;
     let mut listed = NO_LOCATIONS;
+    let mut last = None;
     let mut registers = 0;
-    let mut next_location = 0;
-    while !cursor.rest.is_empty() {
-        let line = registers + 2;
-        let Some(location) = cursor.register().map(usize::from) else {
+    for line in 2.. {
+        if cursor.rest.is_empty() {
+            break;
+        }
+        let Some(register) = cursor.register() else {
             return Err(Answer::new(number::BAD_LINE, side::LIST, line));
         };
-        if location < next_location || registers == MAX_REGISTERS {
+        let (group, location) = register;
+        if last.is_some_and(|(last, _)| last != group) {
+            registers = 0;
+        }
+        if last >= Some(register) || registers == MAX_REGISTERS {
             return Err(Answer::new(number::LIST_OUT_OF_ORDER, side::LIST, line));
         }
-        listed[location] = true;
-        next_location = location + 1;
+        listed[usize::from(location)] |= group == *wanted;
+        last = Some(register);
         registers += 1;
     }
     Ok(listed)
 }
 
 /// The locations that the list of a call names. A call without one lists none.
-fn registers(list: Option<&[u8]>) -> Result<Locations, Answer> {
+fn registers(list: Option<&ListFor>) -> Result<Locations, Answer> {
     list.map_or(Ok(NO_LOCATIONS), parse_list)
 }
 
-/// Reads a list alone.
-pub fn read_list(text: &[u8]) -> ListRead {
-    match parse_list(text) {
+/// Reads a list alone, for a group.
+pub fn read_list(list: &ListFor) -> ListRead {
+    match parse_list(list) {
         Ok(listed) => ListRead { answer: Answer::DONE, listed },
         Err(answer) => ListRead { answer, listed: NO_LOCATIONS },
     }
@@ -780,7 +804,7 @@ fn store_entries(entries: &[u16], room: &mut [Entry]) {
 }
 
 /// Reads a trace alone.
-pub fn read_trace(list: Option<&[u8]>, text: &[u8], room: &mut [Word]) -> TraceRead {
+pub fn read_trace(list: Option<&ListFor>, text: &[u8], room: &mut [Word]) -> TraceRead {
     let mut read = TraceRead { answer: Answer::DONE, events: 0, memory: ZERO_MEMORY };
     let parsed = registers(list).and_then(|listed| parse_trace(&listed, text, side::SOURCE, room.len(), &mut read.memory));
     match parsed {
@@ -931,7 +955,7 @@ fn unpack(room: &[Word]) -> Result<Vec<Event>, Answer> {
 
 /// Writes the text of the events in a part of a room, with `init` lines made
 /// from the starting memory.
-pub fn write_trace(list: Option<&[u8]>, form: Form, memory: &Memory, room: &[Word], out: &mut [u8]) -> Answer {
+pub fn write_trace(list: Option<&ListFor>, form: Form, memory: &Memory, room: &[Word], out: &mut [u8]) -> Answer {
     wrote(registers(list).and_then(|listed| {
         let events = unpack(room)?;
         replay(&listed, memory, &events, side::NONE)?;
@@ -944,7 +968,7 @@ pub fn write_trace(list: Option<&[u8]>, form: Form, memory: &Memory, room: &[Wor
 
 /// Writes the text of a trace in the other form. A text that has the wanted
 /// form already has not the first line that the move wants.
-pub fn move_to(list: Option<&[u8]>, to: Form, text: &[u8], out: &mut [u8]) -> Answer {
+pub fn move_to(list: Option<&ListFor>, to: Form, text: &[u8], out: &mut [u8]) -> Answer {
     let mut memory = ZERO_MEMORY;
     let form = form_of(text);
     wrote(registers(list).and_then(|listed| {
@@ -1012,7 +1036,7 @@ fn render_matching(stays: &[bool]) -> Vec<u8> {
 }
 
 /// Both texts of a trace that is shortened.
-fn shortened(list: Option<&[u8]>, text: &[u8]) -> Result<[Vec<u8>; 2], Answer> {
+fn shortened(list: Option<&ListFor>, text: &[u8]) -> Result<[Vec<u8>; 2], Answer> {
     let listed = registers(list)?;
     let mut memory = ZERO_MEMORY;
     let events = parse(&listed, text, side::SOURCE, &mut memory)?;
@@ -1022,7 +1046,7 @@ fn shortened(list: Option<&[u8]>, text: &[u8]) -> Result<[Vec<u8>; 2], Answer> {
 }
 
 /// Writes the shortened text and the matching to it, or neither.
-pub fn shorten(list: Option<&[u8]>, text: &[u8], out: &mut [u8], matching_out: &mut [u8]) -> Shortened {
+pub fn shorten(list: Option<&ListFor>, text: &[u8], out: &mut [u8], matching_out: &mut [u8]) -> Shortened {
     let made = shortened(list, text).and_then(|[short, matching]| {
         for (side, bytes, lent) in [(side::TARGET, short.len(), out.len()), (side::MATCHING, matching.len(), matching_out.len())] {
             if lent < bytes {
@@ -1257,7 +1281,7 @@ fn judge_target(listed: &Locations, target: &[Event], matched: &Indices) -> Resu
 /// Checks a matching between a source and a target trace. A room of events
 /// holds one event in six words; a room of entries one entry in a word.
 pub fn check(
-    list: Option<&[u8]>,
+    list: Option<&ListFor>,
     source: &[u8],
     target: &[u8],
     matching: &[u8],

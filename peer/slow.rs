@@ -13,6 +13,7 @@
 //! load, are found here.
 
 use crate::naive::{self, Trace, Triple};
+use crate::peer::ListFor;
 
 const FORM_1: &[u8] = b"trace\t1\n";
 const FORM_2: &[u8] = b"trace\t2\n";
@@ -20,7 +21,7 @@ const FORM_1_LIMIT: usize = 52_500;
 const FORM_2_LIMIT: usize = 57_300;
 /// The limit of document 01, and of lists.
 const OLD_LIMIT: usize = 32_400;
-/// The most registers of a list.
+/// The most registers of a group.
 const MOST_REGISTERS: usize = 32;
 /// How the lines of a failed exchange and of an atomic load begin.
 const FAILED: &[u8] = b"cmpfail\t";
@@ -49,30 +50,35 @@ struct Walled {
 }
 
 /// The locations that a list names, as texts; its refusal.
-fn listed(list: Option<&[u8]>) -> Result<Vec<String>, Triple> {
-    let Some(list) = list else {
+fn listed(list: Option<&ListFor>) -> Result<Vec<String>, Triple> {
+    let Some(ListFor { text, group: wanted }) = list else {
         return Ok(vec![]);
     };
-    if list.len() > OLD_LIMIT {
+    if text.len() > OLD_LIMIT {
         return Err((1, 4, 0));
     }
-    let list = String::from_utf8_lossy(list).into_owned();
-    let lines: Vec<&str> = list.split_inclusive('\n').collect();
-    if lines.first() != Some(&"regs\t1\n") {
-        return Err((2, 4, 1));
-    }
-    let mut listed: Vec<usize> = vec![];
+    let text = String::from_utf8_lossy(text).into_owned();
+    let lines: Vec<&str> = text.split_inclusive('\n').collect();
+    let groups = match lines.first() {
+        Some(&"regs\t1\n") => vec![(1, "reg")],
+        Some(&"regs\t2\n") => vec![(1, "reg\t1"), (2, "reg\t2")],
+        _ => return Err((2, 4, 1)),
+    };
+    let registers: Vec<(u64, usize, String)> =
+        groups.iter().flat_map(|&(group, words)| (0..256).map(move |location| (group, location, format!("{words}\t{location}\n")))).collect();
+    let mut listed: Vec<(u64, usize)> = vec![];
     for (index, line) in lines.iter().enumerate().skip(1) {
         let place = index as u32 + 1;
-        let Some(location) = (0..256).find(|location| *line == format!("reg\t{location}\n")) else {
+        let Some(&(group, location, _)) = registers.iter().find(|(_, _, register)| register == line) else {
             return Err((2, 4, place));
         };
-        if listed.iter().any(|&earlier| earlier >= location) || listed.len() == MOST_REGISTERS {
+        let register = (group, location);
+        if listed.iter().any(|&earlier| earlier >= register) || listed.iter().filter(|(of, _)| *of == group).count() == MOST_REGISTERS {
             return Err((22, 4, place));
         }
-        listed.push(location);
+        listed.push(register);
     }
-    Ok(listed.iter().map(usize::to_string).collect())
+    Ok(listed.iter().filter(|(group, _)| group == wanted).map(|(_, location)| location.to_string()).collect())
 }
 
 /// A text for document 01 with walls for registers. Lines that are not of the layout
@@ -284,7 +290,7 @@ fn reworded(text: &[u8], from: &[u8], to: &[u8]) -> Vec<u8> {
 
 /// The check of source, target and matching text, for rooms of so many events,
 /// events and entries.
-pub fn check(list: Option<&[u8]>, [source, target, matching]: [&[u8]; 3], rooms: [usize; 3]) -> Option<Outcome> {
+pub fn check(list: Option<&ListFor>, [source, target, matching]: [&[u8]; 3], rooms: [usize; 3]) -> Option<Outcome> {
     let has = |word| [source, target].iter().any(|text| has_line(text, word));
     if !has(FAILED) {
         return check_old(list, [source, target, matching], rooms);
@@ -306,7 +312,7 @@ pub fn check(list: Option<&[u8]>, [source, target, matching]: [&[u8]; 3], rooms:
 }
 
 /// The same, if document 01 has its kinds.
-fn check_old(list: Option<&[u8]>, [source, target, matching]: [&[u8]; 3], rooms: [usize; 3]) -> Option<Outcome> {
+fn check_old(list: Option<&ListFor>, [source, target, matching]: [&[u8]; 3], rooms: [usize; 3]) -> Option<Outcome> {
     let refused = |answer| Some(Outcome { answer, line: naive::offending_line(source, target, answer), stored: None });
     let listed = match listed(list) {
         Ok(listed) => listed,
@@ -352,7 +358,7 @@ fn with_zeros(text: &[u8]) -> Vec<u8> {
 }
 
 /// The answer to a move into so many bytes, and the text that it writes.
-pub fn moved(list: Option<&[u8]>, to_form_2: bool, text: &[u8], bytes: usize) -> Option<(Triple, Vec<u8>)> {
+pub fn moved(list: Option<&ListFor>, to_form_2: bool, text: &[u8], bytes: usize) -> Option<(Triple, Vec<u8>)> {
     let refused = |answer| Some((answer, vec![]));
     let listed = match listed(list) {
         Ok(listed) => listed,

@@ -1,7 +1,7 @@
 //! The run of an accepted matching in the fixed order, and a replay of steps by
 //! the rules alone. Ordinary Rust, beside the proved one.
 
-use crate::peer::{check, read_list, Answer, Event, Kind, Locations, Word, EVENT_WORDS, MAX_EVENTS, NO_LOCATIONS};
+use crate::peer::{check, read_list, Answer, Event, Kind, ListFor, Locations, Word, EVENT_WORDS, MAX_EVENTS, NO_LOCATIONS};
 use crate::rules::{insertable_value, may_remove, may_swap};
 use crate::texts::event_line;
 use std::fmt::Write;
@@ -30,12 +30,12 @@ pub fn events(room: &[Word], count: usize) -> Vec<Event> {
 }
 
 /// The locations that the list of a call names; none without one, or if it is refused.
-pub fn listed(list: Option<&[u8]>) -> Locations {
+pub fn listed(list: Option<&ListFor>) -> Locations {
     list.map_or(NO_LOCATIONS, |list| read_list(list).listed)
 }
 
 /// The run of three texts under a list or none, checked in rooms that hold the most.
-pub fn run(list: Option<&[u8]>, [source, target, matching]: [&[u8]; 3]) -> Result<Run, String> {
+pub fn run(list: Option<&ListFor>, [source, target, matching]: [&[u8]; 3]) -> Result<Run, String> {
     let [mut source_room, mut target_room] = [(); 2].map(|()| vec![0; MAX_EVENTS * EVENT_WORDS]);
     let mut entry_room = vec![0; MAX_EVENTS];
     let checked = check(list, source, target, matching, &mut source_room, &mut target_room, &mut entry_room);

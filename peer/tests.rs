@@ -8,6 +8,7 @@ mod exchanges;
 mod forms;
 #[allow(dead_code)]
 mod generate;
+mod groups;
 mod lists;
 mod naive;
 mod peer;
@@ -22,7 +23,7 @@ use cases::{Case, Triple};
 use forms::{KnownMove, KnownWriting};
 use generate::Lists;
 use lists::KnownList;
-use peer::{form_of, number, side, Answer, Checked, Entry, Form, Memory, Word, CELLS, EVENT_WORDS, MAX_EVENTS};
+use peer::{form_of, number, side, Answer, Checked, Entry, Form, ListFor, Memory, Word, CELLS, EVENT_WORDS, MAX_EVENTS};
 use random::Random;
 use std::fmt::Debug;
 
@@ -146,7 +147,7 @@ fn written(what: &str, bytes: usize, write: impl Fn(&mut [u8]) -> Answer) -> (Tr
 }
 
 /// The writer gives back the very text that was read.
-fn write_back(list: Option<&[u8]>, read: &peer::TraceRead, room: &[Word], text: &[u8], what: &str) {
+fn write_back(list: Option<&ListFor>, read: &peer::TraceRead, room: &[Word], text: &[u8], what: &str) {
     let part = &room[..read.events * EVENT_WORDS];
     let write = |bytes| written(what, bytes, |out| peer::write_trace(list, form_of(text), &read.memory, part, out));
     let size = text.len() as u32;
@@ -156,7 +157,7 @@ fn write_back(list: Option<&[u8]>, read: &peer::TraceRead, room: &[Word], text: 
     assert_eq!(write(text.len() - 1).0, (number::ROOM_TOO_SHORT, side::NONE, size), "{what}: writer, short room");
 }
 
-fn move_to(list: Option<&[u8]>, to: Form, text: &[u8], bytes: usize, what: &str) -> (Triple, Vec<u8>) {
+fn move_to(list: Option<&ListFor>, to: Form, text: &[u8], bytes: usize, what: &str) -> (Triple, Vec<u8>) {
     let moved = written(what, bytes, |out| peer::move_to(list, to, text, out));
     if let Some(slow) = slow::moved(list, to == Form::Two, text, bytes) {
         assert_eq!(moved, slow, "{what}: move to {to:?}");
@@ -165,7 +166,7 @@ fn move_to(list: Option<&[u8]>, to: Form, text: &[u8], bytes: usize, what: &str)
 }
 
 /// The moves of a text against the slow ones, and back again.
-fn compare_moves(list: Option<&[u8]>, text: &[u8], what: &str) {
+fn compare_moves(list: Option<&ListFor>, text: &[u8], what: &str) {
     for to in FORMS {
         let (answer, moved) = move_to(list, to, text, Form::Two.limit(), what);
         if answer.0 == number::DONE {
@@ -176,7 +177,7 @@ fn compare_moves(list: Option<&[u8]>, text: &[u8], what: &str) {
 }
 
 fn known_cases() -> usize {
-    let known = [cases::all(), forms::checks(), counters::checks(), zeros::checks(), exchanges::checks(), lists::checks(), lists::examples()].concat();
+    let known = [cases::all(), forms::checks(), counters::checks(), zeros::checks(), exchanges::checks(), lists::checks(), lists::examples(), groups::checks(), groups::examples()].concat();
     for known in &known {
         assert_eq!(compare(&known.case, &known.name).answer, known.answer, "{}: answer by hand", known.name);
     }
@@ -207,25 +208,25 @@ fn parts_of_texts() {
 }
 
 fn known_moves() -> usize {
-    let moves = [forms::moves(), counters::moves(), zeros::moves(), exchanges::moves(), lists::moves()].concat();
+    let moves = [forms::moves(), counters::moves(), zeros::moves(), exchanges::moves(), lists::moves(), groups::moves()].concat();
     for KnownMove { name, handed, answer, moved } in &moves {
         let what = format!("move: {name}");
-        assert_eq!(move_to(handed.list.as_deref(), handed.to, &handed.text, handed.bytes, &what), (*answer, moved.clone()), "{what}");
+        assert_eq!(move_to(handed.list.as_ref(), handed.to, &handed.text, handed.bytes, &what), (*answer, moved.clone()), "{what}");
     }
     moves.len()
 }
 
 /// The writings that are known by hand; what is written is read back.
 fn known_writings() -> usize {
-    let writings = [forms::writings(), counters::writings(), zeros::writings(), exchanges::writings(), lists::writings()].concat();
+    let writings = [forms::writings(), counters::writings(), zeros::writings(), exchanges::writings(), lists::writings(), groups::writings()].concat();
     for KnownWriting { name, handed, answer: by_hand } in &writings {
         let what = format!("writing: {name}");
         let (memory, words) = handed.read();
-        let (answer, text) = written(&what, handed.bytes, |out| peer::write_trace(handed.list.as_deref(), handed.form, &memory, &words, out));
+        let (answer, text) = written(&what, handed.bytes, |out| peer::write_trace(handed.list.as_ref(), handed.form, &memory, &words, out));
         assert_eq!(answer, *by_hand, "{what}");
         if answer.0 == number::DONE {
             let mut room = vec![MARKER; words.len()];
-            let read = peer::read_trace(handed.list.as_deref(), &text, &mut room);
+            let read = peer::read_trace(handed.list.as_ref(), &text, &mut room);
             assert_eq!((triple(read.answer), read.memory, room), ((0, 0, 0), memory, words), "{what}: read back");
             assert_eq!(form_of(&text), handed.form, "{what}: form");
         }
@@ -278,9 +279,9 @@ fn writer_cases() -> usize {
 
 /// The lists that are known by hand, read alone.
 fn known_lists() -> usize {
-    let known = lists::texts();
-    for KnownList { name, text, answer, listed } in &known {
-        let read = peer::read_list(text);
+    let known = [lists::texts(), groups::texts()].concat();
+    for KnownList { name, list, answer, listed } in &known {
+        let read = peer::read_list(list);
         assert_eq!((triple(read.answer), &read.listed), (*answer, listed), "list: {name}");
     }
     known.len()
@@ -330,7 +331,7 @@ fn main() {
     println!("{} bad events for the writer, and its other answers: ok", writer_cases());
     println!("{} moves and {} writings known by hand: ok", known_moves(), known_writings());
     println!("{} lists known by hand: ok", known_lists());
-    for (lists, with) in [(Lists::Without, ""), (Lists::With, " with a list")] {
+    for (lists, with) in [(Lists::Without, ""), (Lists::With, " with a list"), (Lists::Grouped(1), " for group 1"), (Lists::Grouped(2), " for group 2")] {
         lawful_cases(seed, LAWFUL, lists);
         println!("{LAWFUL} lawful changes of up to 119 events{with}: accepted");
         let (answers, slow) = random_cases(seed, count, lists);

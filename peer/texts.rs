@@ -114,6 +114,17 @@ pub fn matching_text(entries: &[u16]) -> Vec<u8> {
     text.into_bytes()
 }
 
+/// The list of form 2 of two groups.
+pub fn group_text(groups: [&Locations; 2]) -> Vec<u8> {
+    let mut text = String::from("regs\t2\n");
+    for (group, listed) in (1..).zip(groups) {
+        for (location, _) in listed.iter().enumerate().filter(|(_, &listed)| listed) {
+            text += &format!("reg\t{group}\t{location}\n");
+        }
+    }
+    text.into_bytes()
+}
+
 pub fn list_text(listed: &Locations) -> Vec<u8> {
     let mut text = String::from("regs\t1\n");
     for (location, _) in listed.iter().enumerate().filter(|(_, &listed)| listed) {

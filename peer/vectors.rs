@@ -76,6 +76,10 @@
 //! The raw bytes are the list and, for each location from 0 on, `1` if it is listed
 //! and `0` if not.
 //!
+//! The files with lists are for group 1. `groups`, `group_texts`, `group_moves`,
+//! `group_writes`, `group_runs` and `group_shorts` are the same for group 2, with lists
+//! that both groups share.
+//!
 //! The cases known by hand come first, then random ones until every answer has
 //! its share. Each answer to a check or a move of texts that document 01 reads
 //! alike is given by the fast checker and the slow one, or the program stops.
@@ -85,6 +89,7 @@ mod counters;
 mod exchanges;
 mod forms;
 mod generate;
+mod groups;
 mod lists;
 #[allow(dead_code)]
 mod naive;
@@ -103,7 +108,7 @@ use cases::{Case, Known, Triple, ALL, DONE};
 use forms::{KnownMove, KnownWriting, Move, Writing};
 use generate::{Lists, Short};
 use lists::KnownList;
-use peer::{form_of, Answer, Form};
+use peer::{form_of, Answer, Form, ListFor, Word};
 use random::Random;
 use std::collections::{BTreeMap, BTreeSet};
 use std::path::Path;
@@ -317,7 +322,7 @@ struct Vector<'a> {
     handed: Vec<&'a [u8]>,
     answer: Triple,
     given: Vec<u8>,
-    list: Option<&'a [u8]>,
+    list: Option<&'a ListFor>,
 }
 
 #[derive(Default)]
@@ -333,12 +338,13 @@ impl File {
         self.vectors += 1;
         let (number, side, place) = vector.answer;
         let answer = [number, side, place].map(|number| number as usize);
-        let list_length = vector.list.map(<[u8]>::len);
+        let list = vector.list.map(|list| list.text.as_slice());
+        let list_length = list.map(<[u8]>::len);
         for number in vector.numbers.iter().chain(&answer).chain(&[vector.given.len()]).chain(&list_length) {
             self.bytes.extend_from_slice(format!("{number} ").as_bytes());
         }
         self.bytes.extend_from_slice(format!("{name}\n").as_bytes());
-        for part in vector.handed.iter().chain(&[vector.given.as_slice(), vector.list.unwrap_or_default(), b"\n"]) {
+        for part in vector.handed.iter().chain(&[vector.given.as_slice(), list.unwrap_or_default(), b"\n"]) {
             self.bytes.extend_from_slice(part);
         }
         *self.counts.entry((number, side)).or_default() += 1;
@@ -409,7 +415,7 @@ fn front(out: &[u8], answer: Answer) -> Vec<u8> {
 
 /// A move, on which both checkers must agree.
 fn move_vector(Move { list, to, text, bytes }: &Move, _: usize) -> Vector<'_> {
-    let list = list.as_deref();
+    let list = list.as_ref();
     let mut out = vec![0; *bytes];
     let answer = peer::move_to(list, *to, text, &mut out);
     let given = front(&out, answer);
@@ -429,7 +435,7 @@ struct Made {
 
 fn made(short: Short) -> Made {
     let [mut out, mut names] = short.bytes.map(|bytes| vec![0; bytes]);
-    let list = short.list.as_deref();
+    let list = short.list.as_ref();
     let told = peer::shorten(list, &short.text, &mut out, &mut names);
     out.truncate(told.bytes);
     names.truncate(told.matching_bytes);
@@ -448,14 +454,14 @@ fn short_vector(Made { short, texts: [out, names], answer }: &Made, _: usize) ->
         handed: vec![&short.text, out, names],
         answer: *answer,
         given: vec![],
-        list: short.list.as_deref(),
+        list: short.list.as_ref(),
     }
 }
 
 fn writing_vector(writing: &Writing, _: usize) -> Vector<'_> {
     let (memory, words) = writing.read();
     let mut out = vec![0; writing.bytes];
-    let list = writing.list.as_deref();
+    let list = writing.list.as_ref();
     let answer = peer::write_trace(list, writing.form, &memory, &words, &mut out);
     let given = front(&out, answer);
     let (at, word) = writing.change.unwrap_or((forms::WRITING_WORDS, 0));
@@ -617,75 +623,102 @@ fn random_writing(random: &mut Random, lists: Lists) -> Writing {
         if read.answer.number == peer::number::DONE {
             let list = match lists {
                 Lists::Without => None,
-                Lists::With => Some(generate::any_list(random)),
+                _ => Some(any_list(random, lists)),
             };
-            return generate::writing_of(random, list.as_deref(), &text, read.events);
+            return generate::writing_of(random, list.as_ref(), &text, read.events);
         }
     }
 }
 
+/// The group that lists are for.
+fn group_of(lists: Lists) -> Option<Word> {
+    match lists {
+        Lists::Without => None,
+        Lists::With => Some(1),
+        Lists::Grouped(group) => Some(group),
+    }
+}
+
+/// Those whose list is for the group.
+fn for_group<T>(lists: Lists, known: Vec<T>, list: fn(&T) -> &Option<ListFor>) -> Vec<T> {
+    known.into_iter().filter(|known| list(known).as_ref().map(|list| list.group) == group_of(lists)).collect()
+}
+
+fn list_of(known: &Known) -> &Option<ListFor> {
+    &known.case.list
+}
+
 /// Checks with a list; each of its traces in one of the forms.
-fn list_checks(random: &mut Random) -> File {
+fn checks_with(random: &mut Random, lists: Lists) -> File {
     let mut file = File::default();
-    let known = [lists::examples(), lists::checks()].concat();
-    let known: Vec<Known> = known.into_iter().filter(|known| known.case.list.is_some()).collect();
-    add_known_checks(&mut file, &known);
-    file.add_random(&LIST_SHARES, || generate::mixed_case(random, Lists::With), check_vector);
+    let known = [lists::examples(), lists::checks(), groups::examples(), groups::checks()].concat();
+    add_known_checks(&mut file, &for_group(lists, known, list_of));
+    file.add_random(&LIST_SHARES, || generate::mixed_case(random, lists), check_vector);
     file
 }
 
-fn list_text_vector<'a>(list: &'a Vec<u8>, _: usize) -> Vector<'a> {
+fn any_list(random: &mut Random, lists: Lists) -> ListFor {
+    match lists {
+        Lists::Grouped(_) => generate::any_group_list(random),
+        _ => generate::any_list(random),
+    }
+}
+
+fn list_text_vector(list: &ListFor, _: usize) -> Vector<'_> {
     let read = peer::read_list(list);
     let given = match read.answer.number {
         peer::number::DONE => read.listed.map(|listed| if listed { b'1' } else { b'0' }).to_vec(),
         _ => vec![],
     };
-    Vector { numbers: vec![0, list.len(), 0, 0, 0, 0], handed: vec![list], answer: triple(read.answer), given, list: None }
+    Vector { numbers: vec![0, list.text.len(), 0, 0, 0, 0], handed: vec![&list.text], answer: triple(read.answer), given, list: None }
 }
 
-fn list_texts(random: &mut Random) -> File {
+fn texts_with(random: &mut Random, lists: Lists) -> File {
     let mut file = File::default();
-    for KnownList { name, text, answer, listed } in &lists::texts() {
-        assert_eq!(peer::read_list(text).listed, *listed, "{name}: the marks by hand differ");
-        file.add_known(name, &list_text_vector(text, 0), *answer);
+    let known = [lists::texts(), groups::texts()].concat();
+    for KnownList { name, list, answer, listed } in known.iter().filter(|known| Some(known.list.group) == group_of(lists)) {
+        assert_eq!(peer::read_list(list).listed, *listed, "{name}: the marks by hand differ");
+        file.add_known(name, &list_text_vector(list, 0), *answer);
     }
-    file.add_random(&LIST_TEXT_SHARES, || generate::any_list(random), list_text_vector);
+    file.add_random(&LIST_TEXT_SHARES, || any_list(random, lists), list_text_vector);
     file
 }
 
-fn list_moves(random: &mut Random) -> File {
+fn moves_with(random: &mut Random, lists: Lists) -> File {
     let mut file = File::default();
-    add_known_moves(&mut file, &lists::moves());
+    let known = [lists::moves(), groups::moves()].concat();
+    add_known_moves(&mut file, &for_group(lists, known, |known| &known.handed.list));
     let draw = || {
-        let case = generate::mixed_case(random, Lists::With);
+        let case = generate::mixed_case(random, lists);
         generate::move_of(random, case.list(), &case.source)
     };
     file.add_random(&LIST_MOVE_SHARES, draw, move_vector);
     file
 }
 
-fn list_writings(random: &mut Random) -> File {
+fn writings_with(random: &mut Random, lists: Lists) -> File {
     let mut file = File::default();
-    let known: Vec<KnownWriting> = lists::writings().into_iter().filter(|known| known.handed.list.is_some()).collect();
-    add_known_writings(&mut file, &known);
-    file.add_random(&LIST_WRITING_SHARES, || random_writing(random, Lists::With), writing_vector);
+    let known = [lists::writings(), groups::writings()].concat();
+    add_known_writings(&mut file, &for_group(lists, known, |known| &known.handed.list));
+    file.add_random(&LIST_WRITING_SHARES, || random_writing(random, lists), writing_vector);
     file
 }
 
 /// Runs with a list: the examples, those known by hand that have a step, and random ones.
-fn list_runs(random: &mut Random) -> File {
+fn runs_with(random: &mut Random, lists: Lists) -> File {
     let mut file = File::default();
-    let known = lists::examples().into_iter().chain(lists::checks().into_iter().filter(has_step));
-    for Known { name, case, answer } in known.filter(|known| known.case.list.is_some()) {
+    let examples = [lists::examples(), groups::examples()].concat();
+    let checks = [lists::checks(), groups::checks()].concat().into_iter().filter(has_step);
+    for Known { name, case, answer } in for_group(lists, examples.into_iter().chain(checks).collect(), list_of) {
         file.add_known(&name, &run_vector(&case, 0), answer);
     }
-    let draw = || if random.once_in(2) { changed_case(random, Lists::With) } else { generate::mixed_case(random, Lists::With) };
+    let draw = || if random.once_in(2) { changed_case(random, lists) } else { generate::mixed_case(random, lists) };
     file.add_random(&LIST_RUN_SHARES, draw, run_vector);
     file
 }
 
 /// A long text whose accesses are mostly repeated, in one of the forms.
-fn long_text(random: &mut Random, list: Option<&[u8]>) -> Vec<u8> {
+fn long_text(random: &mut Random, list: Option<&ListFor>) -> Vec<u8> {
     let listed = list.map_or(peer::NO_LOCATIONS, |list| peer::read_list(list).listed);
     let mut memory = [0; peer::CELLS];
     let places = 1 + random.below(4);
@@ -750,12 +783,12 @@ fn shorts(random: &mut Random) -> File {
     file
 }
 
-fn list_shorts(random: &mut Random) -> File {
+fn shorts_with(random: &mut Random, lists: Lists) -> File {
     let mut file = File::default();
-    let known = lists::examples().into_iter().chain(lists::checks());
-    add_changed(&mut file, known.filter(|known| known.case.list.is_some() && known.case.source.len() < 400).collect());
+    let known = for_group(lists, [lists::examples(), lists::checks(), groups::examples(), groups::checks()].concat(), list_of);
+    add_changed(&mut file, known.into_iter().filter(|known| known.case.source.len() < 400).collect());
     let draw = || {
-        let case = generate::mixed_case(random, Lists::With);
+        let case = generate::mixed_case(random, lists);
         let text = if random.once_in(2) { long_text(random, case.list()) } else { case.source.clone() };
         made(generate::short_of(random, case.list(), &text))
     };
@@ -831,7 +864,7 @@ fn main() {
     let folder = arguments.next().expect("the folder to write the files in");
     let folder = Path::new(&folder);
     let seed = arguments.next().map_or(1, |seed| seed.parse().expect("the seed is a number"));
-    let files: [(&str, fn(&mut Random) -> File); 15] = [
+    let files: [(&str, fn(&mut Random) -> File); 21] = [
         ("vectors", checks),
         ("forms", form_checks),
         ("counters", counter_checks),
@@ -840,13 +873,19 @@ fn main() {
         ("moves", moves),
         ("writes", writings),
         ("runs", runs),
-        ("lists", list_checks),
-        ("list_texts", list_texts),
-        ("list_moves", list_moves),
-        ("list_writes", list_writings),
-        ("list_runs", list_runs),
+        ("lists", |random| checks_with(random, Lists::With)),
+        ("list_texts", |random| texts_with(random, Lists::With)),
+        ("list_moves", |random| moves_with(random, Lists::With)),
+        ("list_writes", |random| writings_with(random, Lists::With)),
+        ("list_runs", |random| runs_with(random, Lists::With)),
         ("shorts", shorts),
-        ("list_shorts", list_shorts),
+        ("list_shorts", |random| shorts_with(random, Lists::With)),
+        ("groups", |random| checks_with(random, Lists::Grouped(2))),
+        ("group_texts", |random| texts_with(random, Lists::Grouped(2))),
+        ("group_moves", |random| moves_with(random, Lists::Grouped(2))),
+        ("group_writes", |random| writings_with(random, Lists::Grouped(2))),
+        ("group_runs", |random| runs_with(random, Lists::Grouped(2))),
+        ("group_shorts", |random| shorts_with(random, Lists::Grouped(2))),
     ];
     for (name, make) in files {
         make(&mut Random::new(seed)).write(folder, name);
