@@ -1,4 +1,4 @@
-/* Laprunto for C: reading, writing, moving and checking of traces, with a list of device registers or without, the line at fault, and the
+/* Laprunto for C: reading, writing, moving, shortening and checking of traces, with a list of device registers or without, the line at fault, and the
  * run of an accepted matching.
  *
  * Link target/staticlib/libexport.a (`rt staticlib export`). Each function is proved against its contract in

@@ -6,8 +6,8 @@
 //! failed exchanges, with rooms of every size, each filled with random words before. Both get the same texts
 //! and rooms; everything that comes back is compared: answers, counts, memories, every
 //! word of every room, the offending line; and the same for a reading alone, for
-//! writing in either form, for reading back, for moves between the forms, and for lists
-//! alone; and the run: its beginning, how many steps it has, and each of them. The first
+//! writing in either form, for reading back, for moves between the forms, for
+//! shortenings, and for lists alone; and the run: its beginning, how many steps it has, and each of them. The first
 //! difference is printed whole, and ends the program with status 1.
 
 #[allow(dead_code)]

@@ -1,4 +1,4 @@
-//! Reading, writing and checking of traces and matchings, in ordinary safe Rust.
+//! Reading, writing, moving, shortening and checking of traces and matchings, in ordinary safe Rust.
 //!
 //! Each call but that of a matching has a list of device registers or none, which
 //! is read first; without one no location is listed.

@@ -10,6 +10,10 @@ mod forms;
 #[allow(dead_code)]
 mod generate;
 #[allow(dead_code)]
+mod groups;
+#[allow(dead_code)]
+mod lists;
+#[allow(dead_code)]
 mod ours;
 #[allow(dead_code)]
 mod peer;
@@ -20,9 +24,9 @@ mod rules;
 mod steps;
 mod texts;
 
-use cases::Case;
+use cases::{Case, Known};
 use generate::Lists;
-use peer::{Entry, Form, Memory, Word, CELLS, EVENT_WORDS, MAX_CODED_TEXT, MAX_EVENTS};
+use peer::{Entry, Form, Memory, Word, CELLS, EVENT_WORDS, MAX_CODED_TEXT, MAX_EVENTS, MAX_MATCHING};
 use random::Random;
 use std::arch::asm;
 use std::hint::black_box;
@@ -41,6 +45,7 @@ struct Rooms {
     target: Vec<Word>,
     entries: Vec<Entry>,
     bytes: Vec<u8>,
+    matching: Vec<u8>,
     memories: [Memory; 2],
     tags: [usize; MAX_EVENTS],
 }
@@ -49,7 +54,8 @@ impl Rooms {
     fn new() -> Rooms {
         let events = vec![0; MAX_EVENTS * EVENT_WORDS];
         let memories = [[0; CELLS]; 2];
-        Rooms { source: events.clone(), target: events, entries: vec![0; MAX_EVENTS], bytes: vec![0; MAX_CODED_TEXT], memories, tags: [0; MAX_EVENTS] }
+        let [bytes, matching] = [MAX_CODED_TEXT, MAX_MATCHING].map(|bytes| vec![0; bytes]);
+        Rooms { source: events.clone(), target: events, entries: vec![0; MAX_EVENTS], bytes, matching, memories, tags: [0; MAX_EVENTS] }
     }
 }
 
@@ -80,9 +86,17 @@ impl Input {
 }
 
 /// The cases known by hand, refused ones among them, for a check alone.
+fn unread(known: Vec<Known>) -> Vec<Input> {
+    known.into_iter().map(|known| Input { case: known.case, form: Form::One, memory: [0; CELLS], words: vec![] }).collect()
+}
+
 fn known() -> Vec<Input> {
-    let unread = |case| Input { case, form: Form::One, memory: [0; CELLS], words: vec![] };
-    cases::all().into_iter().map(|known| unread(known.case)).collect()
+    unread(cases::all())
+}
+
+/// Those with a list.
+fn known_listed() -> Vec<Input> {
+    unread([lists::checks(), groups::checks()].concat().into_iter().filter(|known| known.case.list.is_some()).collect())
 }
 
 fn typical(events: usize) -> Vec<Input> {
@@ -158,15 +172,21 @@ const MOVE: Work = Work {
     peer: |input, rooms| black_box(peer::move_to(None, input.other(), black_box(&input.case.source), &mut rooms.bytes)).number,
 };
 
+const SHORTEN: Work = Work {
+    name: "shortening a trace",
+    ours: |input, rooms| black_box(ours::shorten(None, black_box(&input.case.source), &mut rooms.bytes, &mut rooms.matching)).answer.number,
+    peer: |input, rooms| black_box(peer::shorten(None, black_box(&input.case.source), &mut rooms.bytes, &mut rooms.matching)).answer.number,
+};
+
 const CHECK: Work = Work {
     name: "the whole check",
     ours: |input, rooms| {
         let lent: [&mut [Word]; 2] = [&mut rooms.source, &mut rooms.target];
-        black_box(ours::check_to(None, input.case.texts().map(black_box), lent, &mut rooms.entries, &mut rooms.memories))[0] as u32
+        black_box(ours::check_to(input.case.list(), input.case.texts().map(black_box), lent, &mut rooms.entries, &mut rooms.memories))[0] as u32
     },
     peer: |input, rooms| {
         let [a, b, c] = input.case.texts().map(black_box);
-        black_box(peer::check(None, a, b, c, &mut rooms.source, &mut rooms.target, &mut rooms.entries)).answer.number
+        black_box(peer::check(input.case.list(), a, b, c, &mut rooms.source, &mut rooms.target, &mut rooms.entries)).answer.number
     },
 };
 
@@ -175,7 +195,7 @@ const START: Work = Work {
     name: "beginning a run",
     ours: |input, rooms| {
         let lent: [&mut [Word]; 2] = [&mut rooms.source, &mut rooms.target];
-        black_box(ours::start_to(None, input.case.texts().map(black_box), lent, &mut rooms.entries, &mut rooms.tags)).0[0] as u32
+        black_box(ours::start_to(input.case.list(), input.case.texts().map(black_box), lent, &mut rooms.entries, &mut rooms.tags)).0[0] as u32
     },
     peer: CHECK.ours,
 };
@@ -273,7 +293,7 @@ fn main() {
     println!("| ours / Rust | texts | {} |", SIZES.map(|size| size.to_string()).join(" | "));
     println!("|---|---|{}", "---|".repeat(SIZES.len()));
     let mut growth = vec![];
-    for work in [READ_TRACE, READ_MATCHING, WRITE, MOVE, CHECK] {
+    for work in [READ_TRACE, READ_MATCHING, WRITE, MOVE, SHORTEN, CHECK] {
         for (texts, inputs) in &inputs {
             let times = best(&work, inputs);
             row(work.name, texts, &times.iter().map(|[ours, peer]| ours / peer).collect::<Vec<_>>());
@@ -290,15 +310,17 @@ fn main() {
         row(START.name, texts, &[start / check]);
     }
     println!("\n| stack in bytes, 800 events | texts | ours | Rust |\n|---|---|---|---|");
-    for work in [READ_TRACE, READ_MATCHING, WRITE, MOVE, CHECK] {
+    for work in [READ_TRACE, READ_MATCHING, WRITE, MOVE, SHORTEN, CHECK] {
         for (texts, inputs) in &inputs {
             let [ours, peer] = [work.ours, work.peer].map(|call| stack(call, &inputs[4]));
             println!("| {} | {texts} | {ours} | {peer} |", work.name);
         }
     }
-    let [ours, peer] = [CHECK.ours, CHECK.peer].map(|call| stack(call, &known()));
-    println!("| {} | known by hand, refused ones too | {ours} | {peer} |", CHECK.name);
-    for (texts, inputs) in [("most steps", falling()), ("known by hand, refused ones too", known())] {
+    for (texts, inputs) in [("known by hand, refused ones too", known()), ("known by hand, with a list", known_listed())] {
+        let [ours, peer] = [CHECK.ours, CHECK.peer].map(|call| stack(call, &inputs));
+        println!("| {} | {texts} | {ours} | {peer} |", CHECK.name);
+    }
+    for (texts, inputs) in [("most steps", falling()), ("known by hand, refused ones too", known()), ("known by hand, with a list", known_listed())] {
         println!("| {} | {texts} | {} | |", START.name, stack(START.ours, &inputs));
     }
 }

@@ -1,4 +1,4 @@
-// Checks the files of the examples as the program does, then runs every vector of fifteen files and prints which differ.
+// Checks the files of the examples as the program does, then runs every vector of every file of vectors and prints which differ.
 mod back;
 mod check;
 mod lent;

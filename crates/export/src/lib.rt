@@ -1,4 +1,4 @@
-// The library for C and Rust: reading, writing, moving, checking and the line at fault, on numbers, slices and arrays.
+// The library for C and Rust: reading, writing, moving, shortening, checking and the line at fault, on numbers, slices and arrays.
 // `door/laprunto.h` declares them for C; a slice is a pointer and a length there, an array a pointer.
 pub mod listed;
 pub mod run;

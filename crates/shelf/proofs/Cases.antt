@@ -1,4 +1,4 @@
--- Document 02, C-19: shortened traces of some of document 01's runs, by computing; each with its entries. Assumes nothing.
+-- Document 02, C-19: shortened traces of the sources of P1, P2 and P4 to P8, and of two more, by computing; each with its entries. Assumes nothing.
 use mathlib.Core.Path.{_≡_, refl}
 use mathlib.Core.Bool.{true, false}
 use mathlib.Core.List.{List, [], _∷_}
