@@ -1,6 +1,7 @@
-/* Checks three files, source, target and matching, with a list of registers if there is a fourth, for the group of a fifth word, and prints
- * prints, and the locations that are listed. Then the run goes to its end, both traces that were read are written again, what was written
- * is read back, both texts are moved to the other form and back, and both are shortened: status 1 if anything came back otherwise. */
+/* Checks three files, source, target and matching, with a list of registers if there is a fourth, for the group of a fifth word (1 if there is
+ * none), and prints what the program laprunto prints, and the locations that are listed. Then the run goes to its end, both traces that were
+ * read are written again, what was written is read back, both texts are moved to the other form and back, and both are shortened: status 1 if
+ * anything came back otherwise. */
 #include "laprunto.h"
 
 #include <stdio.h>

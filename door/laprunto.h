@@ -21,8 +21,8 @@
  * Lists. A function whose name ends in _listed is the one without that ending, and takes the text of a list of registers first, and a group:
  * of a list that two groups share, 1 and 2, the group's own lines are used; a list of form 1 is group 1's, and any other group has no
  * line. The list is read ahead of everything else: where it refuses, with 1, 2 or 22 and side 4, that is the answer and nothing is stored.
- * A line of the other group refuses too. The two that go on
- * with a run take the list's marks first, as laprunto_read_list leaves them: a location is listed where its byte is not 0.
+ * A fault in the other group's lines refuses too. The two that go on with a run take the list's marks first, as laprunto_read_list leaves
+ * them: a location is listed where its byte is not 0.
  *
  * Results. Each begins with the answer, the number, side and place of the table in README.md; number 0 is done. Counts come
  * after it. Counts and memories are 0 where nothing is stored. */

@@ -87,7 +87,7 @@ NoFewerTexts = NoFewerBy startedOf tagsOf view
 abbrev pub NoStep : Type 0
 NoStep = NoStepBy startedOf tagsOf view
 
--- With the text of a list.
+-- With what was read of a list.
 module _ (list : ListRead) where
   abbrev pub PrintedListed : Type 0
   PrintedListed = PrintedBy (startedListed list) (tagsListed list) (viewIn (list .listed))

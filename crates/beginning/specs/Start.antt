@@ -65,7 +65,7 @@ Starts = StartsIn noneListed
 abbrev pub notBegun : Checked → Started
 notBegun c = record { checked = c; run = record { begun = false; standing = 0 }; cost = 0 }
 
--- With the text of a list: its answer comes ahead of the source's, and its refusal begins no run and stores nothing.
+-- With what was read of a list: its answer comes ahead of the source's, and its refusal begins no run and stores nothing.
 unfoldable pub startedListed : ListRead → Lent → Started
 startedListed list l = settle (λ a. notBegun (refused a)) (list .answer) (startedIn (list .listed) l)
 

@@ -132,7 +132,7 @@ entryRoomAfter = entryRoomIn noneListed
 abbrev pub Checks : Lent → Checked → List ℕ → List ℕ → List ℕ → Type 0
 Checks = ChecksIn noneListed
 
--- With the text of a list: its answer comes ahead of the source's, and its refusal stores nothing.
+-- With what was read of a list: its answer comes ahead of the source's, and its refusal stores nothing.
 unfoldable pub checkListed : ListRead → Lent → Checked
 checkListed list l = settle refused (list .answer) (checkIn (list .listed) l)
 

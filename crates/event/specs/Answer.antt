@@ -59,7 +59,7 @@ answers =
     ∷ (0 ∷ 1 ∷ [], ordinal)  -- 19 code line would be lost
     ∷ (1 ∷ 2 ∷ [], ordinal)  -- 20 touched location without a line
     ∷ (1 ∷ 2 ∷ [], ordinal)  -- 21 zero line for an untouched location
-    ∷ (4 ∷ [], ordinal)  -- 22 register out of order, or the 33rd
+    ∷ (4 ∷ [], ordinal)  -- 22 register out of order, or the 33rd of its group
     ∷ []
 
 -- An answer is a row of it.
