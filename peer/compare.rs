@@ -7,7 +7,8 @@
 //! and rooms; everything that comes back is compared: answers, counts, memories, every
 //! word of every room, the offending line; and the same for a reading alone, for
 //! writing in either form, for reading back, for moves between the forms, for
-//! shortenings, and for lists alone; and the run: its beginning, how many steps it has, and each of them. The first
+//! shortenings, and for lists alone; and the run: its beginning, how many steps it has,
+//! and each of them. The first
 //! difference is printed whole, and ends the program with status 1.
 
 #[allow(dead_code)]
@@ -30,6 +31,7 @@ mod ours;
 mod peer;
 mod random;
 mod rules;
+mod shorts;
 #[allow(dead_code)]
 mod steps;
 mod texts;
@@ -42,6 +44,7 @@ use generate::{Lists, Short};
 use lists::KnownList;
 use peer::{form_of, Answer, Checked, Entry, Form, ListFor, Memory, Word, CELLS, EVENT_WORDS, MAX_EVENTS, MAX_MATCHING};
 use random::Random;
+use shorts::KnownShort;
 use std::collections::BTreeMap;
 use std::fmt::Debug;
 
@@ -518,7 +521,7 @@ fn print_tally(tally: &Tally) {
     println!("{lines} offending lines, {read_back} texts read back, {moved_back} moved back, {counted} steps counted, {followed} followed, {shortened} shortened");
 }
 
-/// The moves, the writings and the lists that are known by hand.
+/// The moves, the writings, the shortenings and the lists that are known by hand.
 fn compare_known(random: &mut Random, tally: &mut Tally) -> Same {
     let told = |name: &str, same: Same| same.map_err(|Difference(told)| Difference(format!("{name}: {told}")));
     for known in [forms::moves(), counters::moves(), zeros::moves(), exchanges::moves(), lists::moves(), groups::moves()].concat() {
@@ -527,6 +530,12 @@ fn compare_known(random: &mut Random, tally: &mut Tally) -> Same {
     for KnownWriting { name, handed, .. } in [forms::writings(), counters::writings(), zeros::writings(), exchanges::writings(), lists::writings(), groups::writings()].concat() {
         let (memory, words) = handed.read();
         told(&name, compare_writing(random, handed.list.as_ref(), handed.form, &memory, &words, handed.bytes, tally))?;
+    }
+    for KnownShort { name, list, text, short, matching } in shorts::known() {
+        for bytes in [[short.len(), matching.len()], [short.len() - 1, matching.len()], [short.len(), matching.len() - 1]] {
+            let handed = Short { list: list.clone(), text: text.clone(), bytes };
+            told(&name, compare_short(random, &handed, tally))?;
+        }
     }
     for KnownList { name, list, .. } in [lists::texts(), groups::texts()].concat() {
         told(&name, compare_list(&list, tally))?;

@@ -15,16 +15,18 @@ mod peer;
 #[allow(dead_code)]
 mod random;
 mod rules;
+mod shorts;
 mod slow;
 mod texts;
 mod zeros;
 
-use cases::{Case, Triple};
+use cases::{Case, Triple, DONE};
 use forms::{KnownMove, KnownWriting};
 use generate::Lists;
 use lists::KnownList;
 use peer::{form_of, number, side, Answer, Checked, Entry, Form, ListFor, Memory, Word, CELLS, EVENT_WORDS, MAX_EVENTS};
 use random::Random;
+use shorts::KnownShort;
 use std::fmt::Debug;
 
 /// What the rooms hold before a call: no lawful word of an event or entry.
@@ -277,6 +279,33 @@ fn writer_cases() -> usize {
     bad.len()
 }
 
+/// What a shortening leaves in parts of so many bytes, which a refusal leaves as they were.
+fn shorten(list: Option<&ListFor>, text: &[u8], bytes: [usize; 2], what: &str) -> (Triple, [Vec<u8>; 2]) {
+    let lent = bytes.map(|bytes| vec![0xa5; bytes]);
+    let [mut out, mut names] = lent.clone();
+    let made = peer::shorten(list, text, &mut out, &mut names);
+    assert!(out[made.bytes..] == lent[0][made.bytes..] && names[made.matching_bytes..] == lent[1][made.matching_bytes..], "{what}: other bytes");
+    (triple(made.answer), [out[..made.bytes].to_vec(), names[..made.matching_bytes].to_vec()])
+}
+
+/// The shortenings that are known by hand: into enough bytes, and into one too few.
+fn known_shorts() -> usize {
+    let known = shorts::known();
+    for KnownShort { name, list, text, short, matching } in &known {
+        let (what, list) = (format!("shortening: {name}"), list.as_ref());
+        let needed = [short.len(), matching.len()];
+        let refused = |side, bytes: usize| ((number::ROOM_TOO_SHORT, side, bytes as u32), [vec![], vec![]]);
+        assert_eq!(shorten(list, text, needed, &what), (DONE, [short.clone(), matching.clone()]), "{what}");
+        assert_eq!(shorten(list, text, [needed[0] - 1, 0], &what), refused(side::TARGET, needed[0]), "{what}: 17");
+        assert_eq!(shorten(list, text, [needed[0], needed[1] - 1], &what), refused(side::MATCHING, needed[1]), "{what}: 17");
+        let again = shorten(list, short, needed, &what);
+        assert_eq!((again.0, &again.1[0]), (DONE, short), "{what}: again");
+        let checked = slow::check(list, [text, short, matching], [MAX_EVENTS; 3]);
+        assert!(checked.map_or(true, |checked| checked.answer == DONE), "{what}: accepted");
+    }
+    known.len()
+}
+
 /// The lists that are known by hand, read alone.
 fn known_lists() -> usize {
     let known = [lists::texts(), groups::texts()].concat();
@@ -330,7 +359,7 @@ fn main() {
     parts_of_texts();
     println!("{} bad events for the writer, and its other answers: ok", writer_cases());
     println!("{} moves and {} writings known by hand: ok", known_moves(), known_writings());
-    println!("{} lists known by hand: ok", known_lists());
+    println!("{} lists and {} shortenings known by hand: ok", known_lists(), known_shorts());
     for (lists, with) in [(Lists::Without, ""), (Lists::With, " with a list"), (Lists::Grouped(1), " for group 1"), (Lists::Grouped(2), " for group 2")] {
         lawful_cases(seed, LAWFUL, lists);
         println!("{LAWFUL} lawful changes of up to 119 events{with}: accepted");
