@@ -4,11 +4,11 @@ use borrow.Author.Tests.{le-leb, lt-leb}
 use Rattle.kinds.proofs.are_in_range.Statement.{statement}
 use Rattle.kinds.proofs.are_in_range.Tie as tie
 
-returns : tie.Need-returns
-returns c = rw (← c.before.last_of.ensures, le-leb _ _ c.if1.true)
+returns : tie.Need-returns-then-first-last
+returns c = rw (← c.last_of-last.ensures, le-leb _ _ c.if-first-last.true)
 
-returns-2 : tie.Need-returns-2
-returns-2 c = rw (← c.before.last_of.ensures, lt-leb _ _ c.if1.false)
+returns-2 : tie.Need-returns-else-first-last
+returns-2 c = rw (← c.last_of-last.ensures, lt-leb _ _ c.if-first-last.false)
 
-pub are-in-range-spec : {M : Type 1} → statement M
-are-in-range-spec = tie.close (tie.spec (search rules) returns returns-2)
+pub are_in_range_spec : {M : Type 1} → statement M
+are_in_range_spec = tie.close (tie.spec (search rules) returns returns-2)

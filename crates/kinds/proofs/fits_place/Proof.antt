@@ -3,13 +3,13 @@ use borrow.Author.Rules.{rules}
 use Rattle.kinds.proofs.fits_place.Statement.{statement}
 use Rattle.kinds.proofs.fits_place.Tie as tie
 
-pub fits-place-spec : {M : Type 1} → statement M
-fits-place-spec =
+pub fits_place_spec : {M : Type 1} → statement M
+fits_place_spec =
     tie.close
     (tie.spec
     (search rules)
     (search rules)
     (search rules)
-    (λ c. rw c.enum_told.given.1)
-    (λ c. rw c.enum-told2.given.1)
-    (λ c. rw c.enum-told3.given.1))
+    (λ c. rw c.in-Location.is)
+    (λ c. rw c.in-Mutex.is)
+    (λ c. rw c.in-Nowhere.is))

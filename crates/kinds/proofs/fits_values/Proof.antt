@@ -14,17 +14,17 @@ two_values n a b p q =
     let k : 1 ≤ n = omega arith in
     rw (le-leb 1 n k, le-leb 2 n h)
 
-returns : tie.Need-returns
-returns c = rw (c.before.match.keys1, c.if1.true)
+returns : tie.Need-returns-then-first-eq0
+returns c = rw (c.in-0.is, c.if-first-eq0.true)
 
-returns-2 : tie.Need-returns-2
-returns-2 c = simp (c.before.match.keys1, ne_eqb _ _ c.if1.false)
+returns-2 : tie.Need-returns-else-first-eq0
+returns-2 c = simp (c.in-0.is, ne_eqb _ _ c.if-first-eq0.false)
 
-returns-3 : tie.Need-returns-3
-returns-3 c = rw c.match.keys2
+returns-3 : tie.Need-returns-in-1
+returns-3 c = rw c.in-1.is
 
-returns-4 : tie.Need-returns-4
-returns-4 c = sym (two_values c.before.args.values c.before.args.first c.before.args.second c.match.rest.0.1 c.match.rest.1)
+returns-4 : tie.Need-returns-in_default
+returns-4 c = sym (two_values c.args.values c.args.first c.args.second c.in_default.in_default-own.rest.0.1 c.in_default.in_default-own.rest.1)
 
-pub fits-values-spec : {M : Type 1} → statement M
-fits-values-spec = tie.close (tie.spec returns returns-2 returns-3 returns-4)
+pub fits_values_spec : {M : Type 1} → statement M
+fits_values_spec = tie.close (tie.spec returns returns-2 returns-3 returns-4)

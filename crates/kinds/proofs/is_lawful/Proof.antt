@@ -3,5 +3,5 @@ use borrow.Author.Rules.{rules}
 use Rattle.kinds.proofs.is_lawful.Statement.{statement}
 use Rattle.kinds.proofs.is_lawful.Tie as tie
 
-pub is-lawful-spec : {M : Type 1} → statement M
-is-lawful-spec = tie.close (tie.spec (search rules) (λ c. c.suits.ensures))
+pub is_lawful_spec : {M : Type 1} → statement M
+is_lawful_spec = tie.close (tie.spec (search rules) (λ c. c.suits.ensures))

@@ -4,7 +4,7 @@ use Rattle.kinds.proofs.is_load_kind.Statement.{statement}
 use Rattle.kinds.proofs.is_load_kind.Tie as tie
 
 returns : tie.Need-returns
-returns c = rw (← c.before.row_of.ensures) c.is-marks.ensures
+returns c = rw (← c.row_of-orders.ensures) c.is_marks.ensures
 
-pub is-load-kind-spec : {M : Type 1} → statement M
-is-load-kind-spec = tie.close (tie.spec (search rules) (search rules) returns)
+pub is_load_kind_spec : {M : Type 1} → statement M
+is_load_kind_spec = tie.close (tie.spec (search rules) (search rules) returns)

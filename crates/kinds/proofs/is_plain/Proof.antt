@@ -4,6 +4,6 @@ use Rattle.kinds.specs.Kind.{row}
 use Rattle.kinds.proofs.is_plain.Statement.{statement}
 use Rattle.kinds.proofs.is_plain.Tie as tie
 
-pub is-plain-spec : {M : Type 1} → statement M
+pub is_plain_spec : {M : Type 1} → statement M
 unfolding row
-is-plain-spec = tie.close (tie.spec (search rules) (search rules) (λ c. search rules) (λ c. search rules))
+is_plain_spec = tie.close (tie.spec (search rules) (search rules) (λ c. search rules) (λ c. search rules))

@@ -16,9 +16,9 @@ no_row k h =
     cases (side k 1) (λ a. let z : k ≡ zero = omega arith in rw z)
     (λ a. get_or-eq_default {A = Row} rows no_kind (h a))
 
-pub row-of-spec : {M : Type 1} → statement M
+pub row_of_spec : {M : Type 1} → statement M
 unfolding row
-row-of-spec =
+row_of_spec =
     tie.close
     (tie.spec
     (search rules)
@@ -33,15 +33,15 @@ row-of-spec =
     (search rules)
     (search rules)
     (search rules)
-    (λ c. rw c.before.match.keys1 c.access.ensures)
-    (λ c. rw c.before.match.keys2 c.access2.ensures)
-    (λ c. rw c.before.match.keys3 c.access3.ensures)
-    (λ c. rw c.before.match.keys4 c.access4.ensures)
-    (λ c. rw c.before.match.keys5 c.access5.ensures)
-    (λ c. rw c.before.match.keys6 c.access6.ensures)
-    (λ c. rw c.before.match.keys7 c.barrier.ensures)
-    (λ c. rw c.before.match.keys8 c.barrier2.ensures)
-    (λ c. rw c.before.match.keys9 c.barrier3.ensures)
-    (λ c. rw c.before.match.keys10 c.access7.ensures)
-    (λ c. rw c.before.match.keys11 c.access8.ensures)
-    (λ c. c.no_kind.ensures ∙ sym (no_row _ (beyond 11 _ c.before.match.rest))))
+    (λ c. rw c.in-1.is c.access.ensures)
+    (λ c. rw c.in-2.is c.access-in-2.ensures)
+    (λ c. rw c.in-3.is c.access-in-3.ensures)
+    (λ c. rw c.in-4.is c.access-in-4.ensures)
+    (λ c. rw c.in-5.is c.access-in-5.ensures)
+    (λ c. rw c.in-6.is c.access-in-6.ensures)
+    (λ c. rw c.in-7.is c.barrier.ensures)
+    (λ c. rw c.in-8.is c.barrier-in-8.ensures)
+    (λ c. rw c.in-9.is c.barrier-in-9.ensures)
+    (λ c. rw c.in-10.is c.access-in-10.ensures)
+    (λ c. rw c.in-11.is c.access-in-11.ensures)
+    (λ c. c.no_kind.ensures ∙ sym (no_row _ (beyond 11 _ c.in_default.in_default-own.rest))))

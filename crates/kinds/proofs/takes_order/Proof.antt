@@ -6,9 +6,9 @@ use borrow.Author.Rules.{rules}
 use Rattle.kinds.proofs.takes_order.Statement.{statement}
 use Rattle.kinds.proofs.takes_order.Tie as tie
 
-pub takes-order-spec : {M : Type 1} → statement M
+pub takes_order_spec : {M : Type 1} → statement M
 unfolding takes
-takes-order-spec =
+takes_order_spec =
     tie.close
     (tie.spec
     (search rules)
@@ -23,15 +23,10 @@ takes-order-spec =
     (search rules)
     (search rules)
     (search rules)
-    (search rules)
-    (search rules)
-    (search rules)
-    (search rules)
-    (search rules)
-    (λ c. rw c.enum_told.given.1 (sym (or-false _)))
-    (λ c. rw c.before.before.enum-told2.given.1 c.is-in.ensures)
-    (λ c. rw c.before.before.enum-told3.given.1 c.is-in2.ensures)
-    (λ c. rw c.before.before.enum-told4.given.1 c.is-in3.ensures)
-    (λ c. rw c.before.before.enum-told5.given.1 c.is-in4.ensures)
-    (λ c. rw c.before.before.enum-told6.given.1 c.is-in5.ensures)
-    (λ c. rw c.enum-told7.given.1))
+    (λ c. rw c.in-Bare.is (sym (or-false _)))
+    (λ c. rw c.in-Marks.is c.is_in.ensures)
+    (λ c. rw c.in-Reads.is c.is_in-in-Reads.ensures)
+    (λ c. rw c.in-Writes.is c.is_in-in-Writes.ensures)
+    (λ c. rw c.in-Updates.is c.is_in-in-Updates.ensures)
+    (λ c. rw c.in-Fences.is c.is_in-in-Fences.ensures)
+    (λ c. rw c.in-NoKind.is))
