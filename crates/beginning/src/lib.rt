@@ -1,4 +1,6 @@
 // The beginning of a run on texts: a check and, if it accepts, the run of the source's events, and how many steps it has.
+#![tactic(auto)]
+
 mod cost;
 mod tag;
 

@@ -1,4 +1,6 @@
 // Checks the files of the examples as the program does, then runs every vector of every file of vectors and prints which differ.
+#![tactic(auto)]
+
 mod back;
 mod check;
 mod lent;

@@ -1,4 +1,6 @@
 // What a step makes of a trace, by the rules alone: no function here is handed a matching or its entries.
+#![tactic(auto)]
+
 pub mod allowed;
 mod change;
 mod tag;
@@ -14,7 +16,7 @@ use event::{EVENT_LIMIT, PLACES, Word};
 use memory::listed::Listed;
 
 // A step of a run: places count from 1 in the trace as it stands, `number` is the source event's; an inserted event's place is its target number.
-#[derive(Drop)]
+#[derive(Clone, Copy)]
 pub enum Step {
     Remove { place: usize, number: usize },
     Swap { place: usize },
@@ -24,14 +26,14 @@ pub enum Step {
 }
 
 // A run: whether it has begun, and how many events stand. Which these are the lent array says, in order.
-#[derive(Drop)]
+#[derive(Clone, Copy)]
 pub struct Run {
     pub begun: bool,
     pub standing: usize,
 }
 
 // What comes of a step: the run after it, and whether it was allowed.
-#[derive(Drop)]
+#[derive(Clone, Copy)]
 pub struct Applied {
     pub run: Run,
     pub allowed: bool,

@@ -1,4 +1,6 @@
 // The check of a matching between two trace texts, with a list of registers too (`check_listed`), and the line at fault.
+#![tactic(auto)]
+
 pub mod line;
 
 ghost use Rattle.std.specs.Prelude.{◌≡◌, ◌*◌, ◌≤◌, length, take};

@@ -27,7 +27,7 @@ use text::line::{LineStep, next_line};
 use trace::form::form_of;
 
 // A part of a text, from one place to another.
-#[derive(Drop)]
+#[derive(Clone, Copy)]
 pub struct Span {
     pub from: usize,
     pub to: usize,

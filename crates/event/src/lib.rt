@@ -1,4 +1,6 @@
 // The alphabet of a trace: words, events, answers; events in a room (`room`).
+#![tactic(auto)]
+
 pub mod room;
 
 ghost use Rattle.std.specs.Prelude.{◌≡◌};
@@ -23,7 +25,7 @@ pub const EVENT_LIMIT: usize = 800;
 pub const WORDS: usize = 6;
 
 // An event. `place` is a location or a mutex; `order` an order's number or a load's mark; a field that the kind lacks is 0.
-#[derive(Drop)]
+#[derive(Clone, Copy)]
 pub struct Event {
     pub kind: Word,
     pub place: Word,
@@ -34,7 +36,7 @@ pub struct Event {
 }
 
 // What comes back: document 01's number, the side (0 none, 1 source, 2 target, 3 matching, 4 list) and the place.
-#[derive(Drop)]
+#[derive(Clone, Copy)]
 pub struct Answer {
     pub number: Number,
     pub side: Number,

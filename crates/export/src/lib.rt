@@ -1,5 +1,7 @@
 // The library for C and Rust: reading, writing, moving, shortening, checking and the line at fault, on numbers, slices and arrays.
 // `door/laprunto.h` declares them for C; a slice is a pointer and a length there, an array a pointer.
+#![tactic(auto)]
+
 pub mod listed;
 pub mod run;
 pub mod short;

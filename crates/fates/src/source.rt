@@ -76,7 +76,7 @@ fn top_after(n: Entry, top: Entry) -> Entry
 }
 
 // What the arrays hold of an event's location: no access since the last synchronising event; a store there is closing.
-#[derive(Drop)]
+#[derive(Clone, Copy)]
 pub struct Cell {
     pub fresh: bool,
     pub closing: bool,
@@ -91,7 +91,7 @@ impl Cell {
 }
 
 // A location's witness: whether there is one, and its value.
-#[derive(Drop)]
+#[derive(Clone, Copy)]
 pub struct Witness {
     pub present: bool,
     pub value: Word,
@@ -106,7 +106,7 @@ impl Witness {
 }
 
 // The greatest target numbers so far: of all kept events, of the synchronising ones, and of those at the event's location.
-#[derive(Drop)]
+#[derive(Clone, Copy)]
 pub struct Tops {
     pub all: Entry,
     pub walls: Entry,

@@ -1,5 +1,7 @@
 // What the programs share: the words of a call, the list that they name, files by name, the lines that are printed, the check of three texts, its run, the
 // move of one and the shortening of one.
+#![tactic(auto)]
+
 pub mod args;
 mod check;
 pub mod list;

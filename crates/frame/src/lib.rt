@@ -1,4 +1,6 @@
 // What the reading of every text begins with: its size, and line 1.
+#![tactic(auto)]
+
 ghost use Rattle.std.specs.Prelude.{◌≡◌};
 ghost use Rattle.frame.specs.Reading.{headed, head_fault};
 ghost use Rattle.text.specs.Line.{split};

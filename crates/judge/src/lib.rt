@@ -1,4 +1,6 @@
 // The judge: the answer to two traces and a matching that were read, 7 to 16, in a pass or two for each question, under a list of registers.
+#![tactic(auto)]
+
 pub mod entries;
 pub mod marks;
 pub mod start;

@@ -1,5 +1,7 @@
 // The fixed table: a kind's number decides all that a kind is, its orders, its place, its values and how wide they are, whether it reads, what
 // it sets and whether it synchronises.
+#![tactic(auto)]
+
 ghost use Rattle.std.specs.Prelude.{◌≡◌};
 ghost use Rattle.laws.specs.Has.{has};
 ghost use Rattle.kinds.specs.Kind.{access_row, barrier_row, no_kind, row, takes, fits_place, fits_values, last_of, in_range, made, lawful, is_marks, is_load_kind, is_location, plain};
@@ -7,7 +9,7 @@ ghost use Rattle.kinds.specs.Kind.{access_row, barrier_row, no_kind, row, takes,
 use event::{Event, Word};
 
 // The lists of orders that document 01 names.
-#[derive(Drop)]
+#[derive(Clone, Copy)]
 pub enum Orders {
     // none at all
     Bare,
@@ -26,7 +28,7 @@ pub enum Orders {
 }
 
 // What `place` of an event is.
-#[derive(Drop)]
+#[derive(Clone, Copy)]
 pub enum Place {
     Location,
     Mutex,
@@ -34,14 +36,14 @@ pub enum Place {
 }
 
 // How wide a value is.
-#[derive(Drop)]
+#[derive(Clone, Copy)]
 pub enum Width {
     Bits32,
     Bits64,
 }
 
 // What an event sets its cell to.
-#[derive(Drop)]
+#[derive(Clone, Copy)]
 pub enum Sets {
     Nothing,
     First,
@@ -51,7 +53,7 @@ pub enum Sets {
 }
 
 // A row of the table.
-#[derive(Drop)]
+#[derive(Clone, Copy)]
 pub struct Row {
     pub orders: Orders,
     pub place: Place,

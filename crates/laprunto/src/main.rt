@@ -1,4 +1,6 @@
 // The program: three file names, source, target and matching, and the options `--list` with a fourth and `--group`. It prints the answer and, if there is one, the offending line.
+#![tactic(auto)]
+
 use files::program::{Wanted, judge_named};
 
 fn main() {

@@ -1,4 +1,6 @@
 // The program: a form, 1 or 2, the name of a trace and the name of a file to write, and the options `--list` with the name of a list and `--group`. It moves the trace to the form and prints the answer.
+#![tactic(auto)]
+
 use files::args::{is_short, options_of, print_usage};
 use files::list::list_given;
 use files::moving::move_file;

@@ -1,5 +1,7 @@
 // The program: the name of a trace and the names of two files to write, and the options `--list` with the name of a list and `--group`. It shortens the trace for the shelf,
 // writes the shortened text and the matching from the long one to it, and prints the answer.
+#![tactic(auto)]
+
 use files::args::{is_short, options_of};
 use files::list::list_given;
 use files::shortening::shorten_file;

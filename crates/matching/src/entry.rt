@@ -13,7 +13,7 @@ use text::word::same_bytes;
 const LAST_NUMBER: u64 = EVENT_LIMIT as u64;
 
 // The kept target number, or 0 for gone.
-#[derive(Drop)]
+#[derive(Clone, Copy)]
 pub enum EntryRead {
     Entry(Entry),
     Refused,

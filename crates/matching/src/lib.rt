@@ -1,4 +1,6 @@
 // Matching texts, read into a room: an entry to a word. A text is judged in one pass and stored in a second, so that a refusal stores nothing.
+#![tactic(auto)]
+
 pub mod entry;
 
 ghost use Rattle.std.specs.Prelude.{◌≡◌, ◌+◌, ◌≤◌, ◌<◌, length, set};

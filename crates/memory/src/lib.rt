@@ -1,4 +1,6 @@
 // The memory of a trace: 256 cells, which take one event at a time; and which of them are registers (`listed`).
+#![tactic(auto)]
+
 pub mod listed;
 
 ghost use Rattle.std.specs.Prelude.{◌≡◌, true, if◌then◌else◌, ◌==◌};

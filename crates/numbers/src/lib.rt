@@ -1,4 +1,6 @@
 // How what the library hands back lies in the arrays of numbers that C and Rust lend: answers and counts, forms, marks, runs and steps; and back.
+#![tactic(auto)]
+
 ghost use Rattle.std.specs.Prelude.{◌≡◌};
 ghost use Rattle.numbers.specs.Numbers.{
   answer_numbers,

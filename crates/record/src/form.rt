@@ -4,7 +4,7 @@ ghost use Rattle.record.specs.Form.{coded, limit_of, loses, silent};
 
 use event::Word;
 
-#[derive(Drop)]
+#[derive(Clone, Copy)]
 pub enum Form {
     One,
     Two,

@@ -1,4 +1,6 @@
 // What a line of a trace is: a starting value, an event, or not of the layout. Its fields come through the small reader.
+#![tactic(auto)]
+
 pub mod form;
 pub mod part;
 pub mod shape;
@@ -21,7 +23,7 @@ use text::word::same_bytes;
 use word::kind_of;
 
 // A line as it was read.
-#[derive(Drop)]
+#[derive(Clone, Copy)]
 pub enum Record {
     Init { place: Word, value: Word },
     AnEvent(Event),

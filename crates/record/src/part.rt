@@ -9,7 +9,7 @@ use text::number::{NumberRead, number_of};
 use text::reader::field_of;
 
 // A field's number, with the place of the next field.
-#[derive(Drop)]
+#[derive(Clone, Copy)]
 pub enum Part {
     Given { value: Word, next: usize },
     Bad,

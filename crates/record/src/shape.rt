@@ -7,7 +7,7 @@ use event::Word;
 use kinds::{Orders, Place, is_marks, row_of};
 
 // The fields in their order, and whether they are there.
-#[derive(Drop)]
+#[derive(Clone, Copy)]
 pub struct Shape {
     pub place: bool,
     pub order: bool,

@@ -1,4 +1,6 @@
 // Lists of registers, read for one group into a mark for each location. Nothing is lent: the marks are handed back, and none is set under a refusal.
+#![tactic(auto)]
+
 pub mod reg;
 
 ghost use Rattle.std.specs.Prelude.{◌||◌, ◌≡◌, ◌≤◌, leb, ltb};

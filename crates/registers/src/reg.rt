@@ -14,13 +14,13 @@ use text::word::same_bytes;
 pub const LAST_GROUP: Word = 2;
 
 // A location that is a register of a group.
-#[derive(Drop)]
+#[derive(Clone, Copy)]
 pub struct Register {
     pub group: Word,
     pub location: Word,
 }
 
-#[derive(Drop)]
+#[derive(Clone, Copy)]
 pub enum RegRead {
     Reg(Register),
     Refused,

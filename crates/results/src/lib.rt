@@ -1,4 +1,6 @@
 // What the library hands back, laid into the arrays that C and Rust lend: one function for each kind of result, with a list or without.
+#![tactic(auto)]
+
 ghost use Rattle.std.specs.Prelude.{◌≡◌};
 ghost use Rattle.numbers.specs.Numbers.{flag, run_numbers};
 ghost use Rattle.results.specs.Results.{check_numbers, matching_numbers, shortened_numbers, start_numbers, trace_numbers};

@@ -7,7 +7,7 @@ use record::{Record, record_of};
 use text::line::{LineStep, next_line};
 
 // The next event and the place after its line, or that none is left.
-#[derive(Drop)]
+#[derive(Clone, Copy)]
 pub enum EventStep {
     Found { event: Event, next: usize },
     NoEvent,

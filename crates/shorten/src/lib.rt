@@ -1,5 +1,7 @@
 // Trace texts shortened for the shelf (`shorten`), with a list of registers too (`shorten_listed`): the shortened text, and the matching text from the
 // long one to it. No room of events is lent or kept.
+#![tactic(auto)]
+
 pub mod ahead;
 pub mod stay;
 pub mod write;

@@ -1,4 +1,6 @@
 // What the rules see of an event, and whether its entry says that it is gone.
+#![tactic(auto)]
+
 ghost use Rattle.std.specs.Prelude.{◌≡◌, ◌&&◌, ◌||◌};
 ghost use Rattle.rules.specs.Fault.{is_gone};
 ghost use Rattle.rules.specs.View.{view, view_in, same, is_wall, is_load};

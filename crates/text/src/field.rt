@@ -8,7 +8,7 @@ use super::scan::find;
 // The byte between two fields.
 pub const TAB: u8 = 9;
 
-#[derive(Drop)]
+#[derive(Clone, Copy)]
 pub enum FieldStep {
     Field { from: usize, to: usize },
     LineEnd,

@@ -1,4 +1,6 @@
 // A text cut into lines, a line into fields, and a field read as a number or as a word; and numbers written.
+#![tactic(auto)]
+
 pub mod field;
 pub mod line;
 pub mod number;

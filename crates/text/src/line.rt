@@ -7,7 +7,7 @@ use super::scan::find;
 // The byte that ends a line.
 pub const LF: u8 = 10;
 
-#[derive(Drop)]
+#[derive(Clone, Copy)]
 pub enum LineStep {
     Line { to: usize },
     TextEnd,

@@ -9,7 +9,7 @@ pub const NINE: u8 = 57;
 
 pub const BASE: u64 = 10;
 
-#[derive(Drop)]
+#[derive(Clone, Copy)]
 pub enum NumberRead {
     Value(u64),
     Malformed,

@@ -4,7 +4,7 @@ ghost use Rattle.text.specs.Field.{field_at};
 
 use super::field::{FieldStep, field_at};
 
-#[derive(Drop)]
+#[derive(Clone, Copy)]
 pub struct Reader<'a> {
     pub text: &'a [u8],
     pub at: usize,

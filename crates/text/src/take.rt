@@ -7,7 +7,7 @@ use super::field::FieldStep;
 use super::number::{NumberRead, number_of};
 use super::reader::field_of;
 
-#[derive(Drop)]
+#[derive(Clone, Copy)]
 pub enum Taken {
     Number { value: u64, next: usize },
     Bad,

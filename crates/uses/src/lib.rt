@@ -1,4 +1,6 @@
 // How the events of a trace use its locations, which decides answer 5, and 20 and 21 (`cover`): a number for each location tells it.
+#![tactic(auto)]
+
 pub mod cover;
 
 ghost use Rattle.std.specs.Prelude.{◌≡◌, ◌||◌, ◌<◌};

@@ -1,5 +1,7 @@
 // Trace texts written from a room (`write`) and moved from one form to the other (`moving::move_to`); each with a list of registers too (`write_listed`,
 // `moving::move_listed`).
+#![tactic(auto)]
+
 pub mod moving;
 pub mod put;
 pub mod touch;

@@ -2,5 +2,5 @@
 use Rattle.memory.proofs.is_latest.Statement.{statement}
 use Rattle.memory.proofs.is_latest.Tie as tie
 
-pub is-latest-spec : {M : Type 1} → statement M
-is-latest-spec = tie.close (tie.spec (λ c. rw c.if1.true) (λ c. rw c.if1.false))
+pub is_latest_spec : {M : Type 1} → statement M
+is_latest_spec = tie.close (tie.spec (λ c. rw c.if-reads.true) (λ c. rw c.if-reads.false))

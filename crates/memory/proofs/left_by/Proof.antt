@@ -3,9 +3,9 @@ use Rattle.std.proofs.Common.{rules}
 use Rattle.memory.proofs.left_by.Statement.{statement}
 use Rattle.memory.proofs.left_by.Tie as tie
 
-pub left-by-spec : {M : Type 1} → statement M
-left-by-spec =
+pub left_by_spec : {M : Type 1} → statement M
+left_by_spec =
     tie.close
-    (tie.spec (search rules) (search rules) (search rules) (search rules) (search rules) (λ c. rw c.enum_told.given.1)
-    (λ c. rw c.enum-told2.given.1) (λ c. rw c.enum-told3.given.1)
-    (λ c. rw (c.before.enum-told4.given.1, c.sum.ensures)))
+    (tie.spec (search rules) (search rules) (search rules) (search rules) (search rules) (λ c. rw c.in-Nothing.is)
+    (λ c. rw c.in-First.is) (λ c. rw c.in-Second.is)
+    (λ c. rw (c.in-Sum.is, c.sum.ensures)))

@@ -5,7 +5,7 @@ use Rattle.memory.proofs.sum_32.Statement.{statement}
 use Rattle.memory.proofs.sum_32.Tie as tie
 
 returns : tie.Need-returns
-returns c = rw c.sum_64.ensures (wraps_narrow 32 64 c.before.args.a c.before.args.b (omega arith))
+returns c = rw c.sum_64.ensures (wraps_narrow 32 64 c.args.a c.args.b (omega arith))
 
-pub sum-32-spec : {M : Type 1} → statement M
-sum-32-spec = tie.close (tie.spec (search rules) returns)
+pub sum_32_spec : {M : Type 1} → statement M
+sum_32_spec = tie.close (tie.spec (search rules) returns)

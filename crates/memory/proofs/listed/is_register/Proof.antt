@@ -3,11 +3,11 @@ use Rattle.std.proofs.Common.{sym, ◌∙◌, rules}
 use Rattle.memory.proofs.listed.is_register.Statement.{statement}
 use Rattle.memory.proofs.listed.is_register.Tie as tie
 
-returns : tie.Need-returns
-returns c = rw (sym c.before.before.is_plain.ensures ∙ c.before.if1.true) c.is-listed.ensures
+returns : tie.Need-returns-then-is_plain
+returns c = rw (sym c.is_plain.ensures ∙ c.if-is_plain.true) c.is_listed.ensures
 
-returns-2 : tie.Need-returns-2
-returns-2 c = rw (sym c.before.is_plain.ensures ∙ c.if1.false)
+returns-2 : tie.Need-returns
+returns-2 c = rw (sym c.is_plain.ensures ∙ c.if-is_plain.false)
 
-pub is-register-spec : {M : Type 1} → statement M
-is-register-spec = tie.close (tie.spec (search rules) (search rules) returns returns-2)
+pub is_register_spec : {M : Type 1} → statement M
+is_register_spec = tie.close (tie.spec (search rules) (search rules) returns returns-2)

@@ -5,13 +5,13 @@ use Rattle.text.specs.Field.{field_at}
 use Rattle.text.proofs.field.field_at.Statement.{statement}
 use Rattle.text.proofs.field.field_at.Tie as tie
 
-returns : tie.Need-returns
+returns : tie.Need-returns-then-line-at
 unfolding field_at
-returns c = rw (lt-ltb _ _ c.if1.true)
+returns c = rw (lt-ltb _ _ c.if-line-at.true)
 
-returns-2 : tie.Need-returns-2
+returns-2 : tie.Need-returns
 unfolding field_at
-returns-2 c = rw (le-ltb _ _ c.before.if1.false, c.field-end.ensures)
+returns-2 c = rw (le-ltb _ _ c.if-line-at.false, c.field_end-to.ensures)
 
-pub field-at-spec : {M : Type 1} → statement M
-field-at-spec = tie.close (tie.spec returns (search rules) returns-2)
+pub field_at_spec : {M : Type 1} → statement M
+field_at_spec = tie.close (tie.spec returns (search rules) returns-2)

@@ -5,13 +5,13 @@ use Rattle.text.specs.Line.{line_at}
 use Rattle.text.proofs.line.next_line.Statement.{statement}
 use Rattle.text.proofs.line.next_line.Tie as tie
 
-returns : tie.Need-returns
+returns : tie.Need-returns-then-text-to
 unfolding line_at
-returns c = rw (← c.before.find.ensures, le-ltb _ _ c.if1.true)
+returns c = rw (← c.find-to.ensures, le-ltb _ _ c.if-text-to.true)
 
-returns-2 : tie.Need-returns-2
+returns-2 : tie.Need-returns
 unfolding line_at
-returns-2 c = rw (← c.before.find.ensures, lt-ltb _ _ c.if1.false)
+returns-2 c = rw (← c.find-to.ensures, lt-ltb _ _ c.if-text-to.false)
 
-pub next-line-spec : {M : Type 1} → statement M
-next-line-spec = tie.close (tie.spec (search rules) returns returns-2)
+pub next_line_spec : {M : Type 1} → statement M
+next_line_spec = tie.close (tie.spec (search rules) returns returns-2)

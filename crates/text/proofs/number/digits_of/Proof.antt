@@ -10,54 +10,54 @@ use Rattle.text.proofs.Numbers.{low, high, digit, on_bad, on_big, on_go, on_end_
 use Rattle.text.proofs.number.digits_of.Statement.{statement}
 use Rattle.text.proofs.number.digits_of.Tie as tie
 
-abbrev invariant-loop : tie.invariant-loop
+abbrev invariant-loop : tie.invariant-loop-i
 invariant-loop s max n₀ i₀ n i = (digits_on max 0 s ≡ digits_on max n (drop i s)) × (n ≤ max)
 
-abbrev decreases-loop : tie.decreases-loop
+abbrev decreases-loop : tie.decreases-loop-i
 decreases-loop s max n₀ i₀ n i = length s - i
 
-loop-holds : tie.Need-loop-init invariant-loop decreases-loop
+loop-holds : tie.Need-loop-i-init invariant-loop decreases-loop
 loop-holds c = (refl, omega arith)
 
-returns : tie.Need-returns invariant-loop decreases-loop
+returns : tie.Need-returns-then-b-lt-ZERO invariant-loop decreases-loop
 returns c =
     let k = c.before.before.before in
-    let a = k.before.before.args in
-    sym (k.loop.invariant.0 ∙ on_bad a.max k.loop.n a.s.now k.loop.i (omega arith) (low _ c.if1.true))
+    let a = k.args in
+    sym (k.loop-i.invariant.0 ∙ on_bad a.max k.loop-i.n a.s.now k.loop-i.i (omega arith) (low _ c.if-b-lt-ZERO.true))
 
-returns-2 : tie.Need-returns-2 invariant-loop decreases-loop
+returns-2 : tie.Need-returns-then-b-gt-NINE invariant-loop decreases-loop
 returns-2 c =
     let k = c.before.before.before.before in
-    let a = k.before.before.args in
-    sym (k.loop.invariant.0 ∙ on_bad a.max k.loop.n a.s.now k.loop.i (omega arith) (high _ c.if2.true))
+    let a = k.args in
+    sym (k.loop-i.invariant.0 ∙ on_bad a.max k.loop-i.n a.s.now k.loop-i.i (omega arith) (high _ c.if-b-gt-NINE.true))
 
-returns-3 : tie.Need-returns-3 invariant-loop decreases-loop
+returns-3 : tie.Need-returns-then-max-d invariant-loop decreases-loop
 returns-3 c =
     let k = c.before.before.before.before.before.before in
-    let a = k.before.before.args in
-    sym (k.loop.invariant.0 ∙ on_big a.max k.loop.n a.s.now k.loop.i (omega arith) (omega arith))
+    let a = k.args in
+    sym (k.loop-i.invariant.0 ∙ on_big a.max k.loop-i.n a.s.now k.loop-i.i (omega arith) (omega arith))
 
-returns-4 : tie.Need-returns-4 invariant-loop decreases-loop
+returns-4 : tie.Need-returns-then-max-d-2 invariant-loop decreases-loop
 returns-4 c =
     let k = c.before.before.before.before.before.before.before in
-    let a = k.before.before.args in
-    sym (k.loop.invariant.0 ∙ on_big a.max k.loop.n a.s.now k.loop.i (omega arith) (omega arith))
+    let a = k.args in
+    sym (k.loop-i.invariant.0 ∙ on_big a.max k.loop-i.n a.s.now k.loop-i.i (omega arith) (omega arith))
 
-loop-again : tie.Need-loop-preserved invariant-loop decreases-loop
+loop-again : tie.Need-loop-i-preserved invariant-loop decreases-loop
 loop-again c =
     let k = c.before.before.before.before.before.before.before in
-    let a = k.before.before.args in
-    let d = digit _ c.before.before.before.before.if1.false c.before.before.before.if2.false in
-    (rw c.before.before.wide.ensures (k.loop.invariant.0 ∙ on_go a.max k.loop.n a.s.now k.loop.i (omega arith) d), omega arith)
+    let a = k.args in
+    let d = digit _ c.if-b-lt-ZERO.false c.if-b-gt-NINE.false in
+    (rw c.wide-d.ensures (k.loop-i.invariant.0 ∙ on_go a.max k.loop-i.n a.s.now k.loop-i.i (omega arith) d), omega arith)
 
-returns-5 : tie.Need-returns-5 invariant-loop decreases-loop
+returns-5 : tie.Need-returns invariant-loop decreases-loop
 returns-5 c =
     let k = c.before in
-    let a = k.before.before.args in
-    sym (k.loop.invariant.0 ∙ on_end_lem a.max k.loop.n a.s.now k.loop.i (omega arith) (omega arith))
+    let a = k.args in
+    sym (k.loop-i.invariant.0 ∙ on_end_lem a.max k.loop-i.n a.s.now k.loop-i.i (omega arith) (omega arith))
 
-pub digits-of-spec : {M : Type 1} → statement M
-digits-of-spec =
+pub digits_of_spec : {M : Type 1} → statement M
+digits_of_spec =
     tie.close
     (tie.spec
     invariant-loop

@@ -9,32 +9,32 @@ use Rattle.text.proofs.Cuts.{until_stop, until_go, until_out}
 use Rattle.text.proofs.scan.find_singly.Statement.{statement}
 use Rattle.text.proofs.scan.find_singly.Tie as tie
 
-abbrev invariant-loop : tie.invariant-loop
+abbrev invariant-loop : tie.invariant-loop-i
 invariant-loop text from stop i₀ i = from + until stop (drop from text) ≡ i + until stop (drop i text)
 
-abbrev decreases-loop : tie.decreases-loop
+abbrev decreases-loop : tie.decreases-loop-i
 decreases-loop text from stop i₀ i = length text - i
 
-loop-holds : tie.Need-loop-init invariant-loop decreases-loop
+loop-holds : tie.Need-loop-i-init invariant-loop decreases-loop
 loop-holds c = refl
 
-returns : tie.Need-returns invariant-loop decreases-loop
+returns : tie.Need-returns-then-text-i invariant-loop decreases-loop
 returns c =
-    let a = c.before.before.before.before.args in
-    omega (arith, until_stop a.stop a.text.now c.before.before.before.loop.i (omega arith) c.if1.true)
+    let a = c.args in
+    omega (arith, until_stop a.stop a.text.now c.loop-i.i (omega arith) c.if-text-i.true)
 
-loop-again : tie.Need-loop-preserved invariant-loop decreases-loop
+loop-again : tie.Need-loop-i-preserved invariant-loop decreases-loop
 loop-again c =
-    let a = c.before.before.before.before.args in
-    omega (arith, until_go a.stop a.text.now c.before.before.before.loop.i (omega arith) c.if1.false)
+    let a = c.args in
+    omega (arith, until_go a.stop a.text.now c.loop-i.i (omega arith) c.if-text-i.false)
 
-returns-2 : tie.Need-returns-2 invariant-loop decreases-loop
+returns-2 : tie.Need-returns invariant-loop decreases-loop
 returns-2 c =
-    let a = c.before.before.args in
-    omega (arith, until_out a.stop a.text.now c.before.loop.i (omega arith))
+    let a = c.args in
+    omega (arith, until_out a.stop a.text.now c.loop-i.i (omega arith))
 
-pub find-singly-spec : {M : Type 1} → statement M
-find-singly-spec =
+pub find_singly_spec : {M : Type 1} → statement M
+find_singly_spec =
     tie.close
     (tie.spec
     invariant-loop

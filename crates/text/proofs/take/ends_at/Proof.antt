@@ -7,13 +7,13 @@ use Rattle.text.proofs.Fields.{line_end, field_step}
 use Rattle.text.proofs.take.ends_at.Statement.{statement}
 use Rattle.text.proofs.take.ends_at.Tie as tie
 
-returns : tie.Need-returns
+returns : tie.Need-returns-in-LineEnd
 unfolding ends_at
-returns c = rw (line_end _ _ (sym c.before.before.field_of.ensures ∙ c.enum_told.given.1))
+returns c = rw (line_end _ _ (sym c.field_of.ensures ∙ c.in-LineEnd.is))
 
-returns-2 : tie.Need-returns-2
+returns-2 : tie.Need-returns-in-Field
 unfolding ends_at
-returns-2 c = rw (field_step _ _ _ _ (sym c.before.before.field_of.ensures ∙ c.enum-told2.given.1))
+returns-2 c = rw (field_step _ _ _ _ (sym c.field_of.ensures ∙ c.in-Field.is))
 
-pub ends-at-spec : {M : Type 1} → statement M
-ends-at-spec = tie.close (tie.spec (search rules) (search rules) (search rules) returns returns-2)
+pub ends_at_spec : {M : Type 1} → statement M
+ends_at_spec = tie.close (tie.spec (search rules) (search rules) (search rules) returns returns-2)

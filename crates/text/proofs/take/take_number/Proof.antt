@@ -8,32 +8,32 @@ use Rattle.text.proofs.Fields.{field_in}
 use Rattle.text.proofs.take.take_number.Statement.{statement}
 use Rattle.text.proofs.take.take_number.Tie as tie
 
-returns : tie.Need-returns
+returns : tie.Need-returns-in_default
 unfolding take_number
-returns c = rw (← c.before.before.field_of.ensures, c.enum_told.given.1)
+returns c = rw (← c.field_of.ensures, c.in_default.is)
 
-number-at-requires : tie.Need-number-at-requires
-number-at-requires c κs = field_in _ _ _ _ (sym c.before.before.before.field_of.ensures ∙ c.before.from.given.1)
+number-at-requires : tie.Need-number_at-requires
+number-at-requires c κs = field_in _ _ _ _ (sym c.field_of.ensures ∙ c.in-Field.is)
 
-returns-2 : tie.Need-returns-2
+returns-2 : tie.Need-returns-in_default-number_at
 unfolding take_number
 returns-2 c =
     let k = c.before.before.before.before in
-    rw (← k.before.before.field_of.ensures, k.from.given.1, ← c.before.before.number_at_lem.ensures, c.enum-told2.given.1)
+    rw (← k.field_of.ensures, k.in-Field.is, ← c.number_at.ensures, c.in_default-number_at.is)
 
 add-t9 : tie.Need-overflow-add-t9
 add-t9 c =
     let k = c.before.before.before.before.before in
-    omega (arith, field_in _ _ _ _ (sym k.before.before.field_of.ensures ∙ k.from.given.1))
+    omega (arith, field_in _ _ _ _ (sym k.field_of.ensures ∙ k.in-Field.is))
 
-returns-3 : tie.Need-returns-3
+returns-3 : tie.Need-returns
 unfolding take_number
 returns-3 c =
     let k = c.before.before.before.before.before in
-    rw (← k.before.before.field_of.ensures, k.from.given.1, ← c.before.before.before.number_at_lem.ensures, c.before.value.given.1)
+    rw (← k.field_of.ensures, k.in-Field.is, ← c.number_at.ensures, c.in-Value.is)
 
-pub take-number-spec : {M : Type 1} → statement M
-take-number-spec =
+pub take_number_spec : {M : Type 1} → statement M
+take_number_spec =
     tie.close
     (tie.spec
     (search rules)

@@ -8,38 +8,38 @@ use Rattle.text.proofs.Words.{same_len, same_end, same_go, same_no}
 use Rattle.text.proofs.word.same_bytes.Statement.{statement}
 use Rattle.text.proofs.word.same_bytes.Tie as tie
 
-abbrev invariant-loop : tie.invariant-loop
+abbrev invariant-loop : tie.invariant-loop-i
 invariant-loop a b i₀ i = same_bytes a b ≡ same_bytes (drop i a) (drop i b)
 
-abbrev decreases-loop : tie.decreases-loop
+abbrev decreases-loop : tie.decreases-loop-i
 decreases-loop a b i₀ i = length a - i
 
-returns : tie.Need-returns invariant-loop decreases-loop
-returns c = sym (same_len _ _ c.if1.true)
+returns : tie.Need-returns-then-a-b invariant-loop decreases-loop
+returns c = sym (same_len _ _ c.if-a-b.true)
 
-loop-holds : tie.Need-loop-init invariant-loop decreases-loop
+loop-holds : tie.Need-loop-i-init invariant-loop decreases-loop
 loop-holds c = refl
 
-returns-2 : tie.Need-returns-2 invariant-loop decreases-loop
+returns-2 : tie.Need-returns-then-a-i invariant-loop decreases-loop
 returns-2 c =
     let k = c.before.before.before.before in
-    let a = k.before.before.args in
-    sym (k.loop.invariant ∙ same_no a.a.now a.b.now k.loop.i (omega arith) (omega arith) c.if2.true)
+    let a = k.args in
+    sym (k.loop-i.invariant ∙ same_no a.a.now a.b.now k.loop-i.i (omega arith) (omega arith) c.if-a-i.true)
 
-loop-again : tie.Need-loop-preserved invariant-loop decreases-loop
+loop-again : tie.Need-loop-i-preserved invariant-loop decreases-loop
 loop-again c =
     let k = c.before.before.before.before in
-    let a = k.before.before.args in
-    k.loop.invariant ∙ same_go a.a.now a.b.now k.loop.i (omega arith) (omega arith) c.if2.false
+    let a = k.args in
+    k.loop-i.invariant ∙ same_go a.a.now a.b.now k.loop-i.i (omega arith) (omega arith) c.if-a-i.false
 
-returns-3 : tie.Need-returns-3 invariant-loop decreases-loop
+returns-3 : tie.Need-returns invariant-loop decreases-loop
 returns-3 c =
     let k = c.before in
-    let a = k.before.before.args in
-    sym (k.loop.invariant ∙ same_end a.a.now a.b.now k.loop.i (omega arith) (omega arith))
+    let a = k.args in
+    sym (k.loop-i.invariant ∙ same_end a.a.now a.b.now k.loop-i.i (omega arith) (omega arith))
 
-pub same-bytes-spec : {M : Type 1} → statement M
-same-bytes-spec =
+pub same_bytes_spec : {M : Type 1} → statement M
+same_bytes_spec =
     tie.close
     (tie.spec
     invariant-loop
