@@ -21,40 +21,34 @@ loop-holds c = (refl, omega arith)
 
 returns : tie.Need-returns-then-b-lt-ZERO invariant-loop decreases-loop
 returns c =
-    let k = c.before.before.before in
-    let a = k.args in
-    sym (k.loop-i.invariant.0 ∙ on_bad a.max k.loop-i.n a.s.now k.loop-i.i (omega arith) (low _ c.if-b-lt-ZERO.true))
+    let a = c.args in
+    sym (c.loop-i.invariant.0 ∙ on_bad a.max c.loop-i.n a.s.now c.loop-i.i (omega arith) (low _ c.if-b-lt-ZERO.true))
 
 returns-2 : tie.Need-returns-then-b-gt-NINE invariant-loop decreases-loop
 returns-2 c =
-    let k = c.before.before.before.before in
-    let a = k.args in
-    sym (k.loop-i.invariant.0 ∙ on_bad a.max k.loop-i.n a.s.now k.loop-i.i (omega arith) (high _ c.if-b-gt-NINE.true))
+    let a = c.args in
+    sym (c.loop-i.invariant.0 ∙ on_bad a.max c.loop-i.n a.s.now c.loop-i.i (omega arith) (high _ c.if-b-gt-NINE.true))
 
 returns-3 : tie.Need-returns-then-max-d invariant-loop decreases-loop
 returns-3 c =
-    let k = c.before.before.before.before.before.before in
-    let a = k.args in
-    sym (k.loop-i.invariant.0 ∙ on_big a.max k.loop-i.n a.s.now k.loop-i.i (omega arith) (omega arith))
+    let a = c.args in
+    sym (c.loop-i.invariant.0 ∙ on_big a.max c.loop-i.n a.s.now c.loop-i.i (omega arith) (omega arith))
 
 returns-4 : tie.Need-returns-then-max-d-2 invariant-loop decreases-loop
 returns-4 c =
-    let k = c.before.before.before.before.before.before.before in
-    let a = k.args in
-    sym (k.loop-i.invariant.0 ∙ on_big a.max k.loop-i.n a.s.now k.loop-i.i (omega arith) (omega arith))
+    let a = c.args in
+    sym (c.loop-i.invariant.0 ∙ on_big a.max c.loop-i.n a.s.now c.loop-i.i (omega arith) (omega arith))
 
 loop-again : tie.Need-loop-i-preserved invariant-loop decreases-loop
 loop-again c =
-    let k = c.before.before.before.before.before.before.before in
-    let a = k.args in
+    let a = c.args in
     let d = digit _ c.if-b-lt-ZERO.false c.if-b-gt-NINE.false in
-    (rw c.wide-d.ensures (k.loop-i.invariant.0 ∙ on_go a.max k.loop-i.n a.s.now k.loop-i.i (omega arith) d), omega arith)
+    (rw c.wide-d.ensures (c.loop-i.invariant.0 ∙ on_go a.max c.loop-i.n a.s.now c.loop-i.i (omega arith) d), omega arith)
 
 returns-5 : tie.Need-returns invariant-loop decreases-loop
 returns-5 c =
-    let k = c.before in
-    let a = k.args in
-    sym (k.loop-i.invariant.0 ∙ on_end_lem a.max k.loop-i.n a.s.now k.loop-i.i (omega arith) (omega arith))
+    let a = c.args in
+    sym (c.loop-i.invariant.0 ∙ on_end_lem a.max c.loop-i.n a.s.now c.loop-i.i (omega arith) (omega arith))
 
 pub digits_of_spec : {M : Type 1} → statement M
 digits_of_spec =

@@ -38,7 +38,7 @@ abbrev whole : tie.At-loop-i invariant-loop decreases-loop → ℕ
 whole l = l.args.from + until (stop l) (drop l.args.from (text l))
 
 past₁ : (c : tie.Else-text-i invariant-loop decreases-loop) → whole (loop₁ c) ≡ answer-on (loop₁ c) 1
-past₁ c = let l = loop₁ c in omega (arith, l.loop-i.inv.1, until_go (stop l) (text l) (at l) (omega arith) c.if-text-i.false)
+past₁ c = let l = loop₁ c in omega (arith, l.loop-i.invariant.1, until_go (stop l) (text l) (at l) (omega arith) c.if-text-i.false)
 
 past₂ : (c : tie.Else-text-i-2 invariant-loop decreases-loop) → whole (loop₁ c.before.before) ≡ answer-on (loop₁ c.before.before) 2
 past₂ c =
@@ -65,7 +65,7 @@ returns c = c.find_singly.ensures
 loop-holds : tie.Need-loop-i-init invariant-loop decreases-loop
 loop-holds c = (omega arith, refl)
 
-sub-loop : tie.Need-overflow-sub-loop invariant-loop decreases-loop
+sub-loop : tie.Need-overflow_sub-text invariant-loop decreases-loop
 sub-loop c = omega (arith, c.loop-i.invariant.0)
 
 returns-2 : tie.Need-returns-then-text-i invariant-loop decreases-loop

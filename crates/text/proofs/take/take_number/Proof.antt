@@ -18,19 +18,16 @@ number-at-requires c κs = field_in _ _ _ _ (sym c.field_of.ensures ∙ c.in-Fie
 returns-2 : tie.Need-returns-in_default-number_at
 unfolding take_number
 returns-2 c =
-    let k = c.before.before.before.before in
-    rw (← k.field_of.ensures, k.in-Field.is, ← c.number_at.ensures, c.in_default-number_at.is)
+    rw (← c.field_of.ensures, c.in-Field.is, ← c.number_at.ensures, c.in_default-number_at.is)
 
-add-t9 : tie.Need-overflow-add-t9
+add-t9 : tie.Need-overflow_add-result
 add-t9 c =
-    let k = c.before.before.before.before.before in
-    omega (arith, field_in _ _ _ _ (sym k.field_of.ensures ∙ k.in-Field.is))
+    omega (arith, field_in _ _ _ _ (sym c.field_of.ensures ∙ c.in-Field.is))
 
 returns-3 : tie.Need-returns
 unfolding take_number
 returns-3 c =
-    let k = c.before.before.before.before.before in
-    rw (← k.field_of.ensures, k.in-Field.is, ← c.number_at.ensures, c.in-Value.is)
+    rw (← c.field_of.ensures, c.in-Field.is, ← c.number_at.ensures, c.in-Value.is)
 
 pub take_number_spec : {M : Type 1} → statement M
 take_number_spec =

@@ -22,21 +22,18 @@ loop-holds c = refl
 
 returns-2 : tie.Need-returns-then-a-i invariant-loop decreases-loop
 returns-2 c =
-    let k = c.before.before.before.before in
-    let a = k.args in
-    sym (k.loop-i.invariant ∙ same_no a.a.now a.b.now k.loop-i.i (omega arith) (omega arith) c.if-a-i.true)
+    let a = c.args in
+    sym (c.loop-i.invariant ∙ same_no a.a.now a.b.now c.loop-i.i (omega arith) (omega arith) c.if-a-i.true)
 
 loop-again : tie.Need-loop-i-preserved invariant-loop decreases-loop
 loop-again c =
-    let k = c.before.before.before.before in
-    let a = k.args in
-    k.loop-i.invariant ∙ same_go a.a.now a.b.now k.loop-i.i (omega arith) (omega arith) c.if-a-i.false
+    let a = c.args in
+    c.loop-i.invariant ∙ same_go a.a.now a.b.now c.loop-i.i (omega arith) (omega arith) c.if-a-i.false
 
 returns-3 : tie.Need-returns invariant-loop decreases-loop
 returns-3 c =
-    let k = c.before in
-    let a = k.args in
-    sym (k.loop-i.invariant ∙ same_end a.a.now a.b.now k.loop-i.i (omega arith) (omega arith))
+    let a = c.args in
+    sym (c.loop-i.invariant ∙ same_end a.a.now a.b.now c.loop-i.i (omega arith) (omega arith))
 
 pub same_bytes_spec : {M : Type 1} → statement M
 same_bytes_spec =

@@ -1,0 +1,5 @@
+-- The measure is the number. Assumes nothing.
+use Rattle.text.proofs.write.+put_number.Given as goal
+
+abbrev pub decreases-put_number : goal.decreases-put_number
+decreases-put_number l = l.n
