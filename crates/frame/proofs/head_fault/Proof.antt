@@ -5,21 +5,19 @@ use Rattle.frame.specs.Reading.{head_fault}
 use Rattle.frame.proofs.head_fault.Statement.{statement}
 use Rattle.frame.proofs.head_fault.Tie as tie
 
-returns : tie.Need-returns
+returns : tie.Need-returns-then-limit-text
 unfolding head_fault
-returns c = rw (lt-ltb _ _ c.before.if1.true) c.new.ensures
+returns c = rw (lt-ltb _ _ c.if-limit-text.true) c.new.ensures
 
-returns-2 : tie.Need-returns-2
+returns-2 : tie.Need-returns-then-is_headed
 unfolding head_fault
 returns-2 c =
-    let h = c.before.before in
-    rw (le-ltb _ _ h.before.if1.false, ← h.is_headed_lem.ensures, c.before.if2.true) c.new2.ensures
+    rw (le-ltb _ _ c.if-limit-text.false, ← c.is_headed.ensures, c.if-is_headed.true) c.new-then-is_headed.ensures
 
-returns-3 : tie.Need-returns-3
+returns-3 : tie.Need-returns
 unfolding head_fault
 returns-3 c =
-    let h = c.before.before in
-    rw (le-ltb _ _ h.before.if1.false, ← h.is_headed_lem.ensures, c.before.if2.false) c.new3.ensures
+    rw (le-ltb _ _ c.if-limit-text.false, ← c.is_headed.ensures, c.if-is_headed.false) c.new-2.ensures
 
-pub head-fault-spec : {M : Type 1} → statement M
-head-fault-spec = tie.close (tie.spec (search rules) returns (search rules) (search rules) returns-2 (search rules) returns-3)
+pub head_fault_spec : {M : Type 1} → statement M
+head_fault_spec = tie.close (tie.spec (search rules) returns (search rules) (search rules) returns-2 (search rules) returns-3)

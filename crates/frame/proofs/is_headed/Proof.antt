@@ -7,22 +7,21 @@ use Rattle.frame.proofs.Heads.{head_line, head_open}
 use Rattle.frame.proofs.is_headed.Statement.{statement}
 use Rattle.frame.proofs.is_headed.Tie as tie
 
-line : (c : tie.After-to) → Next c.before.before.before.before.before.args.text.now 0 c.to.given.0.0
-line c = next _ _ _ (sym c.before.before.next-line.ensures ∙ c.to.given.1)
+line : (c : tie.In-Line) → Next c.args.text.now 0 c.in-Line.to
+line c = next _ _ _ (sym c.next_line.ensures ∙ c.in-Line.is)
 
-returns : tie.Need-returns
-returns c = sym (head_open _ _ (sym c.before.before.next-line.ensures ∙ c.enum_told.given.1))
+returns : tie.Need-returns-in_default
+returns c = sym (head_open _ _ (sym c.next_line.ensures ∙ c.in_default.is))
 
-part-same-bytes-end : tie.Need-slice-bounds-same-bytes-end
-part-same-bytes-end c = omega (arith, line c.before)
+part-same-bytes-end : tie.Need-slice_bounds-same_bytes-end
+part-same-bytes-end c = omega (arith, line c)
 
-returns-2 : tie.Need-returns-2
+returns-2 : tie.Need-returns
 returns-2 c =
-    let l = c.before.before.before in
-    c.same_bytes.ensures ∙ sym (head_line _ _ _ (sym l.before.before.next-line.ensures ∙ l.to.given.1))
+    c.same_bytes.ensures ∙ sym (head_line _ _ _ (sym c.next_line.ensures ∙ c.in-Line.is))
 
-pub is-headed-spec : {M : Type 1} → statement M
-is-headed-spec =
+pub is_headed_spec : {M : Type 1} → statement M
+is_headed_spec =
     tie.close
     (tie.spec
     (search rules)
