@@ -6,13 +6,13 @@ use Rattle.matching.specs.Reading.{refused}
 use Rattle.matching.proofs.survey_in.Statement.{statement}
 use Rattle.matching.proofs.survey_in.Tie as tie
 
-returns : tie.Need-returns
+returns : tie.Need-returns-then-words-entries
 returns c =
-    rw (← c.before.before.before.survey.ensures, lt-leb _ _ c.before.before.if1.true)
-    (c.refusal.ensures ∙ ap refused c.before.new.ensures)
+    rw (← c.survey-surveyed.ensures, lt-leb _ _ c.if-words-entries.true)
+    (c.refusal.ensures ∙ ap refused c.new.ensures)
 
-returns-2 : tie.Need-returns-2
-returns-2 c = rw (← c.before.survey.ensures, le-leb _ _ c.if1.false)
+returns-2 : tie.Need-returns
+returns-2 c = rw (← c.survey-surveyed.ensures, le-leb _ _ c.if-words-entries.false)
 
-pub survey-in-spec : {M : Type 1} → statement M
-survey-in-spec = tie.close (tie.spec (search rules) (search rules) (search rules) returns returns-2)
+pub survey_in_spec : {M : Type 1} → statement M
+survey_in_spec = tie.close (tie.spec (search rules) (search rules) (search rules) returns returns-2)

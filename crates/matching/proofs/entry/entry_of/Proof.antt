@@ -13,77 +13,77 @@ use Rattle.matching.proofs.entry.entry_of.Statement.{statement}
 use Rattle.matching.proofs.entry.entry_of.Tie as tie
 
 -- the first field, and the fields after it
-abbrev this : tie.After-from → List ℕ
-this c = c.before.before.before.before.args.line.now
+abbrev this : tie.In-Field → List ℕ
+this c = c.args.line.now
 
-abbrev start : tie.After-from → ℕ
-start c = c.from.given.0.0
+abbrev start : tie.In-Field → ℕ
+start c = c.in-Field.from
 
-abbrev stop : tie.After-from → ℕ
-stop c = c.from.given.0.1.0
+abbrev stop : tie.In-Field → ℕ
+stop c = c.in-Field.to
 
-found : (c : tie.After-from) → field_at (this c) 0 ≡ Field (start c) (stop c)
-found c = sym c.before.before.field_of.ensures ∙ c.from.given.1
+found : (c : tie.In-Field) → field_at (this c) 0 ≡ Field (start c) (stop c)
+found c = sym c.field_of.ensures ∙ c.in-Field.is
 
-inside : (c : tie.After-from) → (start c ≤ stop c) × (stop c ≤ length (this c))
+inside : (c : tie.In-Field) → (start c ≤ stop c) × (stop c ≤ length (this c))
 inside c = field_in _ _ _ _ (found c)
 
-split_at : (c : tie.After-from) → fields (this c) ≡ take (stop c - start c) (drop (start c) (this c)) ∷ fields_from (this c) (stop c + 1)
+split_at : (c : tie.In-Field) → fields (this c) ≡ take (stop c - start c) (drop (start c) (this c)) ∷ fields_from (this c) (stop c + 1)
 split_at c = sym (fields_start (this c)) ∙ field_step _ _ _ _ (found c)
 
-returns : tie.Need-returns
+returns : tie.Need-returns-in_default
 unfolding entry_of
-returns c = rw (sym (fields_start _) ∙ line_end _ _ (sym c.before.before.field_of.ensures ∙ c.enum_told.given.1))
+returns c = rw (sym (fields_start _) ∙ line_end _ _ (sym c.field_of.ensures ∙ c.in_default.is))
 
-sub_word : tie.Need-overflow-sub-word
-sub_word c = omega (arith, inside c.before)
+sub_word : tie.Need-slice_bounds-word-count
+sub_word c = omega (arith, inside c)
 
-part-word-start : tie.Need-slice-bounds-word-start
-part-word-start c = omega (arith, inside c.before)
+part-word-start : tie.Need-slice_bounds-word-start
+part-word-start c = omega (arith, inside c)
 
-part-word-end : tie.Need-slice-bounds-word-end
-part-word-end c = omega (arith, inside c.before)
+part-word-end : tie.Need-slice_bounds-word-end
+part-word-end c = omega (arith, inside c)
 
-add-gone-rest : tie.Need-overflow-add-gone-rest
-add-gone-rest c = let f = c.before.before.before.before.before in omega (arith, inside f, f.before.before.before.before.well-formed)
+add-gone-rest : tie.Need-overflow_add-to
+add-gone-rest c = let f = c.before.before.before.before.before in omega (arith, inside f, f.well_formed)
 
-returns-2 : tie.Need-returns-2
+returns-2 : tie.Need-returns-then-same_bytes
 unfolding entry_of
 returns-2 c =
     rw (
       split_at c.before.before.before.before.before.before,
-      sym c.before.before.same_bytes.ensures
-          ∙ c.before.if1.true,
-    ) c.gone-rest.ensures
+      sym c.same_bytes.ensures
+          ∙ c.if-same_bytes.true,
+    ) c.gone_rest.ensures
 
-add-keep-rest : tie.Need-overflow-add-keep-rest
-add-keep-rest c = let f = c.before.before.before.before.before.before.before.before in omega (arith, inside f, f.before.before.before.before.well-formed)
+add-keep-rest : tie.Need-overflow_add-to-then-same_bytes-2
+add-keep-rest c = let f = c.before.before.before.before.before.before.before.before.before in omega (arith, inside f, f.well_formed)
 
-returns-3 : tie.Need-returns-3
+returns-3 : tie.Need-returns-then-same_bytes-2
 unfolding entry_of
 returns-3 c =
+    let n = c.before.before.before.before.before in
+    rw (
+      split_at n.before.before.before.before.before,
+      sym n.same_bytes.ensures
+          ∙ n.if-same_bytes.false,
+      sym c.same_bytes-2.ensures ∙ c.if-same_bytes-2.true,
+    )
+    c.keep_rest.ensures
+
+returns-4 : tie.Need-returns
+unfolding entry_of
+returns-4 c =
     let n = c.before.before.before.before in
     rw (
       split_at n.before.before.before.before.before,
-      sym n.before.same_bytes.ensures
-          ∙ n.if1.false,
-      sym c.before.before.same-bytes2.ensures ∙ c.before.if2.true,
-    )
-    c.keep-rest.ensures
-
-returns-4 : tie.Need-returns-4
-unfolding entry_of
-returns-4 c =
-    let n = c.before.before.before in
-    rw (
-      split_at n.before.before.before.before.before,
-      sym n.before.same_bytes.ensures
-          ∙ n.if1.false,
-      sym c.before.same-bytes2.ensures ∙ c.if2.false,
+      sym n.same_bytes.ensures
+          ∙ n.if-same_bytes.false,
+      sym c.same_bytes-2.ensures ∙ c.if-same_bytes-2.false,
     )
 
-pub entry-of-spec : {M : Type 1} → statement M
-entry-of-spec =
+pub entry_of_spec : {M : Type 1} → statement M
+entry_of_spec =
     tie.close
     (tie.spec
     (search rules)
@@ -94,11 +94,9 @@ entry-of-spec =
     part-word-start
     part-word-end
     (search rules)
-    (search rules)
     add-gone-rest
     (search rules)
     returns-2
-    (search rules)
     (search rules)
     add-keep-rest
     (search rules)

@@ -6,13 +6,13 @@ use borrow.Author.Rules.{rules}
 use Rattle.matching.proofs.entry.gone_rest.Statement.{statement}
 use Rattle.matching.proofs.entry.gone_rest.Tie as tie
 
-returns : tie.Need-returns
+returns : tie.Need-returns-then-ends_at
 unfolding gone_rest
-returns c = sym (ended _ _ _ _ (sym c.before.ends_at.ensures ∙ c.if1.true))
+returns c = sym (ended _ _ _ _ (sym c.ends_at.ensures ∙ c.if-ends_at.true))
 
-returns-2 : tie.Need-returns-2
+returns-2 : tie.Need-returns
 unfolding gone_rest
-returns-2 c = sym (not_ended _ _ _ _ (sym c.before.ends_at.ensures ∙ c.if1.false))
+returns-2 c = sym (not_ended _ _ _ _ (sym c.ends_at.ensures ∙ c.if-ends_at.false))
 
-pub gone-rest-spec : {M : Type 1} → statement M
-gone-rest-spec = tie.close (tie.spec (search rules) returns returns-2)
+pub gone_rest_spec : {M : Type 1} → statement M
+gone_rest_spec = tie.close (tie.spec (search rules) returns returns-2)

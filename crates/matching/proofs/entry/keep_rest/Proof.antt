@@ -8,38 +8,34 @@ use borrow.Author.Rules.{rules}
 use Rattle.matching.proofs.entry.keep_rest.Statement.{statement}
 use Rattle.matching.proofs.entry.keep_rest.Tie as tie
 
-returns : tie.Need-returns
+returns : tie.Need-returns-in_default
 unfolding keep_rest
-returns c = sym (bad _ _ _ _ _ (sym c.before.before.take-number.ensures ∙ c.enum_told.given.1))
+returns c = sym (bad _ _ _ _ _ (sym c.take_number.ensures ∙ c.in_default.is))
 
-returns-2 : tie.Need-returns-2
+returns-2 : tie.Need-returns-then-not-ends_at
 unfolding keep_rest
 returns-2 c =
-    let v = c.before.before.before in
-    sym (took _ _ _ _ _ (sym v.before.before.take-number.ensures ∙ v.value.given.1) _ _
-    ∙ not_ended _ _ _ _ (sym c.before.ends_at.ensures ∙ not-true _ c.if1.true))
+    sym (took _ _ _ _ _ (sym c.take_number.ensures ∙ c.in-Number.is) _ _
+    ∙ not_ended _ _ _ _ (sym c.ends_at.ensures ∙ not-true _ c.if-not-ends_at.true-raw))
 
-returns-3 : tie.Need-returns-3
+returns-3 : tie.Need-returns-then-value-eq0
 unfolding keep_rest
 returns-3 c =
-    let v = c.before.before.before.before in
-    sym (took _ _ _ _ _ (sym v.before.before.take-number.ensures ∙ v.value.given.1) _ _
-    ∙ (ended _ _ _ _ (sym c.before.before.ends_at.ensures ∙ not-false _ c.before.if1.false) ∙ rw c.if2.true))
+    sym (took _ _ _ _ _ (sym c.take_number.ensures ∙ c.in-Number.is) _ _
+    ∙ (ended _ _ _ _ (sym c.ends_at.ensures ∙ not-false _ c.if-not-ends_at.false-raw) ∙ rw c.if-value-eq0.true))
 
-cast-t8 : tie.Need-overflow-cast-t8
+cast-t8 : tie.Need-overflow_cast-result
 cast-t8 c =
-    let v = c.before.before.before.before in
-    omega (arith, taken_le _ _ _ _ _ (sym v.before.before.take-number.ensures ∙ v.value.given.1))
+    omega (arith, taken_le _ _ _ _ _ (sym c.take_number.ensures ∙ c.in-Number.is))
 
-returns-4 : tie.Need-returns-4
+returns-4 : tie.Need-returns
 unfolding keep_rest
 returns-4 c =
-    let v = c.before.before.before.before in
-    sym (took _ _ _ _ _ (sym v.before.before.take-number.ensures ∙ v.value.given.1) _ _
-    ∙ (ended _ _ _ _ (sym c.before.before.ends_at.ensures ∙ not-false _ c.before.if1.false) ∙ rw (ne_eqb _ _ c.if2.false)))
+    sym (took _ _ _ _ _ (sym c.take_number.ensures ∙ c.in-Number.is) _ _
+    ∙ (ended _ _ _ _ (sym c.ends_at.ensures ∙ not-false _ c.if-not-ends_at.false-raw) ∙ rw (ne_eqb _ _ c.if-value-eq0.false)))
 
-pub keep-rest-spec : {M : Type 1} → statement M
-keep-rest-spec =
+pub keep_rest_spec : {M : Type 1} → statement M
+keep_rest_spec =
     tie.close
     (tie.spec
     (search rules)
