@@ -18,7 +18,7 @@ use Rattle.rules.specs.Fault.{Fate, Item, closing, fate, group, item}
 use Rattle.fates.specs.Pass.{closing_after, closing_at, items_from}
 use Rattle.fates.proofs.Arrays.{ArrayOf, array_all, array_at}
 use Rattle.sight.proofs.Events.{drop_next, onward_next}
-use Rattle.fates.proofs.Passes.{PlainAt, closing_at, walled}
+use Rattle.fates.proofs.Passes.{PlainAt, closing_at_lem, walled}
 
 -- the items of a room
 module _ (regs : List Bool) (l ns : List ℕ) (size : length ns ≡ capacity l) where
@@ -51,7 +51,7 @@ pub closed_plain : {v : View} {p x : ℕ} → PlainAt v p x → (n : ℕ) (a : L
     → Closed cells a → {d r : Bool} → d ≡ is_load v → r ≡ closing_after d n (get_or cells i false) → Closed (set cells i r) (item v (fate n) ∷ a)
 closed_plain {v} w n a cells {i} e k size m q g =
     array_at places false cells (λ l. closing (group l a)) (λ l. closing (group l (item v (fate n) ∷ a)))
-    (λ l. closing_after (is_load v) n (closing (group l a))) (closing_at w n a) e (g ∙ rw (q, m i k)) k size m
+    (λ l. closing_after (is_load v) n (closing (group l a))) (closing_at_lem w n a) e (g ∙ rw (q, m i k)) k size m
 
 pub closed_is : (cells : List Bool) {a b : List Item} → b ≡ a → Closed cells a → Closed cells b
 closed_is cells e m = rw e m

@@ -51,9 +51,9 @@ closing_first plain_load zero g = refl
 closing_first plain_load (suc n) g = refl
 closing_first plain_store n g = refl
 
-pub closing_at : {v : View} {p x : ℕ} → PlainAt v p x → (n : ℕ) (a : List Item) (l : ℕ)
+pub closing_at_lem : {v : View} {p x : ℕ} → PlainAt v p x → (n : ℕ) (a : List Item) (l : ℕ)
     → closing (group l (item v (fate n) ∷ a)) ≡ cond (eqb l p) (closing_after (is_load v) n (closing (group l a))) (closing (group l a))
-closing_at {p = p} w n a l =
+closing_at_lem {p = p} w n a l =
     grouped closing w (fate n) a l ∙ ap (λ c. cond (eqb l p) c (closing (group l a))) (closing_first w n (group l a))
 
 witness_first : {v : View} {p x : ℕ} → PlainAt v p x → (n : ℕ) (g : List Item)

@@ -1,6 +1,6 @@
 -- What the pass from the front keeps of the source events passed: per location whether there was no access since the last synchronising event, the
 -- witness and the greatest number, and the greatest numbers of all and of the synchronising ones. Assumes nothing.
-use mathlib.Core.Path.{◌≡◌, refl, sym, ◌∙◌, ap}
+use mathlib.Core.Path.{◌≡◌, refl, sym, ◌∙◌, ap, subst}
 use mathlib.Core.Bool.{Bool, true, false, cond}
 use mathlib.Core.Option.{some}
 use mathlib.Core.List.{List, [], ◌∷◌}
@@ -34,13 +34,14 @@ witness_plain : {v : View} {p x : ℕ} → PlainAt v p x → (n : ℕ) (b : List
     → length present ≡ places → length value ≡ places → Fresh fresh b → Witnesses present value b → (w : Witness)
     → witnessed w ≡ cond (takes_over (is_load v) n (get_or fresh i false)) (some x) (witnessed (witness_of (get_or present i false) (get_or value i 0)))
     → Witnesses (set present i w.present) (set value i w.value) (item v (fate n) ∷ b)
-witness_plain {p = p} s n b fresh present value {i} e k size size' f m w q l j =
+witness_plain {v} {p = p} s n b fresh present value {i} e k size size' f m w q l j =
     let here : i < length present = omega arith in
     let here' : i < length value = omega arith in
     cases (either (eqb l i))
     (λ z. let d : l ≡ i = eqb-true l i z in
-    rw (d, get_or-set_same present i w.present false here, get_or-set_same value i w.value 0 here')
-    (q ∙ sym (witness_at_lem s n b i ∙ rw (eq-eqb i p e, f i k, m i k))))
+    subst (λ x. witnessed (witness_of (get_or (set present i w.present) x false) (get_or (set value i w.value) x 0)) ≡ witness (group x (item v (fate n) ∷ b))) (sym d)
+    (rw (get_or-set_same present i w.present false here, get_or-set_same value i w.value 0 here')
+    (q ∙ sym (witness_at_lem s n b i ∙ rw (eq-eqb i p e, f i k, m i k)))))
     (λ z. let d = eqb-false l i z in
     rw (get_or-set_other present i l w.present false d, get_or-set_other value i l w.value 0 d)
     (m l j ∙ sym (witness_at_lem s n b l ∙ rw (← e, z))))

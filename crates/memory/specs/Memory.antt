@@ -1,5 +1,5 @@
 -- Document 01, "Latest value", and document 02, C-13 and C-17: the memory takes one event at a time and hands back the memory after it. Assumes nothing.
-use Rattle.std.specs.Prelude.{ℕ, ◌+◌, ◌%◌, ◌^◌, Bool, true, false, cond, List, set, replicate, ◌==◌, slice_index, slice_set}
+use Rattle.std.specs.Prelude.{ℕ, ◌+◌, ◌%◌, ◌^◌, Bool, true, false, cond, List, replicate, ◌==◌, slice_index, slice_set}
 use Rattle.event.specs.Limit.{places}
 use Rattle.kinds.specs.Kind.{row, bits_of, lawful}
 use Rattle.kinds.specs.declared.Width.{Width}

@@ -10,7 +10,7 @@ use Rattle.rules.proofs.Word.{kept_load, near_word, Agree₁, Agree}
 use Rattle.rules.proofs.Place.{word, at_own, word_near, holds_of_word}
 use Rattle.rules.proofs.Order.{Exact, rising, rising_sourced}
 use Rattle.rules.proofs.Insertion.{near_fits}
-use Rattle.rules.proofs.Target.{print, numbered_like, word_like, supported_like, Given, Print, prints_likes, kept}
+use Rattle.rules.proofs.Target.{print, numbered_like, word_like, supported_like, Given, Print, prints_likes}
 use Rattle.rules.proofs.Greedy.{greedy}
 use Rattle.rules.proofs.Sorting.{lowest}
 use Rattle.rules.proofs.Image.{Over}

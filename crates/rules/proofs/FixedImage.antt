@@ -14,19 +14,19 @@ module _ {E F : Type 0} {R : E → F → Type 0} {mayE : Rules E} {mayF : Rules 
   module _ (GoneE : E → Type 0) (GoneF : F → Type 0) (gone : (x : E) (y : F) → R x y → GoneE x ↔ GoneF y) where
     still_over : {b s : List E} {b' s' : List F} → Over R b b' → Over R s s' → Still mayF GoneF b' s' → Still mayE GoneE b s
     still_over o over_nil h = tt
-    still_over o (over_cons {x = x} {y = y} q p) h =
-        (λ g r. h.0 ((gone x y q).0 g) ((allows.removes x y q o p).0 r), still_over (over_cons q o) p h.1)
+    still_over {b = b} {b' = b'} o (over_cons {x = x} {y = y} q p) h =
+        (λ g r. h.0 ((gone x y q).0 g) ((allows.removes x y q o p).0 r), still_over {b = x ∷ b} {b' = y ∷ b'} (over_cons q o) p h.1)
 
     last_over : {b s : List E} {b' s' t' : List F} → Last mayF GoneF b' s' t' → Over R b b' → Over R s s' → (t : List E) × Last mayE GoneE b s t × Over R t t'
     last_over (out {e = y} h g m) o (over_cons {x = x} {s = s} q p) =
         (s, out (still_over (over_cons q o) p h) ((gone x y q).1 g) ((allows.removes x y q o p).1 m), p)
-    last_over (under l) o (over_cons {x = x} q p) = let r = last_over l (over_cons q o) p in (x ∷ r.0, under r.1, over_cons q r.2)
+    last_over {b = b} (under l) o (over_cons {x = x} q p) = let r = last_over {b = x ∷ b} l (over_cons q o) p in (x ∷ r.0, under r.1, over_cons q r.2)
 
     pub lasts_over : {s : List E} {s' t' : List F} → Lasts mayF GoneF s' t' → Over R s s' → (t : List E) × Lasts mayE GoneE s t × Over R t t'
     lasts_over {s} (end h) p = (s, end (still_over over_nil p h), p)
-    lasts_over (more l r) p =
+    lasts_over {s} (more l r) p =
         let a = last_over l over_nil p in
-        let b = lasts_over r a.2 in
+        let b = lasts_over {s = a.0} r a.2 in
         (b.0, more a.1 b.1, b.2)
 
   -- ---- sorting
@@ -50,15 +50,15 @@ module _ {E F : Type 0} {R : E → F → Type 0} {mayE : Rules E} {mayF : Rules 
     low_over : {s : List E} {s' t' : List F} → Low AboveF s' t' → Over R s s' → (t : List E) × Low AboveE s t × Over R t t'
     low_over (low {e = y} {f = w} h) (over_cons {x = x} q (over_cons {x = z} {s = s} r p)) =
         (z ∷ x ∷ s, low ((above x z y w q r).1 h), over_cons r (over_cons q p))
-    low_over (after {e = y} {f = w} h l) (over_cons {x = x} q (over_cons {x = z} r p)) =
-        let a = low_over l (over_cons r p) in
+    low_over (after {e = y} {f = w} h l) (over_cons {x = x} q (over_cons {x = z} {s = s} r p)) =
+        let a = low_over {s = z ∷ s} l (over_cons r p) in
         (x ∷ a.0, after (λ k. h ((above x z y w q r).0 k)) a.1, over_cons q a.2)
 
     pub lows_over : {s : List E} {s' t' : List F} → Lows AboveF s' t' → Over R s s' → (t : List E) × Lows AboveE s t × Over R t t'
     lows_over {s} (calm c) p = (s, calm (calm_over p c), p)
-    lows_over (again l r) p =
+    lows_over {s} (again l r) p =
         let a = low_over l p in
-        let b = lows_over r a.2 in
+        let b = lows_over {s = a.0} r a.2 in
         (b.0, again a.1 b.1, b.2)
 
   -- ---- inserting
@@ -66,8 +66,8 @@ module _ {E F : Type 0} {R : E → F → Type 0} {mayE : Rules E} {mayF : Rules 
   pub fill_over : {b s : List E} {b' s' t' : List F} → Fill mayF b' s' t' → Over R b b' → Over R s s' → Each Has t'
       → (t : List E) × Fill mayE b s t × Over R t t'
   fill_over full o over_nil h = ([], full, over_nil)
-  fill_over (leave f) o (over_cons {x = x} q p) h =
-      let r = fill_over f (over_cons q o) p h.1 in
+  fill_over {b = b} (leave f) o (over_cons {x = x} q p) h =
+      let r = fill_over {b = x ∷ b} f (over_cons q o) p h.1 in
       (x ∷ r.0, leave r.1, over_cons q r.2)
   fill_over (put {e = y} i f) o p h =
       let n = allows.inserts y h.0 o i in

@@ -1,7 +1,7 @@
 -- What is done in the fixed order is a run, if an event may be swapped with each later one that it stands above: a removal leaves that so, and a
 -- swap too, since of two events at most one stands above the other. And back: it is so before a move that removes only what is gone, if it is
 -- so after it. By any rules. Assumes nothing.
-use mathlib.Core.List.{List, []}
+use mathlib.Core.List.{List, [], ◌∷◌}
 use Rattle.laws.proofs.Lists.{Each, each_all}
 use Rattle.rules.specs.Moves.{Phase, one, two, Rules, Move, Moves, Run, remove, insert, swap, next, done, step}
 use Rattle.rules.proofs.Fixed.{Last, Lasts, out, under, end, more, Low, Lows, low, after, calm, again, Fill, full, leave, put, InOrder, Clash}
@@ -31,7 +31,7 @@ module _ {E : Type 0} (may : Rules E) (Gone : E → Type 0) (Above : E → E →
 
   move_low : {φ : Phase} {b s t : List E} → Low Above s t → Orderly may Above s → Move may φ b s t
   move_low (low h) o = swap (o.0.0 h)
-  move_low (after h q) o = next (move_low q o.1)
+  move_low {b = b} (after {e = e} h q) o = next (move_low {b = e ∷ b} q o.1)
 
   each_low : (P : E → Type 0) {s t : List E} → Low Above s t → Each P s → Each P t
   each_low P (low h) k = (k.1.0, (k.0, k.1.1))

@@ -41,10 +41,10 @@ stuck₁ : (l : ℕ) (b : List Item) (e : Item) (a : List Item) → (Gone e → 
 stuck₁ l b (item wall gone) a h = tt
 stuck₁ l b (item wall (stays w n)) a h = tt
 stuck₁ l b (item (load q v u) gone) a h =
-    by_place (λ x. Stuck₁ (word l b) x (word l a)) l q (gone_load v u) tt (λ i c. h tt (uncut_load q b v u a (rw i at c)))
+    by_place (λ x. Stuck₁ (word l b) x (word l a)) l q (gone_load v u) tt (λ i c. h tt (uncut_load q b v u a (subst (λ x. Cut (word x b) (gone_load v u) (word x a)) i c)))
 stuck₁ l b (item (load q v u) (stays w n)) a h = by_place (λ x. Stuck₁ (word l b) x (word l a)) l q (kept_load v) tt (λ i. tt)
 stuck₁ l b (item (store q v) gone) a h =
-    by_place (λ x. Stuck₁ (word l b) x (word l a)) l q (gone_store v) tt (λ i c. h tt (uncut_store q b v a (rw i at c)))
+    by_place (λ x. Stuck₁ (word l b) x (word l a)) l q (gone_store v) tt (λ i c. h tt (uncut_store q b v a (subst (λ x. Cut (word x b) (gone_store v) (word x a)) i c)))
 stuck₁ l b (item (store q v) (stays w n)) a h = by_place (λ x. Stuck₁ (word l b) x (word l a)) l q (kept_store v) tt (λ i. tt)
 
 stuck : (l : ℕ) (b s : List Item) → Still b s → Stuck (word l b) (word l s)

@@ -20,7 +20,7 @@ use Rattle.rules.proofs.Chain.{all_ins, all_ones}
 use Rattle.rules.proofs.Canonical.{canonical}
 use Rattle.rules.proofs.Clean.{Clean, Faithful, target_items}
 use Rattle.rules.proofs.Entries.{Entries, from_start}
-use Rattle.rules.proofs.Target.{Given, kept}
+use Rattle.rules.proofs.Target.{Given}
 use Rattle.rules.proofs.Image.{Over, run_over, over_nil, by_views}
 use Rattle.rules.proofs.Traced.{Known, Of, Shows, ends, faithful_run, has_item, has_target, known_new, known_source, likes, of_view, shows_view}
 use Rattle.rules.proofs.Traced.{starts, turn, Leaves, Overtakes, image, shows_above, shows_gone, Genuine, genuines}

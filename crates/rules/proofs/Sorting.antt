@@ -127,6 +127,7 @@ exact_go p (inl q) m ih = pick p (rw q at m)
 exact_go p (inr w) m ih = pick p (ih w)
 
 exact_swap : {s s' t : List Item} → Exact s t → Swap s s' → Exact s' t
+exact_swap none_left w = elim w [ ]
 exact_swap (pick p m) w = let q = pull_swap p w in exact_go q.pulled q.near m (exact_swap m)
 
 not_above : (e g f : Item) → Kept g → (Above e g → ⊥) → (Above g f → ⊥) → Above e f → ⊥
@@ -135,9 +136,9 @@ not_above (item v (stays w n)) (item v' gone) f k a b h = k
 not_above (item v (stays w n)) (item v' (stays w' n')) (item v'' gone) k a b h = h
 not_above (item v (stays w n)) (item v' (stays w' n')) (item v'' (stays w'' n'')) k a b h = omega arith
 
-calm_below : (e : Item) {f : Item} {s r : List Item} → Pull f s r → Each Kept s → Calm (e ∷ s) → Above e f → ⊥
+calm_below : {f : Item} (e : Item) {s r : List Item} → Pull f s r → Each Kept s → Calm (e ∷ s) → Above e f → ⊥
 calm_below e here k c = c.0
-calm_below e {f = f} (there {f = g} p) k c = not_above e g f k.0 c.0 (calm_below g p k.1 c.1)
+calm_below {f = f} e (there {f = g} p) k c = not_above e g f k.0 c.0 (calm_below g p k.1 c.1)
 
 calm_tail : (e : Item) (s : List Item) → Calm (e ∷ s) → Calm s
 calm_tail e [] c = tt

@@ -156,6 +156,8 @@ module _ (view : Event → View) (s t : List Event) (ns : List ℕ) where
     pub ends : (k : ℕ) (r : List Event) {u : List Traced} {v : List Item} → Over Shows u v → Over Print v (target_items view ns (suc k) r)
         → From no_event t k r → Ends ns (suc k) u r
     ends k [] over_nil over_nil f = tt
+    ends k [] (over_cons q o) w f = elim w [ ]
+    ends k (e ∷ r) over_nil w f = elim w [ ]
     ends k (e ∷ r) (over_cons {x = x} {y = y} q o) (over_cons p i) f =
         let d = ended k x y e q (print_fate p) (from_here no_event t k e r f) in
         (d.0, d.1, ends (suc k) r o i (from_next no_event t k e r f))

@@ -62,6 +62,8 @@ witness_gone : (p w v : ℕ) (u : Bool) (o : Option View) (g : List Item) → Bo
     → T (loaded v (elder o (load p w u))) → witness (item (load p w u) gone ∷ g) ≡ some v
 witness_gone p w v u none [] neither f t = ap some (eqb→eq w v t)
 witness_gone p w v u (some z) (x ∷ g) each f t = f t
+witness_gone p w v u none (x ∷ g) h f t = elim h [ ]
+witness_gone p w v u (some z) [] h f t = elim h [ ]
 
 witness_kept : (p w v : ℕ) (u : Bool) (o : Option View) → T (is_none o) → T (loaded v (elder o (load p w u))) → ◌≡◌ {A = Option ℕ} (some w) (some v)
 witness_kept p w v u none h t = ap some (eqb→eq w v t)

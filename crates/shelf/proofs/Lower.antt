@@ -219,6 +219,8 @@ module _ (p v : ℕ) (b s t : List View) where
       let k : bit (not (eqb w v)) ≡ 0 = rw (e, same_place v) refl in
       inl (refl, omega arith)
   own_load q w u d (some a) (some c) each g e x y i = inr (g (value_of c) refl ∙ e, omega arith)
+  own_load q w u d none (some c) h g e x y i = elim h [ ]
+  own_load q w u d (some a) none h g e x y i = elim h [ ]
 
   behind_load : (q w : ℕ) (u : Bool) → Coherent₁ b (load q w u) → Behind p v (load q w u ∷ b) s t → Behind p v b (load q w u ∷ s) (load q w u ∷ t)
   behind_load q w u g h = go (eqb p q) (λ e. eqb-true p q e) refl h

@@ -10,5 +10,5 @@ is_zero : (n : ℕ) → eqb n 0 ≡ is_gone n
 is_zero zero = refl
 is_zero (suc n) = eqb-suc-zero n
 
-pub is-gone-spec : {M : Type 1} → statement M
-is-gone-spec = tie.close (tie.spec (λ c. is_zero c.args.entry))
+pub is_gone_spec : {M : Type 1} → statement M
+is_gone_spec = tie.close (tie.spec (λ c. is_zero c.args.entry))

@@ -5,12 +5,12 @@ use Rattle.sight.proofs.Sight.{load_reads}
 use Rattle.sight.proofs.is_load.Statement.{statement}
 use Rattle.sight.proofs.is_load.Tie as tie
 
-returns : tie.Need-returns
+returns : tie.Need-returns-then-is_plain
 returns c =
-    rw (sym c.before.before.is_plain.ensures ∙ c.before.if1.true, c.row_of.ensures) (sym (load_reads _ _ _ _))
+    rw (sym c.is_plain.ensures ∙ c.if-is_plain.true, c.row_of.ensures) (sym (load_reads _ _ _ _))
 
-returns-2 : tie.Need-returns-2
-returns-2 c = rw (sym c.before.is_plain.ensures ∙ c.if1.false)
+returns-2 : tie.Need-returns
+returns-2 c = rw (sym c.is_plain.ensures ∙ c.if-is_plain.false)
 
-pub is-load-spec : {M : Type 1} → statement M
-is-load-spec = tie.close (tie.spec (search rules) (search rules) returns returns-2)
+pub is_load_spec : {M : Type 1} → statement M
+is_load_spec = tie.close (tie.spec (search rules) (search rules) returns returns-2)

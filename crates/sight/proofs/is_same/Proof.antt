@@ -5,15 +5,15 @@ use Rattle.sight.proofs.is_same.Tie as tie
 
 returns : tie.Need-returns
 returns c = rw (
-  c.both4.ensures,
-  c.before.both3.ensures,
-  c.before.before.both2.ensures,
-  c.before.before.before.both.ensures,
-  c.before.before.before.before.either.ensures,
-  c.before.before.before.before.before.before.before.is-load-kind.ensures,
+  c.both-4.ensures,
+  c.both-3.ensures,
+  c.both-2.ensures,
+  c.both.ensures,
+  c.either.ensures,
+  c.is_load_kind.ensures,
 )
 
-pub is-same-spec : {M : Type 1} → statement M
-is-same-spec =
+pub is_same_spec : {M : Type 1} → statement M
+is_same_spec =
     tie.close
     (tie.spec (search rules) (search rules) (search rules) (search rules) (search rules) (search rules) returns)

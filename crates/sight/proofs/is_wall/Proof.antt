@@ -6,7 +6,7 @@ use Rattle.sight.proofs.is_wall.Statement.{statement}
 use Rattle.sight.proofs.is_wall.Tie as tie
 
 returns : tie.Need-returns
-returns c = rw c.is_plain.ensures (sym (wall_not_plain c.before.args.e))
+returns c = rw c.is_plain.ensures (sym (wall_not_plain c.args.e))
 
-pub is-wall-spec : {M : Type 1} → statement M
-is-wall-spec = tie.close (tie.spec (search rules) returns)
+pub is_wall_spec : {M : Type 1} → statement M
+is_wall_spec = tie.close (tie.spec (search rules) returns)

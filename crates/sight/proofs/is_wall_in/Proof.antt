@@ -4,11 +4,11 @@ use borrow.Author.Rules.{rules}
 use Rattle.sight.proofs.is_wall_in.Statement.{statement}
 use Rattle.sight.proofs.is_wall_in.Tie as tie
 
-returns : tie.Need-returns
-returns c = rw (sym c.before.is-register.ensures ∙ c.if1.true)
+returns : tie.Need-returns-then-is_register
+returns c = rw (sym c.is_register.ensures ∙ c.if-is_register.true)
 
-returns-2 : tie.Need-returns-2
-returns-2 c = rw (sym c.before.before.is-register.ensures ∙ c.before.if1.false) c.is_wall_lem.ensures
+returns-2 : tie.Need-returns
+returns-2 c = rw (sym c.is_register.ensures ∙ c.if-is_register.false) c.is_wall.ensures
 
-pub is-wall-in-spec : {M : Type 1} → statement M
-is-wall-in-spec = tie.close (tie.spec (search rules) returns (search rules) returns-2)
+pub is_wall_in_spec : {M : Type 1} → statement M
+is_wall_in_spec = tie.close (tie.spec (search rules) returns (search rules) returns-2)

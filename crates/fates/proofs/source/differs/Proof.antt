@@ -26,11 +26,10 @@ told l e {n} h i g = rw (g, i) (sym (unlike_at l e n h))
 
 returns : tie.Need-returns
 returns c =
-    let a = c.before.before.before.before in
-    rw c.is_same.ensures (told _ a.args.e a.requires c.before.before.number-index.ensures c.before.get.ensures)
+    rw c.is_same.ensures (told _ c.args.e c.requires c.number_index.ensures c.get.ensures)
 
-pub differs-spec : {M : Type 1} → statement M
-differs-spec =
+pub differs_spec : {M : Type 1} → statement M
+differs_spec =
     tie.close
-    (tie.spec (search rules) (λ c. let h = kept_number c.before.before.args.n c.before.before.requires in omega arith) (search rules)
+    (tie.spec (search rules) (λ c. let h = kept_number c.args.n c.requires in omega arith) (search rules)
     (search rules) returns)

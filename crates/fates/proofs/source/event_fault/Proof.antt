@@ -13,8 +13,8 @@ stops f g e z = rw (← e) (rw (ne_eqb _ 0 z))
 goes : (f g : ℕ) {r s : ℕ} → r ≡ f → r ≡ 0 → s ≡ g → s ≡ first_fault f g
 goes f g e z h = rw (← e, eq-eqb _ 0 z) h
 
-pub event-fault-spec : {M : Type 1} → statement M
-event-fault-spec =
+pub event_fault_spec : {M : Type 1} → statement M
+event_fault_spec =
     tie.close
-    (tie.spec (search rules) (λ c. stops _ _ c.before.keep-fault.ensures c.if1.true) (search rules)
-    (λ c. goes _ _ c.before.before.keep-fault.ensures c.before.if1.false c.removal-fault.ensures))
+    (tie.spec (search rules) (λ c. stops _ _ c.keep_fault-fault.ensures c.if-fault-ne0.true) (search rules)
+    (λ c. goes _ _ c.keep_fault-fault.ensures c.if-fault-ne0.false c.removal_fault.ensures))

@@ -17,64 +17,64 @@ use Rattle.fates.proofs.source.gone_fault.Statement.{statement}
 use Rattle.fates.proofs.source.gone_fault.Tie as tie
 
 -- the arguments
-abbrev begin : tie.After-is-load-in → tie.Start
+abbrev begin : tie.After-is_load_in → tie.Start
 begin c = c.before.before.before
 
-abbrev regs : tie.After-is-load-in → List Bool
+abbrev regs : tie.After-is_load_in → List Bool
 regs c = (begin c).args.listed.now
 
-abbrev event : tie.After-is-load-in → Event
+abbrev event : tie.After-is_load_in → Event
 event c = (begin c).args.e
 
-abbrev seen : tie.After-is-load-in → View
+abbrev seen : tie.After-is_load_in → View
 seen c = view_in (regs c) (event c)
 
-abbrev cell : tie.After-is-load-in → Cell
+abbrev cell : tie.After-is_load_in → Cell
 cell c = (begin c).args.cell
 
-abbrev witness : tie.After-is-load-in → Option ℕ
+abbrev witness : tie.After-is_load_in → Option ℕ
 witness c = witnessed (begin c).args.witness
 
-wall_is : (c : tie.After-is-wall-in) {b : Bool} → c.is-wall-in.result ≡ b
-    → is_wall (view_in c.before.args.listed.now c.before.args.e) ≡ b
-wall_is c h = sym c.is-wall-in.ensures ∙ h
+wall_is : (c : tie.After-is_wall_in) {b : Bool} → c.is_wall_in.result ≡ b
+    → is_wall (view_in c.args.listed.now c.args.e) ≡ b
+wall_is c h = sym c.is_wall_in.ensures ∙ h
 
-load_is : (c : tie.After-is-load-in) {b : Bool} → c.is-load-in.result ≡ b → is_load (seen c) ≡ b
-load_is c h = sym c.is-load-in.ensures ∙ h
+load_is : (c : tie.After-is_load_in) {b : Bool} → c.is_load_in.result ≡ b → is_load (seen c) ≡ b
+load_is c h = sym c.is_load_in.ensures ∙ h
 
-load_told : (c : tie.After-is-load-in) {b : Bool} → c.is-load-in.result ≡ true → eqb (event c).order used && (cell c).fresh ≡ b
+load_told : (c : tie.After-is_load_in) {b : Bool} → c.is_load_in.result ≡ true → eqb (event c).order used && (cell c).fresh ≡ b
     → cond b 13 0 ≡ gone_fault (seen c) (cell c) (witness c)
 load_told c h e = sym (gone_load_lem _ _ (sees_in (regs c) (event c)) (load_is c h) ∙ rw e)
 
 closing_told : {c d a b : Bool} → c ≡ a → d ≡ b → ◌≡◌ {A = ℕ} (cond (c && not d) 14 0) (cond (a && not b) 14 0)
 closing_told h e = rw (h, e)
 
-store_told : (c : tie.Else2) {a b : Bool} → (cell c.before).closing ≡ a → is (event c.before).first (witness c.before) ≡ b
+store_told : (c : tie.Else-is_load_in) {a b : Bool} → (cell c.before).closing ≡ a → is (event c.before).first (witness c.before) ≡ b
     → cond (a && not b) 14 0 ≡ gone_fault (seen c.before) (cell c.before) (witness c.before)
 store_told c h e =
     sym
-    (gone_store_lem _ _ (sees_in (regs c.before) (event c.before)) (wall_is c.before.before.before c.before.before.if1.false)
-    (load_is c.before c.if2.false)
+    (gone_store_lem _ _ (sees_in (regs c.before) (event c.before)) (wall_is c.before.before.before c.if-is_wall_in.false)
+    (load_is c.before c.if-is_load_in.false)
     ∙ closing_told h e)
 
-returns : tie.Need-returns
-returns c = let a = c.before.before.args in sym (gone_wall _ _ (sees_in a.listed.now a.e) (wall_is c.before c.if1.true))
+returns : tie.Need-returns-then-is_wall_in
+returns c = let a = c.args in sym (gone_wall _ _ (sees_in a.listed.now a.e) (wall_is c.before c.if-is_wall_in.true))
 
-returns-2 : tie.Need-returns-2
-returns-2 c = load_told c.before.before.before.before c.before.before.before.if2.true (sym c.before.both.ensures ∙ c.if3.true)
+returns-2 : tie.Need-returns-then-both
+returns-2 c = load_told c.before.before.before.before c.if-is_load_in.true (sym c.both.ensures ∙ c.if-both.true)
 
-returns-3 : tie.Need-returns-3
-returns-3 c = load_told c.before.before.before.before c.before.before.before.if2.true (sym c.before.both.ensures ∙ c.if3.false)
+returns-3 : tie.Need-returns-then-is_load_in
+returns-3 c = load_told c.before.before.before.before c.if-is_load_in.true (sym c.both.ensures ∙ c.if-both.false)
 
-returns-4 : tie.Need-returns-4
-returns-4 c = store_told c.before.before.before c.before.before.if4.true (sym c.before.is-witness.ensures ∙ c.if5.true)
+returns-4 : tie.Need-returns-then-is_witness
+returns-4 c = store_told c.before.before.before c.if-cell.true (sym c.is_witness.ensures ∙ c.if-is_witness.true)
 
-returns-5 : tie.Need-returns-5
-returns-5 c = store_told c.before.before.before c.before.before.if4.true (sym c.before.is-witness.ensures ∙ c.if5.false)
+returns-5 : tie.Need-returns-then-cell
+returns-5 c = store_told c.before.before.before c.if-cell.true (sym c.is_witness.ensures ∙ c.if-is_witness.false)
 
-returns-6 : tie.Need-returns-6
-returns-6 c = store_told c.before c.if4.false refl
+returns-6 : tie.Need-returns
+returns-6 c = store_told c.before c.if-cell.false refl
 
-pub gone-fault-spec : {M : Type 1} → statement M
-gone-fault-spec = tie.close
+pub gone_fault_spec : {M : Type 1} → statement M
+gone_fault_spec = tie.close
     (tie.spec (λ c κs. tt) returns (λ c κs. tt) (λ c κs. tt) returns-2 returns-3 (λ c κs. tt) returns-4 returns-5 returns-6)

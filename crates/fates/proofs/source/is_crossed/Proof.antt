@@ -6,18 +6,18 @@ use Rattle.rules.specs.View.{view_in, is_wall}
 use Rattle.fates.proofs.source.is_crossed.Statement.{statement}
 use Rattle.fates.proofs.source.is_crossed.Tie as tie
 
-is : (b : Bool) (c : tie.After-is-wall-in) → c.is-wall-in.result ≡ b
-    → is_wall (view_in c.before.args.listed.now c.before.args.e) ≡ b
-is b c h = sym c.is-wall-in.ensures ∙ h
+is : (b : Bool) (c : tie.After-is_wall_in) → c.is_wall_in.result ≡ b
+    → is_wall (view_in c.args.listed.now c.args.e) ≡ b
+is b c h = sym c.is_wall_in.ensures ∙ h
 
-returns : tie.Need-returns
-returns c = rw (is _ c.before.before c.before.if1.true)
+returns : tie.Need-returns-then-is_wall_in
+returns c = rw (is _ c.before.before c.if-is_wall_in.true)
 
-returns-2 : tie.Need-returns-2
-returns-2 c = rw (is _ c.before.before.before c.before.before.if1.false, lt-ltb _ _ c.if2.true)
+returns-2 : tie.Need-returns-then-n-tops
+returns-2 c = rw (is _ c.before.before.before c.if-is_wall_in.false, lt-ltb _ _ c.if-n-tops.true)
 
-returns-3 : tie.Need-returns-3
-returns-3 c = rw (is _ c.before.before.before.before c.before.before.before.if1.false, le-ltb _ _ c.before.if2.false)
+returns-3 : tie.Need-returns-else-n-tops
+returns-3 c = rw (is _ c.before.before.before.before c.if-is_wall_in.false, le-ltb _ _ c.if-n-tops.false)
 
-pub is-crossed-spec : {M : Type 1} → statement M
-is-crossed-spec = tie.close (tie.spec (λ c κs. tt) returns returns-2 returns-3)
+pub is_crossed_spec : {M : Type 1} → statement M
+is_crossed_spec = tie.close (tie.spec (λ c κs. tt) returns returns-2 returns-3)

@@ -4,11 +4,11 @@ use borrow.Author.Rules.{rules}
 use Rattle.fates.proofs.source.removal_fault.Statement.{statement}
 use Rattle.fates.proofs.source.removal_fault.Tie as tie
 
-returns : tie.Need-returns
-returns c = rw (sym c.before.before.is_gone_lem.ensures ∙ c.before.if1.true) c.gone-fault.ensures
+returns : tie.Need-returns-then-is_gone
+returns c = rw (sym c.is_gone.ensures ∙ c.if-is_gone.true) c.gone_fault.ensures
 
-returns-2 : tie.Need-returns-2
-returns-2 c = rw (sym c.before.is_gone_lem.ensures ∙ c.if1.false)
+returns-2 : tie.Need-returns
+returns-2 c = rw (sym c.is_gone.ensures ∙ c.if-is_gone.false)
 
-pub removal-fault-spec : {M : Type 1} → statement M
-removal-fault-spec = tie.close (tie.spec (search rules) (search rules) returns returns-2)
+pub removal_fault_spec : {M : Type 1} → statement M
+removal_fault_spec = tie.close (tie.spec (search rules) (search rules) returns returns-2)

@@ -42,11 +42,11 @@ record Passed (regs : List Bool) (source target entries : List ℕ) (fresh prese
   answers : whole regs source target entries
       ≡ source_answer (view_in regs) (events target) (i + 1) behind (onward source i (capacity source - i)) (drop i entries)
 
-abbrev invariant-loop : tie.invariant-loop
+abbrev invariant-loop : tie.invariant-loop-i
 invariant-loop listed source target entries flags fresh₀ present₀ value₀ here₀ all₀ walls₀ i₀ fresh present value here all walls i =
     Passed listed source target entries fresh present value here all walls i
 
-abbrev decreases-loop : tie.decreases-loop
+abbrev decreases-loop : tie.decreases-loop-i
 decreases-loop listed source target entries flags fresh₀ present₀ value₀ here₀ all₀ walls₀ i₀ fresh present value here all walls i =
     length entries - i
 
@@ -65,8 +65,8 @@ over_told : (v : View) (n x : ℕ) (f h : Bool) (y : ℕ) {o d : Bool} (w : Witn
 over_told v n x f h y w g o d e = g ∙ rw (o, d, e)
 
 -- the event at the index and its entry, those before it and those after it
-module _ (c : tie.After-index-of invariant-loop decreases-loop) where
-  abbrev turn : tie.At-loop invariant-loop decreases-loop
+module _ (c : tie.After-index_of-at invariant-loop decreases-loop) where
+  abbrev turn : tie.At-loop-i invariant-loop decreases-loop
   turn = c.before.before.before.before
 
   abbrev begin : tie.Start invariant-loop decreases-loop
@@ -85,16 +85,16 @@ module _ (c : tie.After-index-of invariant-loop decreases-loop) where
   entries = begin.args.entries.now
 
   abbrev index : ℕ
-  index = turn.loop.i
+  index = turn.loop-i.i
 
   abbrev event : Event
-  event = c.before.before.get.result
+  event = c.get-e.result
 
   abbrev entry : ℕ
   entry = get_or entries index 0
 
   abbrev behind : List Item
-  behind = turn.loop.inv.behind
+  behind = turn.loop-i.invariant.behind
 
   abbrev here : Item
   here = item (view_in regs event) (fate entry)
@@ -108,14 +108,14 @@ module _ (c : tie.After-index-of invariant-loop decreases-loop) where
   from_here : whole regs room target entries
       ≡ source_answer (view_in regs) (events target) (index + 1) behind (event ∷ rest) (entry ∷ drop (index + 1) entries)
   from_here =
-      turn.loop.inv.answers
+      turn.loop-i.invariant.answers
       ∙ rw (
-        onward_next room (capacity room) index event (omega arith) c.before.before.get.ensures,
+        onward_next room (capacity room) index event (omega arith) c.get-e.ensures,
         drop_next entries index entry (omega arith) refl,
       )
 
-  in_room : c.index_of.result < places
-  in_room = place_in room begin.pre.1.0 index (omega arith) event c.before.before.get.ensures c.index_of.ensures
+  in_room : c.index_of-at.result < places
+  in_room = place_in room begin.requires.1.0 index (omega arith) event c.get-e.ensures c.index_of-at.ensures
 
   few : index < 800
   few = omega arith
@@ -123,23 +123,23 @@ module _ (c : tie.After-index-of invariant-loop decreases-loop) where
   shrinks : length entries - (index + 1) < length entries - index
   shrinks = omega arith
 
-  flag_is : get_or begin.args.flags.now index false ≡ closing (group c.index_of.result ahead)
-  flag_is = flag_told regs room entries index event (begin.pre.1.1.1 index (omega arith)) c.before.before.get.ensures c.index_of.ensures
+  flag_is : get_or begin.args.flags.now index false ≡ closing (group c.index_of-at.result ahead)
+  flag_is = flag_told regs room entries index event (begin.requires.1.1.1 index (omega arith)) c.get-e.ensures c.index_of-at.ensures
 
 -- its fault
-abbrev at : tie.After-event-fault invariant-loop decreases-loop → tie.After-index-of invariant-loop decreases-loop
-at c = c.before.before.before.before.before
+abbrev at : tie.After-event_fault-fault invariant-loop decreases-loop → tie.After-index_of-at invariant-loop decreases-loop
+at c = c.before.before.before.before.before.before
 
-module _ (c : tie.After-event-fault invariant-loop decreases-loop) where
-  told : source_fault (events (target (at c))) (behind (at c)) (event (at c)) (here (at c)) (ahead (at c)) ≡ c.event-fault.result
+module _ (c : tie.After-event_fault-fault invariant-loop decreases-loop) where
+  told : source_fault (events (target (at c))) (behind (at c)) (event (at c)) (here (at c)) (ahead (at c)) ≡ c.event_fault-fault.result
   told =
       fault_at_lem (events (target (at c))) (event (at c)) (behind (at c)) (ahead (at c)) _ _ _ (entry (at c))
-      (sees_at (regs (at c)) (event (at c)) (at c).index_of.ensures)
-      (right (turn (at c)).loop.inv.tallied (ahead (at c)) (at c).index_of.result (in_room (at c)) (flag_is (at c))
-      c.before.before.new2.ensures c.before.before.before.before.new.ensures c.before.new3.ensures)
-      ∙ sym c.event-fault.ensures
+      (sees_at (regs (at c)) (event (at c)) (at c).index_of-at.ensures)
+      (right (turn (at c)).loop-i.invariant.tallied (ahead (at c)) (at c).index_of-at.result (in_room (at c)) (flag_is (at c))
+      c.new-cell.ensures c.new-witness.ensures c.new-tops.ensures)
+      ∙ sym c.event_fault-fault.ensures
 
-  goes_on : c.event-fault.result ≡ 0 → {fresh present : List Bool} {value tops : List ℕ} {all walls : ℕ}
+  goes_on : c.event_fault-fault.result ≡ 0 → {fresh present : List Bool} {value tops : List ℕ} {all walls : ℕ}
       → Tallied fresh present value tops all walls (here (at c) ∷ behind (at c))
       → Passed (regs (at c)) (room (at c)) (target (at c)) (entries (at c)) fresh present value tops all walls (index (at c) + 1)
   goes_on z t = record {
@@ -152,58 +152,57 @@ module _ (c : tie.After-event-fault invariant-loop decreases-loop) where
         ∙ rw (← add-one (index (at c) + 1)));
   }
 
-abbrev seen : tie.After-event-fault invariant-loop decreases-loop → View
+abbrev seen : tie.After-event_fault-fault invariant-loop decreases-loop → View
 seen c = view_in (regs (at c)) (event (at c))
 
-wall_is : (c : tie.After-is-wall-in invariant-loop decreases-loop) {b : Bool} → c.is-wall-in.result ≡ b → is_wall (seen c.before.before.before) ≡ b
-wall_is c e = sym c.is-wall-in.ensures ∙ e
+wall_is : (c : tie.After-is_wall_in invariant-loop decreases-loop) {b : Bool} → c.is_wall_in.result ≡ b → is_wall (seen c.before.before.before) ≡ b
+wall_is c e = sym c.is_wall_in.ensures ∙ e
 
-loop-holds : tie.Need-loop-init invariant-loop decreases-loop
+loop-holds : tie.Need-loop-i-init invariant-loop decreases-loop
 loop-holds c =
-    let l = c.before.before.before.args.source.now in
+    let l = c.args.source.now in
     let e : capacity l - 0 ≡ capacity l = omega arith in
     record { bound = omega arith; behind = []; tallied = tallied_start; answers = rw e }
 
-returns : tie.Need-returns invariant-loop decreases-loop
+returns : tie.Need-returns-then-fault-ne0 invariant-loop decreases-loop
 returns c =
     let f = c.before.before in
-    c.new4.ensures ∙ sym (from_here (at f) ∙ source_stops (view_in (regs (at f))) _ _ _ _ _ _ _ c.before.if1.true (told f))
+    c.new.ensures ∙ sym (from_here (at f) ∙ source_stops (view_in (regs (at f))) _ _ _ _ _ _ _ c.if-fault-ne0.true (told f))
 
-loop-again : tie.Need-loop-preserved invariant-loop decreases-loop
+loop-again : tie.Need-loop-i-preserved-then-is_wall_in invariant-loop decreases-loop
 loop-again c =
     let w = c.before.before in
     let f = w.before.before.before in
-    goes_on f w.before.before.if1.false
-    (tallied_wall (entry (at f)) (turn (at f)).loop.inv.tallied (seen f) (wall_is w c.before.if2.true)
-    w.before.top-after.ensures c.top-after2.ensures)
+    goes_on f w.if-fault-ne0.false
+    (tallied_wall (entry (at f)) (turn (at f)).loop-i.invariant.tallied (seen f) (wall_is w c.if-is_wall_in.true)
+    w.top_after-all.ensures c.top_after-walls.ensures)
 
-loop-again-2 : tie.Need-loop-preserved-2 invariant-loop decreases-loop
+loop-again-2 : tie.Need-loop-i-preserved invariant-loop decreases-loop
 loop-again-2 c =
     let w = c.before.before.before.before.before in
     let f = w.before.before.before in
     let a = at f in
-    let t = (turn a).loop in
-    let p = a.index_of.result in
-    let h = wall_is w c.before.before.before.before.if2.false in
-    goes_on f w.before.before.if1.false
-    (tallied_plain (entry a) t.inv.tallied (plain (sees_in (regs a) (event a)) h) h a.index_of.ensures (in_room a) w.before.top-after.ensures
-    c.top-after3.ensures c.before.witness-after.result
+    let t = (turn a).loop-i in
+    let p = a.index_of-at.result in
+    let h = wall_is w c.if-is_wall_in.false in
+    goes_on f w.if-fault-ne0.false
+    (tallied_plain (entry a) t.invariant.tallied (plain (sees_in (regs a) (event a)) h) h a.index_of-at.ensures (in_room a) w.top_after-all.ensures
+    c.top_after.ensures c.witness_after-after.result
     (over_told (seen f) (entry a) (event a).first (get_or t.fresh p false) (get_or t.present p false) (get_or t.value p 0)
-    c.before.witness-after.result c.before.witness-after.ensures c.before.before.takes-over.ensures
-    c.before.before.before.is-load-in.ensures f.before.before.before.before.new.ensures))
+    c.witness_after-after.result c.witness_after-after.ensures c.takes_over.ensures
+    c.is_load_in.ensures f.new-witness.ensures))
 
-returns-2 : tie.Need-returns-2 invariant-loop decreases-loop
+returns-2 : tie.Need-returns invariant-loop decreases-loop
 returns-2 c =
-    let t = c.before.before in
-    let e : capacity t.before.before.before.before.args.source.now - t.loop.i ≡ 0 = omega arith in
-    c.new5.ensures ∙ sym (t.loop.invariant.answers ∙ none_left _ _ _ _ _ _ _ _ e)
+    let e : capacity c.args.source.now - c.loop-i.i ≡ 0 = omega arith in
+    c.new-2.ensures ∙ sym (c.loop-i.invariant.answers ∙ none_left _ _ _ _ _ _ _ _ e)
 
-pub source-pass-spec : {M : Type 1} → statement M
-source-pass-spec =
+pub source_pass_spec : {M : Type 1} → statement M
+source_pass_spec =
     tie.close
     (tie.spec invariant-loop decreases-loop loop-holds (λ c κs. tt) (λ c. omega arith) (λ c. omega arith) (λ c κs. tt) (λ c. in_room c) (λ c. in_room c)
     (λ c. omega (arith, in_room c)) (λ c. in_room c) (λ c κs. tt) (λ c. omega arith) (λ c κs. tt)
-    (λ c. omega (arith, in_room c.before.before.before)) (λ c. in_room c.before.before.before) (λ c κs. tt) (λ c κs. tt)
+    (λ c. omega (arith, in_room c.before.before.before.before)) (λ c. in_room c.before.before.before.before) (λ c κs. tt) (λ c κs. tt)
     (λ c. omega (arith, few (at c))) (λ c κs. tt) returns (λ c κs. tt) (λ c κs. tt) (λ c κs. tt) (λ c. omega arith) loop-again (λ c κs. tt)
     (λ c κs. tt) (λ c κs. tt) (λ c. in_room (at c.before.before.before.before.before.before.before))
     (λ c. in_room (at c.before.before.before.before.before.before.before))

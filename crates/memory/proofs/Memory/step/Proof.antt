@@ -36,7 +36,7 @@ returns-2 c =
       r.row_of-row.ensures,
       i.index_of-at.ensures,
       (rw (r.row_of-row.ensures, i.index_of-at.ensures) at (sym c.left_by-left.ensures ∙ c.if-left-was.true)),
-      set-get_or i.args.t1.cells i.args.e.place 0,
+      set-get_or i.args.self.cells i.args.e.place 0,
     )
 
 returns-3 : tie.Need-returns
