@@ -1,7 +1,7 @@
 -- A list has one text of each form: a list text that is read without refusal has the header and the lines of its registers for parts, and parts glued together
 -- are the text again; and such a text is read as those registers. Assumes nothing.
 use Prim.Native.Nat.{ℕ, zero, suc, ◌+◌, ◌*◌, ◌≤◌, ◌<◌}
-use mathlib.Core.Path.{◌≡◌, refl, sym, ◌∙◌, ap}
+use mathlib.Core.Path.{◌≡◌, refl, sym, ◌∙◌, ap, subst}
 use mathlib.Core.Bool.{Bool, true, false, ◌||◌, false≢true}
 use mathlib.Core.List.{List, [], ◌∷◌, ◌++◌, map}
 use native.Mathlib.Omega.{arith}
@@ -55,7 +55,7 @@ count_after : (s : SoFar) (r : Register) (rs : List Register) (g : ℕ) → leng
     → get_or s.counts g 0 + length (of_group g (r ∷ rs)) ≡ get_or (after_reg s (Reg r)).counts g 0 + length (of_group g rs)
 count_after s r rs g z n =
     cases (either (eqb r.group g))
-    (λ e. let i = eqb-true r.group g e in rw (e, ← i, get_or-set_same s.counts r.group (before s r + 1) 0 (omega (arith, n, z))) (omega arith))
+    (λ e. let i = eqb-true r.group g e in rw (e, ← i, get_or-set_same s.counts r.group (before s r + 1) 0 (omega (arith, n, z)), i) (omega arith))
     (λ e. rw (e, get_or-set_other s.counts r.group g (before s r + 1) 0 (λ i. eqb-false r.group g e (sym i))))
 
 room_after : (s : SoFar) (r : Register) (rs : List Register) → r.group < 3 → Room s (r ∷ rs) → Room (after_reg s (Reg r)) rs
@@ -145,7 +145,8 @@ pub one_text : (t u : List ℕ) → (list_of 1 t).answer.number ≡ 0 → (list_
     → ((g : ℕ) → (list_of g t).listed ≡ (list_of g u).listed) → t ≡ u
 one_text t u h k f q =
     let a = text_back 1 t h in
-    let b : (list_text (is_grouped t) (regs_of u) ≡ u) × Fits (is_grouped t) (regs_of u) = rw f (text_back 1 u k) in
+    let b : (list_text (is_grouped t) (regs_of u) ≡ u) × Fits (is_grouped t) (regs_of u) =
+    subst (λ (x : Bool). (list_text x (regs_of u) ≡ u) × Fits x (regs_of u)) (sym f) (text_back 1 u k) in
     let m : (g : ℕ) → marks_of (group_of g t) ≡ marks_of (group_of g u) =
     λ g.
     sym (ap listed (list_done g t (rw (one_answer g 1 t) h)).1) ∙ (q g ∙ ap listed (list_done g u (rw (one_answer g 1 u) k)).1) in
@@ -233,6 +234,8 @@ is_headed_lem : (grouped : Bool) (ls : List (List ℕ)) → Some ls → headed (
 unfolding same_bytes
 is_headed_lem true (l ∷ ls) s = refl
 is_headed_lem false (l ∷ ls) s = refl
+is_headed_lem true [] s = elim s [ ]
+is_headed_lem false [] s = elim s [ ]
 
 module _ (grouped : Bool) (rs : List Register) (f : Fits grouped rs) where
   short : length (list_text grouped rs) ≤ list_limit

@@ -6,7 +6,9 @@ use Rattle.registers.proofs.is_grouped.Tie as tie
 
 returns : tie.Need-returns
 unfolding is_grouped
-returns c = c.is_headed_lem.ensures
+returns c = c.is_headed.ensures
 
-pub is-grouped-spec : {M : Type 1} → statement M
-is-grouped-spec = tie.close (tie.spec (search rules) (search rules) returns)
+pub is_grouped_spec : {M : Type 1} → statement M
+is_grouped_spec = tie.close (tie.spec
+    (search rules)
+    returns)

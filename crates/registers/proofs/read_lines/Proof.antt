@@ -9,7 +9,6 @@ use borrow.Author.Rules.{rules}
 use lib.Dec.{leb, ltb}
 use lib.ListN.{length, get_or, set, length-set}
 use borrow.Author.Tests.{eq-eqb, ne_eqb, leb-false}
-use Rattle.laws.proofs.Cases.{cases}
 use Rattle.memory.specs.Listed.{none_listed}
 use Rattle.event.specs.Limit.{places, last_place}
 use Rattle.text.specs.Line.{line_at, split_from, said_in}
@@ -26,6 +25,7 @@ use Rattle.registers.proofs.Marks.{length_marked, marking_line}
 use Rattle.registers.proofs.Prints.{reg_back}
 use Rattle.registers.proofs.OneText.{group_in, neither}
 use Rattle.registers.proofs.read_lines.Statement.{statement}
+use Rattle.registers.proofs.read_lines.Lts.{then-register-group, else-register-group}
 use Rattle.registers.proofs.read_lines.Tie as tie
 
 record Inv (grouped : Bool) (text : List ℕ) (g from : ℕ) (listed : List Bool) (counts : List ℕ) (at low n : ℕ) : Type 0 where
@@ -34,14 +34,14 @@ record Inv (grouped : Bool) (text : List ℕ) (g from : ℕ) (listed : List Bool
       Tried (regs_layout grouped) refused 4 (lines_read grouped g 0 nothing none_listed (split_from text from)) text (n + 2) (record { low = low; counts = counts })
       (marking grouped g listed) at
 
-abbrev invariant-loop : tie.invariant-loop
+abbrev invariant-loop : tie.invariant-loop-to
 invariant-loop grouped text g from listed₀ counts₀ at₀ low₀ n₀ listed counts at low n = Inv grouped text g from listed counts at low n
 
-abbrev decreases-loop : tie.decreases-loop
+abbrev decreases-loop : tie.decreases-loop-to
 decreases-loop grouped text g from listed₀ counts₀ at₀ low₀ n₀ listed counts at low n = length text - at
 
 -- a turn's place
-module _ (c : tie.After-next-line invariant-loop decreases-loop) where
+module _ (c : tie.After-next_line invariant-loop decreases-loop) where
   abbrev begin : tie.Start invariant-loop decreases-loop
   begin = c.before.before.before
 
@@ -52,83 +52,85 @@ module _ (c : tie.After-next-line invariant-loop decreases-loop) where
   text = begin.args.text.now
 
   abbrev at : ℕ
-  at = c.before.loop.at
+  at = c.loop-to.at
 
   inv :
-      Inv grouped text begin.args.group begin.args.from c.before.loop.listed c.before.loop.counts at c.before.loop.low c.before.loop.n
-  inv = c.before.loop.invariant
+      Inv grouped text begin.args.group begin.args.from c.loop-to.listed c.loop-to.counts at c.loop-to.low c.loop-to.n
+  inv = c.loop-to.invariant
 
 -- its line has a LF
-module _ (c : tie.After-to invariant-loop decreases-loop) where
-  abbrev l : tie.After-next-line invariant-loop decreases-loop
-  l = c.before.before
+module _ (c : tie.In-Line invariant-loop decreases-loop) where
+  abbrev l : tie.After-next_line invariant-loop decreases-loop
+  l = c.before
 
   abbrev to : ℕ
-  to = c.to.given.0.0
+  to = c.in-Line.to
 
   here : line_at (text l) (at l) ≡ Line to
-  here = sym l.next-line.ensures ∙ c.to.given.1
+  here = sym l.next_line.ensures ∙ c.in-Line.is
 
   -- it lies within the text, and there are no more registers than bytes before it
-  line : Next (text l) (at l) to × (l.before.loop.n + 2 ≤ at l)
+  line : Next (text l) (at l) to × (l.loop-to.n + 2 ≤ at l)
   line = (next _ _ _ here, (inv l).walk.lined)
 
 -- and is read
-module _ (c : tie.After-reg-of invariant-loop decreases-loop) where
-  abbrev t : tie.After-to invariant-loop decreases-loop
-  t = c.before.before.before
+module _ (c : tie.After-reg_of invariant-loop decreases-loop) where
+  abbrev t : tie.In-Line invariant-loop decreases-loop
+  t = c.before.before
 
   is : {r : RegRead} → c.reg_of.result ≡ r → reg_of (grouped (l t)) (part (text (l t)) (at (l t)) (to t)) ≡ r
   is e = sym c.reg_of.ensures ∙ e
 
 -- it is a register
-module _ (c : tie.After-register invariant-loop decreases-loop) where
-  abbrev e : tie.After-reg-of invariant-loop decreases-loop
-  e = c.before.before
+module _ (c : tie.In-Reg invariant-loop decreases-loop) where
+  abbrev e : tie.After-reg_of invariant-loop decreases-loop
+  e = c.before
 
-  abbrev p : tie.After-to invariant-loop decreases-loop
+  abbrev p : tie.In-Line invariant-loop decreases-loop
   p = t e
 
   abbrev it : Register
-  it = c.register.given.0.0
+  it = c.in-Reg.register
 
   reg : reg_of (grouped (l p)) (part (text (l p)) (at (l p)) (to p)) ≡ Reg it
-  reg = is e c.register.given.1
+  reg = is e c.in-Reg.is
 
   bounds : (it.group < 3) × (it.location ≤ last_place)
   bounds = let n = (reg_back (grouped (l p)) _ it reg).1 in (group_in (grouped (l p)) it n, n.location)
 
 -- it is tried for 22
-module _ (c : tie.After-is-refused invariant-loop decreases-loop) where
-  abbrev r : tie.After-register invariant-loop decreases-loop
-  r = c.before.before.before.before.before
+module _ (c : tie.After-is_refused invariant-loop decreases-loop) where
+  abbrev r : tie.In-Reg invariant-loop decreases-loop
+  r = c.before.before.before.before
 
-  abbrev q : tie.After-next-line invariant-loop decreases-loop
+  abbrev q : tie.After-next_line invariant-loop decreases-loop
   q = l (p r)
 
-  own : c.before.index_of.result ≡ (it r).group
-  own = c.before.index_of.ensures
+  own : c.index_of-own.result ≡ (it r).group
+  own = c.index_of-own.ensures
 
-  told : {b : Bool} → c.is-refused.result ≡ b
-      → (ltb (rank (it r)) q.before.loop.low || leb reg_limit (get_or q.before.loop.counts (it r).group 0)) ≡ b
-  told e = sym (rw own at c.is-refused.ensures) ∙ e
+  told : {b : Bool} → c.is_refused.result ≡ b
+      → (ltb (rank (it r)) q.loop-to.low || leb reg_limit (get_or q.loop-to.counts (it r).group 0)) ≡ b
+  told e = sym (rw own at c.is_refused.ensures) ∙ e
 
 -- it is marked if it is the group's
-module _ (c : tie.Joined2 invariant-loop decreases-loop) where
-  abbrev f : tie.After-is-refused invariant-loop decreases-loop
+module _ (c : tie.Joined-register-group invariant-loop decreases-loop) where
+  abbrev f : tie.After-is_refused invariant-loop decreases-loop
   f = c.before.before.before
 
-  marks_are : c.if2.listed ≡ marked_for (begin (q f)).args.group (q f).before.loop.listed (it (r f))
+  marks_are : c.if-register-group.listed ≡ marked_for (begin (q f)).args.group (q f).loop-to.listed (it (r f))
   unfolding marked_for
   marks_are =
-      cases c.if2.branch (λ t. t.2 ∙ rw (t.1.ensures, eq-eqb _ _ t.0.taken))
-      (λ e. e.1 ∙ rw (ne_eqb _ _ e.0.left))
+      elim c.if-register-group.branch [
+        | then-register-group w ↦ w.listed-is ∙ rw (w.index_of.ensures, eq-eqb _ _ w.if-register-group.true)
+        | else-register-group w ↦ w.listed-is ∙ rw (ne_eqb _ _ w.if-register-group.false)
+      ]
 
   -- it is not one too many of its group
-  few : get_or (q f).before.loop.counts f.before.index_of.result 0 < reg_limit
+  few : get_or (q f).loop-to.counts f.index_of-own.result 0 < reg_limit
   few =
-      let counts = (q f).before.loop.counts in
-      let n = (neither (ltb (rank (it (r f))) (q f).before.loop.low) _ (told f c.before.before.if1.false)).1 in
+      let counts = (q f).loop-to.counts in
+      let n = (neither (ltb (rank (it (r f))) (q f).loop-to.low) _ (told f c.if-is_refused.false)).1 in
       omega (arith, ap (λ (i : ℕ). get_or counts i 0) (own f), leb-false reg_limit (get_or counts (it (r f)).group 0) n)
 
 -- what is known after it
@@ -136,45 +138,45 @@ counted : (counts : List ℕ) (low : ℕ) (r : Register) (i : ℕ) → i ≡ r.g
     → after_reg (record { low = low; counts = counts }) (Reg r) ≡ record { low = rank r + 1; counts = set counts i (get_or counts i 0 + 1) }
 counted counts low r i e = rw e
 
-loop-holds : tie.Need-loop-init invariant-loop decreases-loop
+loop-holds : tie.Need-loop-to-init invariant-loop decreases-loop
 loop-holds c = record { sizes = (refl, refl); walk = record { lined = omega arith; same = refl } }
 
-returns : tie.Need-returns invariant-loop decreases-loop
+returns : tie.Need-returns-in_default-reg_of invariant-loop decreases-loop
 returns c =
-    let q = c.before.before.before.before in
-    tried_stop (inv (l (t q))).walk c.refusal.ensures (here (t q)) c.before.new.ensures refl (rw (is q c.before.before.enum-told2.given.1))
+    let q = c.before.before.before in
+    tried_stop (inv (l (t q))).walk c.refusal.ensures (here (t q)) c.new.ensures refl (rw (is q c.in_default-reg_of.is))
 
-returns-2 : tie.Need-returns-2 invariant-loop decreases-loop
+returns-2 : tie.Need-returns-then-is_refused invariant-loop decreases-loop
 returns-2 c =
     let i = c.before.before.before in
-    tried_stop (inv (q i)).walk c.refusal2.ensures (here (p (r i))) c.before.new2.ensures refl
-    (rw (reg (r i), told i c.before.before.if1.true))
+    tried_stop (inv (q i)).walk c.refusal-then-is_refused.ensures (here (p (r i))) c.new-then-is_refused.ensures refl
+    (rw (reg (r i), told i c.if-is_refused.true))
 
-loop-again : tie.Need-loop-preserved invariant-loop decreases-loop
+loop-again : tie.Need-loop-to-preserved invariant-loop decreases-loop
 loop-again c =
     let i = f c in
     record {
       sizes = (ap length (marks_are c) ∙ (length_marked _ _ _ ∙ (inv (q i)).sizes.0), simp length-set (inv (q i)).sizes.1);
       walk =
-          tried_go (inv (q i)).walk (here (p (r i))) (omega arith) (rw (reg (r i), told i c.before.before.if1.false))
-          (ap (after_reg _) (reg (r i)) ∙ counted (q i).before.loop.counts (q i).before.loop.low (it (r i)) _ (own i))
+          tried_go (inv (q i)).walk (here (p (r i))) (omega arith) (rw (reg (r i), told i c.if-is_refused.false))
+          (ap (after_reg _) (reg (r i)) ∙ counted (q i).loop-to.counts (q i).loop-to.low (it (r i)) _ (own i))
           (λ m ls. marking_line _ _ _ _ m ls _ (reg (r i)) ∙ ap (λ (b : List Bool). marking (grouped (q i)) (begin (q i)).args.group b (m ∷ ls)) (sym (marks_are c)));
     }
 
-returns-3 : tie.Need-returns-3 invariant-loop decreases-loop
+returns-3 : tie.Need-returns-then-at-text invariant-loop decreases-loop
 returns-3 c =
     let q = c.before.before.before in
-    let o = q.before.before in
-    tried_open (inv o).walk c.refusal3.ensures (sym o.next-line.ensures ∙ q.enum_told.given.1) c.before.before.if3.true c.before.new3.ensures
+    let o = q.before in
+    tried_open (inv o).walk c.refusal-then-at-text.ensures (sym o.next_line.ensures ∙ q.in_default.is) c.if-at-text.true c.new-then-at-text.ensures
 
-returns-4 : tie.Need-returns-4 invariant-loop decreases-loop
+returns-4 : tie.Need-returns invariant-loop decreases-loop
 unfolding said_in marked
 returns-4 c =
-    let o = c.before.before.before.before in
-    rw c.new4.ensures (sym (tried_end (inv o).walk c.before.if3.false refl refl))
+    let o = c.before.before.before in
+    rw c.new-2.ensures (sym (tried_end (inv o).walk c.if-at-text.false refl refl))
 
-pub read-lines-spec : {M : Type 1} → statement M
-read-lines-spec =
+pub read_lines_spec : {M : Type 1} → statement M
+read_lines_spec =
     tie.close
     (tie.spec
     invariant-loop
@@ -183,30 +185,30 @@ read-lines-spec =
     (search rules)
     (search rules)
     (search rules)
-    (λ c. omega (arith, line c.before))
-    (λ c. omega (arith, line c.before))
-    (λ c. omega (arith, line c.before))
+    (λ c. omega (arith, line c))
+    (λ c. omega (arith, line c))
+    (λ c. omega (arith, line c))
     (search rules)
     (search rules)
     (search rules)
-    (λ c. omega (arith, line (t c.before.before)))
+    (λ c. omega (arith, line (t c.before)))
     (search rules)
     (search rules)
     returns
+    (λ c. omega (arith, bounds c.before))
     (λ c. omega (arith, bounds c.before.before))
-    (λ c. omega (arith, bounds c.before.before.before))
     (search rules)
-    (λ c. omega (arith, bounds c.before.before.before.before, c.index_of.ensures))
-    (λ c. omega (arith, bounds c.before.before.before.before, c.index_of.ensures, (inv (l (p c.before.before.before.before))).sizes))
+    (λ c. omega (arith, bounds c.before.before.before, c.index_of-own.ensures))
+    (λ c. omega (arith, bounds c.before.before.before, c.index_of-own.ensures, (inv (l (p c.before.before.before))).sizes))
     (search rules)
     (λ c. omega (arith, line (p (r c.before))))
     (search rules)
     (search rules)
     returns-2
     (search rules)
-    (λ c. omega (arith, bounds (r c.before.before.before.before), c.index-of2.ensures, (inv (q c.before.before.before.before)).sizes))
-    (λ c. omega (arith, bounds (r (f c)), own (f c)))
-    (λ c. omega (arith, bounds (r (f c)), own (f c), (inv (q (f c))).sizes))
+    (λ c. omega (arith, bounds (r c.before.before.before.before), c.index_of.ensures, (inv (q c.before.before.before.before)).sizes))
+    (λ c. omega (arith, bounds (r c.before.before.before), own c.before.before.before))
+    (λ c. omega (arith, bounds (r c.before.before.before), own c.before.before.before, (inv (q c.before.before.before)).sizes))
     (λ c. omega (arith, few c))
     (λ c. omega (arith, bounds (r (f c)), own (f c), (inv (q (f c))).sizes))
     (λ c. omega (arith, bounds (r (f c))))
@@ -214,7 +216,7 @@ read-lines-spec =
     (λ c. omega (arith, line (p (r (f c)))))
     (λ c. omega (arith, line (p (r (f c)))))
     loop-again
-    (λ c. omega (arith, (inv c.before.before.before).walk.lined))
+    (λ c. omega (arith, (inv c.before.before).walk.lined))
     (search rules)
     (search rules)
     returns-3

@@ -7,22 +7,20 @@ use Rattle.registers.specs.Reg.{group_rest}
 use Rattle.registers.proofs.reg.group_rest.Statement.{statement}
 use Rattle.registers.proofs.reg.group_rest.Tie as tie
 
-returns : tie.Need-returns
+returns : tie.Need-returns-in_default
 unfolding group_rest
-returns c = sym (bad _ _ _ _ _ (sym c.before.before.take-number.ensures ∙ c.enum_told.given.1))
+returns c = sym (bad _ _ _ _ _ (sym c.take_number.ensures ∙ c.in_default.is))
 
-returns-2 : tie.Need-returns-2
+returns-2 : tie.Need-returns-then-value-eq0
 unfolding group_rest
 returns-2 c =
-    let v = c.before.before in
-    sym (took _ _ _ _ _ (sym v.before.before.take-number.ensures ∙ v.value.given.1) _ _ ∙ rw (eq-eqb _ _ c.if1.true))
+    sym (took _ _ _ _ _ (sym c.take_number.ensures ∙ c.in-Number.is) _ _ ∙ rw (eq-eqb _ _ c.if-value-eq0.true))
 
-returns-3 : tie.Need-returns-3
+returns-3 : tie.Need-returns
 unfolding group_rest
 returns-3 c =
-    let v = c.before.before.before in
-    c.reg-rest.ensures
-    ∙ sym (took _ _ _ _ _ (sym v.before.before.take-number.ensures ∙ v.value.given.1) _ _ ∙ rw (ne_eqb _ _ c.before.if1.false))
+    c.reg_rest.ensures
+    ∙ sym (took _ _ _ _ _ (sym c.take_number.ensures ∙ c.in-Number.is) _ _ ∙ rw (ne_eqb _ _ c.if-value-eq0.false))
 
-pub group-rest-spec : {M : Type 1} → statement M
-group-rest-spec = tie.close (tie.spec (search rules) (search rules) (search rules) returns returns-2 (search rules) returns-3)
+pub group_rest_spec : {M : Type 1} → statement M
+group_rest_spec = tie.close (tie.spec (search rules) (search rules) (search rules) returns returns-2 (search rules) returns-3)

@@ -13,18 +13,18 @@ use Rattle.registers.proofs.reg.reg_of.Statement.{statement}
 use Rattle.registers.proofs.reg.reg_of.Tie as tie
 
 -- the first field, and the fields after it
-module _ (c : tie.After-from) where
+module _ (c : tie.In-Field) where
   abbrev this : List ℕ
-  this = c.before.before.before.before.args.line.now
+  this = c.args.line.now
 
   abbrev start : ℕ
-  start = c.from.given.0.0
+  start = c.in-Field.from
 
   abbrev stop : ℕ
-  stop = c.from.given.0.1.0
+  stop = c.in-Field.to
 
   found : field_at this 0 ≡ Field start stop
-  found = sym c.before.before.field_of.ensures ∙ c.from.given.1
+  found = sym c.field_of.ensures ∙ c.in-Field.is
 
   inside : (start ≤ stop) × (stop ≤ length this)
   inside = field_in _ _ _ _ found
@@ -32,35 +32,34 @@ module _ (c : tie.After-from) where
   split_at : fields this ≡ take (stop - start) (drop start this) ∷ fields_from this (stop + 1)
   split_at = sym (fields_start this) ∙ field_step _ _ _ _ found
 
-returns : tie.Need-returns
+returns : tie.Need-returns-in_default
 unfolding reg_of
-returns c = rw (sym (fields_start _) ∙ line_end _ _ (sym c.before.before.field_of.ensures ∙ c.enum_told.given.1))
+returns c = rw (sym (fields_start _) ∙ line_end _ _ (sym c.field_of.ensures ∙ c.in_default.is))
 
-add-after-word : tie.Need-overflow-add-after-word
-add-after-word c = let f = c.before.before.before.before.before in omega (arith, inside f, f.before.before.before.before.well-formed)
+add-after-word : tie.Need-overflow_add-to
+add-after-word c = let f = c.before.before.before.before.before in omega (arith, inside f, f.well_formed)
 
-returns-2 : tie.Need-returns-2
+returns-2 : tie.Need-returns-then-same_bytes
 unfolding reg_of
 returns-2 c =
     let w = c.before.before in
-    rw (split_at w.before.before.before.before, sym w.same_bytes.ensures ∙ c.before.if1.true) c.after_word_lem.ensures
+    rw (split_at w.before.before.before.before, sym w.same_bytes.ensures ∙ c.if-same_bytes.true) c.after_word.ensures
 
-returns-3 : tie.Need-returns-3
+returns-3 : tie.Need-returns
 unfolding reg_of
-returns-3 c = rw (split_at c.before.before.before.before.before, sym c.before.same_bytes.ensures ∙ c.if1.false)
+returns-3 c = rw (split_at c.before.before.before.before.before, sym c.same_bytes.ensures ∙ c.if-same_bytes.false)
 
-pub reg-of-spec : {M : Type 1} → statement M
-reg-of-spec =
+pub reg_of_spec : {M : Type 1} → statement M
+reg_of_spec =
     tie.close
     (tie.spec
     (search rules)
     (search rules)
     (search rules)
     returns
-    (λ c. omega (arith, inside c.before))
-    (λ c. omega (arith, inside c.before))
-    (λ c. omega (arith, inside c.before))
-    (search rules)
+    (λ c. omega (arith, inside c))
+    (λ c. omega (arith, inside c))
+    (λ c. omega (arith, inside c))
     (search rules)
     add-after-word
     (search rules)

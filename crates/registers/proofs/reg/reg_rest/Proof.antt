@@ -6,23 +6,21 @@ use borrow.Author.Rules.{rules}
 use Rattle.registers.proofs.reg.reg_rest.Statement.{statement}
 use Rattle.registers.proofs.reg.reg_rest.Tie as tie
 
-returns : tie.Need-returns
+returns : tie.Need-returns-in_default
 unfolding reg_rest
-returns c = sym (bad _ _ _ _ _ (sym c.before.before.take-number.ensures ∙ c.enum_told.given.1))
+returns c = sym (bad _ _ _ _ _ (sym c.take_number.ensures ∙ c.in_default.is))
 
-returns-2 : tie.Need-returns-2
+returns-2 : tie.Need-returns-then-ends_at
 unfolding reg_rest
 returns-2 c =
-    let v = c.before.before.before in
-    sym (took _ _ _ _ _ (sym v.before.before.take-number.ensures ∙ v.value.given.1) _ _
-    ∙ ended _ _ _ _ (sym c.before.ends_at.ensures ∙ c.if1.true))
+    sym (took _ _ _ _ _ (sym c.take_number.ensures ∙ c.in-Number.is) _ _
+    ∙ ended _ _ _ _ (sym c.ends_at.ensures ∙ c.if-ends_at.true))
 
-returns-3 : tie.Need-returns-3
+returns-3 : tie.Need-returns
 unfolding reg_rest
 returns-3 c =
-    let v = c.before.before.before in
-    sym (took _ _ _ _ _ (sym v.before.before.take-number.ensures ∙ v.value.given.1) _ _
-    ∙ not_ended _ _ _ _ (sym c.before.ends_at.ensures ∙ c.if1.false))
+    sym (took _ _ _ _ _ (sym c.take_number.ensures ∙ c.in-Number.is) _ _
+    ∙ not_ended _ _ _ _ (sym c.ends_at.ensures ∙ c.if-ends_at.false))
 
-pub reg-rest-spec : {M : Type 1} → statement M
-reg-rest-spec = tie.close (tie.spec (search rules) (search rules) (search rules) returns (search rules) returns-2 returns-3)
+pub reg_rest_spec : {M : Type 1} → statement M
+reg_rest_spec = tie.close (tie.spec (search rules) (search rules) (search rules) returns (search rules) returns-2 returns-3)
