@@ -10,7 +10,6 @@ use borrow.Author.Tests.{eqb-true, eqb-false, leb-true, not-true}
 use Rattle.laws.proofs.Bools.{and_left, and_right}
 use Rattle.laws.proofs.Cases.{cases, side}
 use Rattle.laws.proofs.Has.{has_every}
-use Rattle.laws.specs.Has.{has}
 use Rattle.event.specs.Limit.{last_place}
 use Rattle.kinds.specs.Kind.{is_marks, row, rows, no_kind, orders_of, takes, fits_place, lawful}
 use Rattle.event.specs.declared.Event.{Event}
@@ -94,9 +93,9 @@ zero_kind : row 0 ≡ no_kind
 unfolding row
 zero_kind = refl
 
-no_kind : (k o : ℕ) → row k ≡ no_kind → takes (row k).orders o ≡ true → ⊥
+no_kind_lem : (k o : ℕ) → row k ≡ no_kind → takes (row k).orders o ≡ true → ⊥
 unfolding takes
-no_kind k o e h = false≢true (rw e at h)
+no_kind_lem k o e h = false≢true (rw e at h)
 
 place_fits : (p : Place) (n : ℕ) → fits_place p n ≡ true → (n ≤ last_place) × (has_place p ≡ false → n ≡ 0)
 place_fits Location n h = (leb-true n last_place h, λ e. absurd (false≢true (sym e)))
@@ -124,9 +123,9 @@ shaped f e h =
     let p = place_fits (row e.kind).place e.place (place_of_lem e h) in
     let v = values_of e h in
     record {
-      some = λ z. no_kind e.kind e.order (rw z zero_kind) o;
+      some = λ z. no_kind_lem e.kind e.order (rw z zero_kind) o;
       listed =
-          cases (side e.kind (suc (length kind_words))) (λ q. omega arith) (λ q. absurd (no_kind e.kind e.order (outside e.kind q) o));
+          cases (side e.kind (suc (length kind_words))) (λ q. omega arith) (λ q. absurd (no_kind_lem e.kind e.order (outside e.kind q) o));
       stands = stand (row e.kind).orders e.order o;
       place = p.0;
       no_place = p.1;

@@ -12,7 +12,7 @@ use lib.Seq.{drop-cons}
 use borrow.Author.Tests.{eqb-true, leb-true, not-true}
 use Rattle.laws.proofs.Bools.{and_left, and_right}
 use Rattle.laws.proofs.Cases.{cases, either, side}
-use Rattle.laws.proofs.Lists.{Each, Free, every, every_at, every_each}
+use Rattle.laws.proofs.Lists.{Free, every, every_at, every_each}
 use Rattle.text.specs.Word.{same_bytes}
 use Rattle.text.proofs.Words.{same_eq}
 use Rattle.record.specs.Table.{word_in}

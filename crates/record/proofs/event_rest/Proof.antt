@@ -41,131 +41,131 @@ abbrev after_word : Shape → ℕ → List (List ℕ) → Record
 after_word s k fs = number_if s.place last_place fs (after_place s k)
 
 -- the shape and the arguments, and the record of the whole
-abbrev shape : tie.After-shape-of → Shape
-shape c = c.shape_of.result
+abbrev shape : tie.After-shape_of-shape → Shape
+shape c = c.shape_of-shape.result
 
-abbrev kind : tie.After-shape-of → ℕ
-kind c = c.before.before.args.kind
+abbrev kind : tie.After-shape_of-shape → ℕ
+kind c = c.args.kind
 
-abbrev from : tie.After-shape-of → ℕ → List (List ℕ)
-from c at = fields_from c.before.before.args.line.now at
+abbrev from : tie.After-shape_of-shape → ℕ → List (List ℕ)
+from c at = fields_from c.args.line.now at
 
-abbrev whole : tie.After-shape-of → Record
-whole c = event_rest c.before.before.args.form (kind c) (from c c.before.before.args.at)
+abbrev whole : tie.After-shape_of-shape → Record
+whole c = event_rest c.args.form (kind c) (from c c.args.at)
 
-past₀ : (c : tie.After-shape-of) → whole c ≡ after_word (shape c) (kind c) (from c c.before.before.args.at)
+past₀ : (c : tie.After-shape_of-shape) → whole c ≡ after_word (shape c) (kind c) (from c c.args.at)
 unfolding event_rest
-past₀ c = ap (λ (s : Shape). after_word s (kind c) (from c c.before.before.args.at)) (sym c.shape_of.ensures)
+past₀ c = ap (λ (s : Shape). after_word s (kind c) (from c c.args.at)) (sym c.shape_of-shape.ensures)
 
 -- after the place
-abbrev c₁ : tie.After-known-told → tie.After-shape-of
-c₁ c = c.before.before.before.before
+abbrev c₁ : tie.In-Given → tie.After-shape_of-shape
+c₁ c = c.before.before
 
-abbrev place : tie.After-known-told → ℕ
-place c = c.before.place.given.0.0
+abbrev place : tie.In-Given → ℕ
+place c = c.in-Given.place
 
-past₁ : (c : tie.After-known-told) → let r = c₁ c in
-    whole r ≡ after_place (shape r) (kind r) (place c) (from r c.before.place.given.0.1.0)
-past₁ c = past₀ (c₁ c) ∙ number_given _ _ _ _ _ _ c.before.before.before.number-if.ensures c.before.place.given.1 _
+past₁ : (c : tie.In-Given) → let r = c₁ c in
+    whole r ≡ after_place (shape r) (kind r) (place c) (from r c.in-Given.after_place)
+past₁ c = past₀ (c₁ c) ∙ number_given _ _ _ _ _ _ c.number_if.ensures c.in-Given.is _
 
 -- after the order
-abbrev c₂ : tie.After-known-told2 → tie.After-known-told
-c₂ c = c.before.before.before.before
+abbrev c₂ : tie.In-Given-order_if → tie.In-Given
+c₂ c = c.before.before
 
-abbrev order : tie.After-known-told2 → ℕ
-order c = c.before.order.given.0.0
+abbrev order : tie.In-Given-order_if → ℕ
+order c = c.in-Given-order_if.order
 
-past₂ : (c : tie.After-known-told2) → let r = c₁ (c₂ c) in
-    whole r ≡ after_order (shape r) (kind r) (place (c₂ c)) (order c) (from r c.before.order.given.0.1.0)
-past₂ c = past₁ (c₂ c) ∙ order_given _ _ _ _ _ _ c.before.before.before.order-if.ensures c.before.order.given.1 _
+past₂ : (c : tie.In-Given-order_if) → let r = c₁ (c₂ c) in
+    whole r ≡ after_order (shape r) (kind r) (place (c₂ c)) (order c) (from r c.in-Given-order_if.after_order)
+past₂ c = past₁ (c₂ c) ∙ order_given _ _ _ _ _ _ c.order_if.ensures c.in-Given-order_if.is _
 
 -- after the first value
-abbrev c₃ : tie.After-known-told3 → tie.After-known-told2
-c₃ c = c.before.before.before.before
+abbrev c₃ : tie.In-Given-number_if → tie.In-Given-order_if
+c₃ c = c.before.before
 
-abbrev first : tie.After-known-told3 → ℕ
-first c = c.before.first.given.0.0
+abbrev first : tie.In-Given-number_if → ℕ
+first c = c.in-Given-number_if.first
 
-past₃ : (c : tie.After-known-told3) → let o = c₃ c in
+past₃ : (c : tie.In-Given-number_if) → let o = c₃ c in
     let r = c₁ (c₂ o) in
-    whole r ≡ after_first (shape r) (kind r) (place (c₂ o)) (order o) (first c) (from r c.before.first.given.0.1.0)
-past₃ c = past₂ (c₃ c) ∙ number_given _ _ _ _ _ _ c.before.before.before.number-if2.ensures c.before.first.given.1 _
+    whole r ≡ after_first (shape r) (kind r) (place (c₂ o)) (order o) (first c) (from r c.in-Given-number_if.after_first)
+past₃ c = past₂ (c₃ c) ∙ number_given _ _ _ _ _ _ c.number_if-2.ensures c.in-Given-number_if.is _
 
 -- after the second value
-abbrev c₄ : tie.After-known-told4 → tie.After-known-told3
-c₄ c = c.before.before.before.before
+abbrev c₄ : tie.In-Given-number_if-2 → tie.In-Given-number_if
+c₄ c = c.before.before
 
-abbrev second : tie.After-known-told4 → ℕ
-second c = c.before.second.given.0.0
+abbrev second : tie.In-Given-number_if-2 → ℕ
+second c = c.in-Given-number_if-2.second
 
-past₄ : (c : tie.After-known-told4) → let o = c₃ (c₄ c) in
+past₄ : (c : tie.In-Given-number_if-2) → let o = c₃ (c₄ c) in
     let r = c₁ (c₂ o) in
-    whole r ≡ after_second (shape r) (kind r) (place (c₂ o)) (order o) (first (c₄ c)) (second c) (from r c.before.second.given.0.1.0)
-past₄ c = past₃ (c₄ c) ∙ number_given _ _ _ _ _ _ c.before.before.before.number-if3.ensures c.before.second.given.1 _
+    whole r ≡ after_second (shape r) (kind r) (place (c₂ o)) (order o) (first (c₄ c)) (second c) (from r c.in-Given-number_if-2.after_second)
+past₄ c = past₃ (c₄ c) ∙ number_given _ _ _ _ _ _ c.number_if-3.ensures c.in-Given-number_if-2.is _
 
 -- after the mark
-abbrev c₅ : tie.After-known-told5 → tie.After-known-told4
-c₅ c = c.before.before.before.before
+abbrev c₅ : tie.In-Given-order_if-2 → tie.In-Given-number_if-2
+c₅ c = c.before.before
 
-abbrev mark : tie.After-known-told5 → ℕ
-mark c = c.before.mark.given.0.0
+abbrev mark : tie.In-Given-order_if-2 → ℕ
+mark c = c.in-Given-order_if-2.mark
 
-past₅ : (c : tie.After-known-told5) → let t = c₄ (c₅ c) in
+past₅ : (c : tie.In-Given-order_if-2) → let t = c₄ (c₅ c) in
     let r = c₁ (c₂ (c₃ t)) in
     whole r
-    ≡ after_mark (shape r) (kind r) (place (c₂ (c₃ t))) (first t) (second (c₅ c)) (mark c) (from r c.before.mark.given.0.1.0)
-past₅ c = past₄ (c₅ c) ∙ order_given _ _ _ _ _ _ c.before.before.before.order-if2.ensures c.before.mark.given.1 _
+    ≡ after_mark (shape r) (kind r) (place (c₂ (c₃ t))) (first t) (second (c₅ c)) (mark c) (from r c.in-Given-order_if-2.after_mark)
+past₅ c = past₄ (c₅ c) ∙ order_given _ _ _ _ _ _ c.order_if-2.ensures c.in-Given-order_if-2.is _
 
 -- after the code line
-abbrev c₆ : tie.After-known-told6 → tie.After-known-told5
-c₆ c = c.before.before.before.before
+abbrev c₆ : tie.In-Given-number_if-3 → tie.In-Given-order_if-2
+c₆ c = c.before.before
 
-abbrev event : tie.After-known-told6 → Event
+abbrev event : tie.In-Given-number_if-3 → Event
 event c =
     let m = c₆ c in
     let t = c₄ (c₅ m) in
     let p = c₂ (c₃ t) in
-    made (kind (c₁ p)) (place p) (mark m) (first t) (second (c₅ m)) c.before.code.given.0.0
+    made (kind (c₁ p)) (place p) (mark m) (first t) (second (c₅ m)) c.in-Given-number_if-3.code
 
-abbrev start : tie.After-known-told6 → tie.After-shape-of
+abbrev start : tie.In-Given-number_if-3 → tie.After-shape_of-shape
 start c = c₁ (c₂ (c₃ (c₄ (c₅ (c₆ c)))))
 
-past₆ : (c : tie.After-known-told6) → whole (start c) ≡ on_end Refused (from (start c) c.before.code.given.0.1.0) (lawful_line (event c))
-past₆ c = past₅ (c₆ c) ∙ number_given _ _ _ _ _ _ c.before.before.before.number-if4.ensures c.before.code.given.1 _
+past₆ : (c : tie.In-Given-number_if-3) → whole (start c) ≡ on_end Refused (from (start c) c.in-Given-number_if-3.next) (lawful_line (event c))
+past₆ c = past₅ (c₆ c) ∙ number_given _ _ _ _ _ _ c.number_if-4.ensures c.in-Given-number_if-3.is _
 
-returns : tie.Need-returns
-returns c = sym (past₀ c.before.before.before ∙ number_refused _ _ _ _ c.before.before.number-if.ensures c.enum_told.given.1 _)
+returns : tie.Need-returns-in_default
+returns c = sym (past₀ c.before.before ∙ number_refused _ _ _ _ c.number_if.ensures c.in_default.is _)
 
-returns-2 : tie.Need-returns-2
-returns-2 c = sym (past₁ c.before.before.before ∙ order_refused _ _ _ _ c.before.before.order-if.ensures c.enum-told2.given.1 _)
+returns-2 : tie.Need-returns-in_default-order_if
+returns-2 c = sym (past₁ c.before.before ∙ order_refused _ _ _ _ c.order_if.ensures c.in_default-order_if.is _)
 
-returns-3 : tie.Need-returns-3
-returns-3 c = sym (past₂ c.before.before.before ∙ number_refused _ _ _ _ c.before.before.number-if2.ensures c.enum-told3.given.1 _)
+returns-3 : tie.Need-returns-in_default-number_if
+returns-3 c = sym (past₂ c.before.before ∙ number_refused _ _ _ _ c.number_if-2.ensures c.in_default-number_if.is _)
 
-returns-4 : tie.Need-returns-4
-returns-4 c = sym (past₃ c.before.before.before ∙ number_refused _ _ _ _ c.before.before.number-if3.ensures c.enum-told4.given.1 _)
+returns-4 : tie.Need-returns-in_default-number_if-2
+returns-4 c = sym (past₃ c.before.before ∙ number_refused _ _ _ _ c.number_if-3.ensures c.in_default-number_if-2.is _)
 
-returns-5 : tie.Need-returns-5
-returns-5 c = sym (past₄ c.before.before.before ∙ order_refused _ _ _ _ c.before.before.order-if2.ensures c.enum-told5.given.1 _)
+returns-5 : tie.Need-returns-in_default-order_if-2
+returns-5 c = sym (past₄ c.before.before ∙ order_refused _ _ _ _ c.order_if-2.ensures c.in_default-order_if-2.is _)
 
-returns-6 : tie.Need-returns-6
-returns-6 c = sym (past₅ c.before.before.before ∙ number_refused _ _ _ _ c.before.before.number-if4.ensures c.enum-told6.given.1 _)
+returns-6 : tie.Need-returns-in_default-number_if-3
+returns-6 c = sym (past₅ c.before.before ∙ number_refused _ _ _ _ c.number_if-4.ensures c.in_default-number_if-3.is _)
 
-returns-7 : tie.Need-returns-7
-returns-7 c = sym (past₆ c.before.before ∙ not_ended _ _ _ _ (sym c.before.ends_at.ensures ∙ not-true _ c.if1.true))
+returns-7 : tie.Need-returns-then-not-ends_at
+returns-7 c = sym (past₆ c.before.before ∙ not_ended _ _ _ _ (sym c.ends_at.ensures ∙ not-true _ c.if-not-ends_at.true-raw))
 
 -- the line has ended
-end : (c : tie.Else1) → whole (start c.before.before) ≡ lawful_line (event c.before.before)
-end c = past₆ c.before.before ∙ ended _ _ _ _ (sym c.before.ends_at.ensures ∙ not-false _ c.if1.false)
+end : (c : tie.Else-not-ends_at) → whole (start c.before.before) ≡ lawful_line (event c.before.before)
+end c = past₆ c.before.before ∙ ended _ _ _ _ (sym c.ends_at.ensures ∙ not-false _ c.if-not-ends_at.false-raw)
 
-returns-8 : tie.Need-returns-8
-returns-8 c = sym (end c.before.before ∙ rw (sym c.before.suits.ensures ∙ not-true _ c.if2.true))
+returns-8 : tie.Need-returns-then-not-suits
+returns-8 c = sym (end c.before.before ∙ rw (sym c.suits.ensures ∙ not-true _ c.if-not-suits.true-raw))
 
-returns-9 : tie.Need-returns-9
-returns-9 c = sym (end c.before.before ∙ rw (sym c.before.suits.ensures ∙ not-false _ c.if2.false))
+returns-9 : tie.Need-returns
+returns-9 c = sym (end c.before.before ∙ rw (sym c.suits.ensures ∙ not-false _ c.if-not-suits.false-raw))
 
-pub event-rest-spec : {M : Type 1} → statement M
-event-rest-spec =
+pub event_rest_spec : {M : Type 1} → statement M
+event_rest_spec =
     tie.close
     (tie.spec
     (search rules)

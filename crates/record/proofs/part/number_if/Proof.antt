@@ -6,18 +6,18 @@ use Rattle.record.proofs.Walk.{within_field}
 use Rattle.record.proofs.part.number_if.Statement.{statement}
 use Rattle.record.proofs.part.number_if.Tie as tie
 
-returns : tie.Need-returns
+returns : tie.Need-returns-then-not-wanted
 unfolding number_part
-returns c = rw (not-true c.before.before.args.wanted c.if1.true)
+returns c = rw (not-true c.args.wanted c.if-not-wanted.true-raw)
 
-number-of-field-requires : tie.Need-number-of-field-requires
+number-of-field-requires : tie.Need-number_of_field-requires
 number-of-field-requires c κs = rw c.field_of.ensures (within_field _ _)
 
-returns-2 : tie.Need-returns-2
+returns-2 : tie.Need-returns
 unfolding number_part
 returns-2 c =
-    let a = c.before.before.before.before.args in
-    rw (not-false a.wanted c.before.before.if1.false, ← c.before.field_of.ensures) c.number-of-field.ensures
+    let a = c.args in
+    rw (not-false a.wanted c.if-not-wanted.false-raw, ← c.field_of.ensures) c.number_of_field.ensures
 
-pub number-if-spec : {M : Type 1} → statement M
-number-if-spec = tie.close (tie.spec returns (search rules) number-of-field-requires returns-2)
+pub number_if_spec : {M : Type 1} → statement M
+number_if_spec = tie.close (tie.spec returns (search rules) number-of-field-requires returns-2)

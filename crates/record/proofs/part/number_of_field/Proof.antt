@@ -10,28 +10,27 @@ use Rattle.record.proofs.part.number_of_field.Statement.{statement}
 use Rattle.record.proofs.part.number_of_field.Tie as tie
 
 -- where the field stands
-inside : (c : tie.After-known-told) → let f = c.before.field.given.0 in
-    (f.0 ≤ f.1.0) × (f.1.0 ≤ length c.before.before.before.before.args.line.now)
-inside c = rw c.before.field.given.1 at c.before.before.before.before.requires
+inside : (c : tie.In-Field) → (c.in-Field.from ≤ c.in-Field.to) × (c.in-Field.to ≤ length c.args.line.now)
+inside c = rw c.in-Field.is at c.requires
 
 -- from the number back to the field
-abbrev field : tie.After-known-told2 → tie.After-known-told
-field c = c.before.before.before.before.before
+abbrev field : tie.In-Value → tie.In-Field
+field c = c.before.before.before
 
-returns : tie.Need-returns
+returns : tie.Need-returns-in_default
 unfolding field_part
-returns c = rw c.enum_told.given.1
+returns c = rw c.in_default.is
 
-returns-2 : tie.Need-returns-2
+returns-2 : tie.Need-returns-in_default-number_of
 unfolding field_part
-returns-2 c = let f = c.before.before.before.before in rw (f.before.field.given.1, ← c.before.before.number_of_lem.ensures, c.enum-told2.given.1)
+returns-2 c = rw (c.in-Field.is, ← c.number_of.ensures, c.in_default-number_of.is)
 
-returns-3 : tie.Need-returns-3
+returns-3 : tie.Need-returns
 returns-3 c =
-    rw (field c).before.field.given.1 (sym (part_given _ _ _ _ _ (sym c.before.before.before.number_of_lem.ensures ∙ c.before.value.given.1)))
+    rw (field c).in-Field.is (sym (part_given _ _ _ _ _ (sym c.number_of.ensures ∙ c.in-Value.is)))
 
-pub number-of-field-spec : {M : Type 1} → statement M
-number-of-field-spec =
+pub number_of_field_spec : {M : Type 1} → statement M
+number_of_field_spec =
     tie.close
     (tie.spec
     (search rules)

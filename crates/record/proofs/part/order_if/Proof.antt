@@ -16,43 +16,43 @@ use Rattle.record.proofs.part.order_if.Statement.{statement}
 use Rattle.record.proofs.part.order_if.Tie as tie
 
 -- the field that was found, which lies within the line
-abbrev start : tie.After-known-told → tie.Start
-start c = c.before.before.before.before.before.before
+abbrev start : tie.In-Field → tie.Start
+start c = c.before.before.before.before
 
-abbrev from : tie.After-known-told → ℕ
-from c = c.before.from.given.0.0
+abbrev from : tie.In-Field → ℕ
+from c = c.in-Field.from
 
-abbrev to : tie.After-known-told → ℕ
-to c = c.before.from.given.0.1.0
+abbrev to : tie.In-Field → ℕ
+to c = c.in-Field.to
 
-abbrev line : tie.After-known-told → List ℕ
+abbrev line : tie.In-Field → List ℕ
 line c = (start c).args.line.now
 
-found : (c : tie.After-known-told) → field_at (line c) (start c).args.at ≡ Field (from c) (to c)
-found c = sym c.before.before.before.field_of.ensures ∙ c.before.from.given.1
+found : (c : tie.In-Field) → field_at (line c) (start c).args.at ≡ Field (from c) (to c)
+found c = sym c.field_of.ensures ∙ c.in-Field.is
 
-inside : (c : tie.After-known-told) → (from c ≤ to c) × (to c ≤ length (line c))
+inside : (c : tie.In-Field) → (from c ≤ to c) × (to c ≤ length (line c))
 inside c = field_in _ _ _ _ (found c)
 
 -- the field is wanted
-wanted : (c : tie.Else1) → c.before.before.args.wanted ≡ true
-wanted c = not-false _ c.if1.false
+wanted : (c : tie.Else-not-wanted) → c.args.wanted ≡ true
+wanted c = not-false _ c.if-not-wanted.false-raw
 
-returns : tie.Need-returns
+returns : tie.Need-returns-then-not-wanted
 unfolding order_part
-returns c = rw (not-true c.before.before.args.wanted c.if1.true)
+returns c = rw (not-true c.args.wanted c.if-not-wanted.true-raw)
 
-returns-2 : tie.Need-returns-2
+returns-2 : tie.Need-returns-in_default
 unfolding order_part
-returns-2 c = rw (wanted c.before.before.before, ← c.before.before.field_of.ensures, c.enum_told.given.1)
+returns-2 c = rw (wanted c.before.before, ← c.field_of.ensures, c.in_default.is)
 
-returns-3 : tie.Need-returns-3
+returns-3 : tie.Need-returns
 unfolding order_part
 returns-3 c = let k = c.before.before in
-    rw (wanted k.before.before.before.before, found k, ← c.order_of_lem.ensures)
+    rw (wanted k.before.before, found k, ← c.order_of.ensures)
 
-pub order-if-spec : {M : Type 1} → statement M
-order-if-spec =
+pub order_if_spec : {M : Type 1} → statement M
+order_if_spec =
     tie.close
     (tie.spec
     returns

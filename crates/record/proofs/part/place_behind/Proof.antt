@@ -4,8 +4,8 @@ use native.Mathlib.Omega.{arith}
 use Rattle.record.proofs.part.place_behind.Statement.{statement}
 use Rattle.record.proofs.part.place_behind.Tie as tie
 
-add-result : tie.Need-overflow-add-result
-add-result c = omega (arith, rw c.before.field.given.1 at c.before.before.before.requires)
+add-result : tie.Need-overflow_add-result
+add-result c = omega (arith, rw c.in-Field.is at c.requires)
 
-pub place-behind-spec : {M : Type 1} → statement M
-place-behind-spec = tie.close (tie.spec (search rules) (search rules) add-result (λ c. search rules) (λ c. rw c.before.field.given.1))
+pub place_behind_spec : {M : Type 1} → statement M
+place_behind_spec = tie.close (tie.spec (search rules) (search rules) add-result (λ c. search rules) (λ c. rw c.in-Field.is))

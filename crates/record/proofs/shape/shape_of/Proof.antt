@@ -4,10 +4,7 @@ use Rattle.record.proofs.shape.shape_of.Tie as tie
 
 returns : tie.Need-returns
 returns c =
-    let m = c.before in
-    let o = m.before in
-    let p = o.before in
-    rw (c.is-coded.ensures, m.is-marks.ensures, o.has-order.ensures, p.has-place.ensures, p.before.row_of.ensures)
+    rw (c.is_coded.ensures, c.is_marks.ensures, c.has_order.ensures, c.has_place.ensures, c.row_of-row.ensures)
 
-pub shape-of-spec : {M : Type 1} → statement M
-shape-of-spec = tie.close (tie.spec (λ c κs. tt) (λ c κs. tt) (λ c κs. tt) (λ c κs. tt) (λ c κs. tt) returns)
+pub shape_of_spec : {M : Type 1} → statement M
+shape_of_spec = tie.close (tie.spec (λ c κs. tt) (λ c κs. tt) (λ c κs. tt) (λ c κs. tt) (λ c κs. tt) returns)

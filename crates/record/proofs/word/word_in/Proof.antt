@@ -9,9 +9,9 @@ use Rattle.record.proofs.word.word_in.Tie as tie
 
 returns : tie.Need-returns
 returns c =
-    let n : ℕ = get_or c.before.before.before.args.row.now 0 0 % 8 in
+    let n : ℕ = get_or c.args.row.now 0 0 % 8 in
     let z : n + 1 - 1 ≡ n = omega arith in
     rw z
 
-pub word-in-spec : {M : Type 1} → statement M
-word-in-spec = tie.close (tie.spec (search rules) (search rules) (search rules) (search rules) (search rules) (search rules) returns)
+pub word_in_spec : {M : Type 1} → statement M
+word_in_spec = tie.close (tie.spec (search rules) (search rules) (search rules) (search rules) (search rules) (search rules) returns)
