@@ -29,6 +29,6 @@ joined : (x : ℕ) (e : Bool) → x < 2 → eqb (max x (cond e 1 0)) 1 ≡ (e ||
 joined x true h = let k : x ≤ 1 = omega arith in ap (λ (y : ℕ). eqb y 1) (max-eq_right k)
 joined x false h = ap (λ (y : ℕ). eqb y 1) (max-zero x)
 
-pub bit_or : (w b c : ℕ) → bit (bit_or w (2 ^ c)) b ≡ (eqb b c || bit w b)
-bit_or w b c =
+pub bit_or_lem : (w b c : ℕ) → bit (bit_or w (2 ^ c)) b ≡ (eqb b c || bit w b)
+bit_or_lem w b c =
     rw (or_shr w (2 ^ c) b, lowest (w / 2 ^ b) (2 ^ c / 2 ^ b), power_bit b c) (joined (w / 2 ^ b % 2) (eqb b c) (mod-lt (w / 2 ^ b) (omega arith)))

@@ -12,7 +12,7 @@ use lib.Seq.{get_or-set_same, get_or-set_other}
 use borrow.Author.Tests.{eqb-true, eqb-false, eq-eqb, ne_eqb}
 use Rattle.laws.proofs.Cases.{cases, either}
 use Rattle.judge.specs.Marks.{bit, in_words, marking}
-use Rattle.judge.proofs.Bit.{bit_or}
+use Rattle.judge.proofs.Bit.{bit_or_lem}
 
 -- two numbers of one word are one if their bits are
 one_word : (j k : ℕ) → j / 64 ≡ k / 64 → eqb (j % 64) (k % 64) ≡ eqb j k
@@ -27,7 +27,7 @@ in_marking ws k j s =
     let next : ℕ = bit_or (get_or ws (k / 64) 0) (2 ^ (k % 64)) in
     cases (either (eqb (j / 64) (k / 64)))
     (λ e. let q : j / 64 ≡ k / 64 = eqb-true _ _ e in
-    rw (q, get_or-set_same ws (k / 64) next 0 s, ← one_word j k q) (bit_or (get_or ws (k / 64) 0) (j % 64) (k % 64)))
+    rw (q, get_or-set_same ws (k / 64) next 0 s, ← one_word j k q) (bit_or_lem (get_or ws (k / 64) 0) (j % 64) (k % 64)))
     (λ e. let ne : j / 64 ≡ k / 64 → ⊥ = eqb-false _ _ e in
     rw (get_or-set_other ws (k / 64) (j / 64) next 0 ne, ne_eqb j k (λ z. ne (ap (λ (x : ℕ). x / 64) z))))
 

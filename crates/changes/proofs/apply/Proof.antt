@@ -7,8 +7,8 @@ use Rattle.changes.proofs.apply.Tie as tie
 
 returns : tie.Need-returns
 returns c =
-    let a = c.before.before.before.before.before.args in
-    applies_none (whole_events a.source.now) (whole_events a.target.now) a.run a.tags.now a.step c.apply-listed.ensures
+    let a = c.args in
+    applies_none (whole_events a.source.now) (whole_events a.target.now) a.run a.tags.now a.step c.apply_listed.ensures
 
-pub apply-spec : {M : Type 1} → statement M
-apply-spec = tie.close (tie.spec (search rules) returns)
+pub apply_spec : {M : Type 1} → statement M
+apply_spec = tie.close (tie.spec (search rules) returns)

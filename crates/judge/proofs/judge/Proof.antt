@@ -47,7 +47,7 @@ unfolding verdict_in
 in_order regs m n l t ns e = rw (onward_length t 0 (capacity t)) e
 
 -- the arguments
-module _ (c : tie.After-start-answer) where
+module _ (c : tie.After-start_answer-begun) where
   abbrev start : tie.Start
   start = c.before.before.before.before
 
@@ -63,60 +63,69 @@ module _ (c : tie.After-start-answer) where
   abbrev entries : List ℕ
   entries = start.args.entries.now
 
-returns : tie.Need-returns
+returns : tie.Need-returns-then-begun-ne0
 returns c =
     let s = c.before.before in
-    in_order (regs s) _ _ (source s) (target s) (entries s) (stops _ _ s.start-answer.ensures c.if1.true)
+    in_order (regs s) _ _ (source s) (target s) (entries s) (stops _ _ s.start_answer-begun.ensures c.if-begun-ne0.true)
 
-returns-2 : tie.Need-returns-2
+returns-2 : tie.Need-returns-then-count-source
 returns-2 c =
     let s = c.before.before.before.before in
     let eight : c.new.result.number ≡ 0 → ⊥ = λ q. let o : ◌≡◌ {A = ℕ} 8 0 = ap (λ (a : Answer). a.number) (sym c.new.ensures) ∙ q in omega arith in
-    in_order (regs s) _ _ (source s) (target s) (entries s) (goes _ _ s.start-answer.ensures c.before.before.if1.false
-    (stops _ _ (c.new.ensures ∙ count_stops (source s) (entries s) c.before.if2.true) eight))
+    in_order (regs s) _ _ (source s) (target s) (entries s) (goes _ _ s.start_answer-begun.ensures c.if-begun-ne0.false
+    (stops _ _ (c.new.ensures ∙ count_stops (source s) (entries s) c.if-count-source.true) eight))
 
 -- the entries are as many as the source events
-module _ (c : tie.Else2) where
-  abbrev begun : tie.After-start-answer
+module _ (c : tie.Else-count-source) where
+  abbrev begun : tie.After-start_answer-begun
   begun = c.before.before.before
 
   on : {r : Answer} → r ≡ after_count (view_in (regs begun)) (source begun) (target begun) (entries begun)
-      → r ≡ verdict_in (regs begun) (start begun).args.start.cells (start begun).args.target-start.cells (events (source begun)) (events (target begun))
+      → r ≡ verdict_in (regs begun) (start begun).args.start.cells (start begun).args.target_start.cells (events (source begun)) (events (target begun))
       (entries begun)
   on e =
-      in_order (regs begun) _ _ (source begun) (target begun) (entries begun) (goes _ _ begun.start-answer.ensures c.before.if1.false
-      (goes _ _ (count_goes (source begun) (entries begun) c.if2.false) refl e))
+      in_order (regs begun) _ _ (source begun) (target begun) (entries begun) (goes _ _ begun.start_answer-begun.ensures c.if-begun-ne0.false
+      (goes _ _ (count_goes (source begun) (entries begun) c.if-count-source.false) refl e))
 
-returns-3 : tie.Need-returns-3
+returns-3 : tie.Need-returns-then-named-ne0
 returns-3 c =
     let a = c.before.before in
-    on a.before.before (stops _ _ a.entry-answer.ensures.0 c.if3.true)
+    on a.before.before (stops _ _ a.entry_answer-named.ensures.0 c.if-named-ne0.true)
 
-source-answer-requires : tie.Need-source-answer-requires
+source-answer-requires : tie.Need-source_answer-found-requires
 source-answer-requires c κs =
     let b = c.before.before.before.before in
-    ((start (begun b)).pre.0, ((start (begun b)).pre.1.0, b.if2.false))
+    ((start (begun b)).requires.0, ((start (begun b)).requires.1.0, b.if-count-source.false))
 
-returns-4 : tie.Need-returns-4
+returns-4 : tie.Need-returns-then-found-ne0
 returns-4 c =
     let f = c.before.before in
     let a = f.before.before.before in
-    on a.before.before (goes _ _ a.entry-answer.ensures.0 f.before.if3.false (stops _ _ f.source-answer.ensures c.if4.true))
+    on a.before.before (goes _ _ a.entry_answer-named.ensures.0 f.if-named-ne0.false (stops _ _ f.source_answer-found.ensures c.if-found-ne0.true))
 
-target-answer-requires : tie.Need-target-answer-requires
+target-answer-requires : tie.Need-target_answer-requires
 target-answer-requires c κs =
     let b = c.before.before.before.before.before.before.before.before in
-    (start (begun b)).pre.1.1
+    (start (begun b)).requires.1.1
 
-returns-5 : tie.Need-returns-5
+returns-5 : tie.Need-returns
 returns-5 c =
     let f = c.before.before.before.before in
     let a = f.before.before.before in
-    on a.before.before (goes _ _ a.entry-answer.ensures.0 f.before.if3.false (goes _ _ f.source-answer.ensures c.before.before.if4.false
-    (c.target-answer.ensures _ (a.entry-answer.ensures.1 f.before.if3.false))))
+    on a.before.before (goes _ _ a.entry_answer-named.ensures.0 f.if-named-ne0.false (goes _ _ f.source_answer-found.ensures c.if-found-ne0.false
+    (c.target_answer.ensures _ (a.entry_answer-named.ensures.1 f.if-named-ne0.false))))
 
-pub judge-spec : {M : Type 1} → statement M
-judge-spec =
+pub judge_spec : {M : Type 1} → statement M
+judge_spec =
     tie.close
-    (tie.spec (λ c κs. tt) returns (λ c κs. tt) returns-2 (λ c κs. (omega arith, refl)) returns-3 source-answer-requires returns-4
-    target-answer-requires returns-5)
+    (tie.spec
+    (λ c κs. tt)
+    returns
+    (λ c κs. tt)
+    returns-2
+    (λ c κs. (omega arith, refl))
+    returns-3
+    source-answer-requires
+    returns-4
+    target-answer-requires
+    returns-5)

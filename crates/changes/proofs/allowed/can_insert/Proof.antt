@@ -45,49 +45,49 @@ module _ (start : tie.Start) where
 whole : (n : ℕ) → n - 0 ≡ n
 whole n = omega arith
 
-returns : tie.Need-returns
+returns : tie.Need-returns-then-place-eq0
 returns c =
     let s = c.before.before.before.before in
-    insert_zero (marks s) (source s) (target s) (tags s) (standing s) s.requires (place s) (place s - 1) c.if1.true
+    insert_zero (marks s) (source s) (target s) (tags s) (standing s) s.requires (place s) (place s - 1) c.if-place-eq0.true
 
-returns-2 : tie.Need-returns-2
+returns-2 : tie.Need-returns-then-target-i
 returns-2 c =
     let s = c.before.before.before.before.before in
-    let z = c.before.if1.false in
-    insert_beyond (marks s) (source s) (target s) (tags s) (standing s) s.requires (place s) (place s - 1) (omega arith) (omega (arith, targets s, c.if2.true))
+    let z = c.if-place-eq0.false in
+    insert_beyond (marks s) (source s) (target s) (tags s) (standing s) s.requires (place s) (place s - 1) (omega arith) (omega (arith, targets s, c.if-target-i.true))
 
-returns-3 : tie.Need-returns-3
+returns-3 : tie.Need-returns-then-standing-ge-EVENT_LIMIT
 returns-3 c =
     let s = c.before.before.before.before.before.before in
-    let z = c.before.before.if1.false in
-    insert_full (marks s) (source s) (target s) (tags s) (standing s) s.requires (place s) (place s - 1) (omega arith) c.if3.true
+    let z = c.if-place-eq0.false in
+    insert_full (marks s) (source s) (target s) (tags s) (standing s) s.requires (place s) (place s - 1) (omega arith) c.if-standing-ge-EVENT_LIMIT.true
 
-returns-4 : tie.Need-returns-4
+returns-4 : tie.Need-returns-then-standing-i
 returns-4 c =
     let s = c.before.before.before.before.before.before.before in
-    let z = c.before.before.before.if1.false in
-    insert_past (marks s) (source s) (target s) (tags s) (standing s) s.requires (place s) (place s - 1) (omega arith) c.if4.true
+    let z = c.if-place-eq0.false in
+    insert_past (marks s) (source s) (target s) (tags s) (standing s) s.requires (place s) (place s - 1) (omega arith) c.if-standing-i.true
 
-returns-5 : tie.Need-returns-5
+returns-5 : tie.Need-returns
 returns-5 c =
     let g = c.before in
     let d = g.before.before in
     let s = d.before.before.before.before.before.before.before in
-    let z = d.before.before.before.if1.false in
+    let z = d.if-place-eq0.false in
     insert_at (marks s) (source s) (target s) (tags s) (standing s) s.requires (place s) (place s - 1) (omega arith)
-    (omega (arith, targets s, d.before.before.if2.false)) (omega (arith, d.before.if3.false)) d.if4.false g.get.result
-    (g.get.ensures ∙ sym (room_at s.args.target.now (place s - 1))) c.may-insert.result
-    (c.may-insert.ensures ∙ ap (λ n. may_insert (viewed (view_in (marks s))) (behind [] (trace (source s) (target s) (take n (tags s))) (place s - 1))
+    (omega (arith, targets s, d.if-target-i.false)) (omega (arith, d.if-standing-ge-EVENT_LIMIT.false)) d.if-standing-i.false g.get.result
+    (g.get.ensures ∙ sym (room_at s.args.target.now (place s - 1))) c.may_insert.result
+    (c.may_insert.ensures ∙ ap (λ n. may_insert (viewed (view_in (marks s))) (behind [] (trace (source s) (target s) (take n (tags s))) (place s - 1))
     (view_in (marks s) g.get.result))
     (whole (standing s)))
 
-may-insert-requires : tie.Need-may-insert-requires
+may-insert-requires : tie.Need-may_insert-requires
 may-insert-requires c κs =
     let d = c.before.before in
     let s = d.before.before.before.before.before.before.before in
-    rw (whole (standing s)) (omega (arith, length-take-le (standing s) (tags s) s.requires, d.if4.false))
+    rw (whole (standing s)) (omega (arith, length-take-le (standing s) (tags s) s.requires, d.if-standing-i.false))
 
-pub can-insert-spec : {M : Type 1} → statement M
-can-insert-spec =
+pub can_insert_spec : {M : Type 1} → statement M
+can_insert_spec =
     tie.close
     (tie.spec returns (search rules) returns-2 returns-3 returns-4 (search rules) (search rules) (search rules) (search rules) may-insert-requires returns-5)

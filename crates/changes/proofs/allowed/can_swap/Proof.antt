@@ -31,29 +31,39 @@ module _ (start : tie.Start) where
   abbrev place : ℕ
   place = start.args.place
 
-returns : tie.Need-returns
+returns : tie.Need-returns-then-place-eq0
 returns c =
     let s = c.before.before.before.before in
-    swap_zero (marks s) (source s) (target s) (tags s) (standing s) s.requires (place s) (place s - 1) c.if1.true
+    swap_zero (marks s) (source s) (target s) (tags s) (standing s) s.requires (place s) (place s - 1) c.if-place-eq0.true
 
-returns-2 : tie.Need-returns-2
+returns-2 : tie.Need-returns-then-standing-place
 returns-2 c =
     let s = c.before.before.before.before.before in
-    let z = c.before.if1.false in
-    swap_past (marks s) (source s) (target s) (tags s) (standing s) s.requires (place s) (place s - 1) (omega arith) c.if2.true
+    let z = c.if-place-eq0.false in
+    swap_past (marks s) (source s) (target s) (tags s) (standing s) s.requires (place s) (place s - 1) (omega arith) c.if-standing-place.true
 
-returns-3 : tie.Need-returns-3
+returns-3 : tie.Need-returns
 returns-3 c =
     let f = c.before in
     let e = f.before.before in
     let d = e.before.before in
     let s = d.before.before.before.before.before in
-    let z = d.before.if1.false in
-    swap_at (marks s) (source s) (target s) (tags s) (standing s) s.requires (place s) (place s - 1) (omega arith) d.if2.false c.may-swap.result
-    (c.may-swap.ensures ∙ ap₂ (λ (x y : Event). apart (view_in (marks s) x) (view_in (marks s) y)) e.event-of.ensures f.event-of2.ensures)
+    let z = d.if-place-eq0.false in
+    swap_at (marks s) (source s) (target s) (tags s) (standing s) s.requires (place s) (place s - 1) (omega arith) d.if-standing-place.false c.may_swap.result
+    (c.may_swap.ensures ∙ ap₂ (λ (x y : Event). apart (view_in (marks s) x) (view_in (marks s) y)) e.event_of-e.ensures f.event_of-f.ensures)
 
-pub can-swap-spec : {M : Type 1} → statement M
-can-swap-spec =
+pub can_swap_spec : {M : Type 1} → statement M
+can_swap_spec =
     tie.close
-    (tie.spec returns returns-2 (search rules) (search rules) (search rules) (search rules) (search rules) (search rules) (search rules) (search rules)
+    (tie.spec
+    returns
+    returns-2
+    (search rules)
+    (search rules)
+    (search rules)
+    (search rules)
+    (search rules)
+    (search rules)
+    (search rules)
+    (search rules)
     returns-3)

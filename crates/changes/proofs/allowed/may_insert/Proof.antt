@@ -13,17 +13,17 @@ use Rattle.changes.proofs.allowed.may_insert.Tie as tie
 abbrev before : tie.Start → List Traced
 before s = behind [] (trace (whole_events s.args.source.now) (whole_events s.args.target.now) s.args.tags.now) s.args.i
 
-returns : tie.Need-returns
+returns : tie.Need-returns-then-is_load_in
 returns c =
     let l = c.before.before in
     let s = l.before.before.before.before in
-    c.holds-before.ensures ∙ sym (insert_load s.args.listed.now (before s) s.args.e (sym l.is-load-in.ensures ∙ c.before.if1.true))
+    c.holds_before.ensures ∙ sym (insert_load s.args.listed.now (before s) s.args.e (sym l.is_load_in.ensures ∙ c.if-is_load_in.true))
 
-returns-2 : tie.Need-returns-2
+returns-2 : tie.Need-returns
 returns-2 c =
     let l = c.before in
     let s = l.before.before.before.before in
-    sym (insert_other s.args.listed.now (before s) (view_in s.args.listed.now s.args.e) (sym l.is-load-in.ensures ∙ c.if1.false))
+    sym (insert_other s.args.listed.now (before s) (view_in s.args.listed.now s.args.e) (sym l.is_load_in.ensures ∙ c.if-is_load_in.false))
 
-pub may-insert-spec : {M : Type 1} → statement M
-may-insert-spec = tie.close (tie.spec (search rules) (search rules) returns returns-2)
+pub may_insert_spec : {M : Type 1} → statement M
+may_insert_spec = tie.close (tie.spec (search rules) (search rules) returns returns-2)

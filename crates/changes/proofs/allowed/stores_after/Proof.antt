@@ -18,17 +18,17 @@ use Rattle.changes.proofs.allowed.stores_after.Statement.{statement}
 use Rattle.changes.proofs.allowed.stores_after.Tie as tie
 
 -- the index j is reached from i
-abbrev invariant-loop : tie.invariant-loop
+abbrev invariant-loop : tie.invariant-loop-j
 invariant-loop listed tags source target i place j₀ j =
     near (viewed (view_in listed)) place (drop i (trace (whole_events source) (whole_events target) tags))
     ≡ near (viewed (view_in listed)) place (drop j (trace (whole_events source) (whole_events target) tags))
 
-abbrev decreases-loop : tie.decreases-loop
+abbrev decreases-loop : tie.decreases-loop-j
 decreases-loop listed tags source target i place j₀ j = length tags - j
 
 -- an event looked at
-module _ (c : tie.After-is-wall-in invariant-loop decreases-loop) where
-  abbrev turn : tie.At-loop invariant-loop decreases-loop
+module _ (c : tie.After-is_wall_in invariant-loop decreases-loop) where
+  abbrev turn : tie.At-loop-j invariant-loop decreases-loop
   turn = c.before.before.before.before
 
   abbrev start : tie.Start invariant-loop decreases-loop
@@ -47,53 +47,66 @@ module _ (c : tie.After-is-wall-in invariant-loop decreases-loop) where
   target = whole_events start.args.target.now
 
   abbrev index : ℕ
-  index = turn.loop.j
+  index = turn.loop-j.j
 
   abbrev tag : ℕ
   tag = get_or tags index 0
 
   abbrev event : Event
-  event = c.before.event-of.result
+  event = c.event_of-e.result
 
-  wall_is : {b : Bool} → c.is-wall-in.result ≡ b → is_wall (view_in marks event) ≡ b
-  wall_is h = sym c.is-wall-in.ensures ∙ h
+  wall_is : {b : Bool} → c.is_wall_in.result ≡ b → is_wall (view_in marks event) ≡ b
+  wall_is h = sym c.is_wall_in.ensures ∙ h
 
   parts : drop index (trace source target tags) ≡ traced_for source target tag ∷ drop (index + 1) (trace source target tags)
-  parts = drop_at source target tags index c.before.before.before.loop-test.true
+  parts = drop_at source target tags index c.loop-j-test.true
 
   -- the near access from the index on
   abbrev nearest : Option View
   nearest = near (viewed (view_in marks)) start.args.place (drop start.args.i (trace source target tags))
 
   ends : is_wall (view_in marks event) ≡ true → nearest ≡ none
-  ends h = turn.loop.inv ∙ stops marks source target tag _ _ _ parts event c.before.event-of.ensures h
+  ends h = turn.loop-j.invariant ∙ stops marks source target tag _ _ _ parts event c.event_of-e.ensures h
 
   found : is_wall (view_in marks event) ≡ false → event.place ≡ start.args.place → nearest ≡ some (view_in marks event)
-  found h q = turn.loop.inv ∙ finds marks source target tag _ _ _ parts event c.before.event-of.ensures h q
+  found h q = turn.loop-j.invariant ∙ finds marks source target tag _ _ _ parts event c.event_of-e.ensures h q
 
-returns : tie.Need-returns invariant-loop decreases-loop
-returns c = rw (ends c.before (wall_is c.before c.if1.true))
+returns : tie.Need-returns-then-is_wall_in invariant-loop decreases-loop
+returns c = rw (ends c.before (wall_is c.before c.if-is_wall_in.true))
 
-returns-2 : tie.Need-returns-2 invariant-loop decreases-loop
+returns-2 : tie.Need-returns-then-e-place invariant-loop decreases-loop
 returns-2 c =
     let d = c.before.before.before in
-    let w = wall_is d.before d.if1.false in
-    rw (found d.before w c.before.if2.true, c.is-load-in.ensures) (sym (stores_of (marks d.before) (event d.before) w))
+    let w = wall_is d.before d.if-is_wall_in.false in
+    rw (found d.before w c.if-e-place.true, c.is_load_in.ensures) (sym (stores_of (marks d.before) (event d.before) w))
 
-loop-again : tie.Need-loop-preserved invariant-loop decreases-loop
+loop-again : tie.Need-loop-j-preserved invariant-loop decreases-loop
 loop-again c =
     let d = c.before.before in
     let a = d.before in
-    (turn a).loop.invariant
-    ∙ passes (marks a) (source a) (target a) (tag a) _ _ _ (parts a) (event a) a.before.event-of.ensures (wall_is a d.if1.false) c.if2.false
+    (turn a).loop-j.invariant
+    ∙ passes (marks a) (source a) (target a) (tag a) _ _ _ (parts a) (event a) a.event_of-e.ensures (wall_is a d.if-is_wall_in.false) c.if-e-place.false
 
-returns-3 : tie.Need-returns-3 invariant-loop decreases-loop
+returns-3 : tie.Need-returns invariant-loop decreases-loop
 returns-3 c =
-    let a = c.before.before.before.before.before.args in
-    rw (c.before.loop.invariant, drop_past (whole_events a.source.now) (whole_events a.target.now) a.tags.now c.before.loop.j c.loop-test.false)
+    let a = c.args in
+    rw (c.loop-j.invariant, drop_past (whole_events a.source.now) (whole_events a.target.now) a.tags.now c.loop-j.j c.loop-j-test.false)
 
-pub stores-after-spec : {M : Type 1} → statement M
-stores-after-spec =
+pub stores_after_spec : {M : Type 1} → statement M
+stores_after_spec =
     tie.close
-    (tie.spec invariant-loop decreases-loop (λ c. refl) (λ c. omega arith) (λ c. omega arith) (λ c κs. tt) (λ c κs. tt) returns (λ c κs. tt) returns-2
-    (λ c. omega arith) (λ c. omega arith) loop-again returns-3)
+    (tie.spec
+    invariant-loop
+    decreases-loop
+    (λ c. refl)
+    (λ c. omega arith)
+    (λ c. omega arith)
+    (λ c κs. tt)
+    (λ c κs. tt)
+    returns
+    (λ c κs. tt)
+    returns-2
+    (λ c. omega arith)
+    (λ c. omega arith)
+    loop-again
+    returns-3)

@@ -11,14 +11,14 @@ use Rattle.changes.proofs.Changes.{allows, one_more, refuses}
 use Rattle.changes.proofs.change.insert.Statement.{statement}
 use Rattle.changes.proofs.change.insert.Tie as tie
 
-abbrev begin : tie.After-can-insert → tie.Start
-begin c = c.before.before.before.before.before
+abbrev begin : tie.After-can_insert → tie.Start
+begin c = c.before.before.before.before
 
-inside : (c : tie.Then1)
+inside : (c : tie.Then-can_insert)
     → (0 < (begin c.before).args.place) × ((begin c.before).args.place - 1 ≤ (begin c.before).args.run.standing) × ((begin c.before).args.run.standing < 800)
-inside c = c.before.can-insert.ensures.1 c.if1.true
+inside c = c.can_insert.ensures.1 c.if-can_insert.true
 
-returns : tie.Need-returns
+returns : tie.Need-returns-then-can_insert
 returns c =
     let l = c.before.before.before in
     let d = l.before.before in
@@ -26,25 +26,33 @@ returns c =
     let a = s.args in
     let n = a.run.standing in
     let ks = with_new (a.place - 1) (800 + (a.place - 1)) (take n a.tags.now) in
-    allows a.run a.tags.now _ _ (trace (whole_events a.source.now) (whole_events a.target.now) ks) d.before.can-insert.ensures.0
+    allows a.run a.tags.now _ _ (trace (whole_events a.source.now) (whole_events a.target.now) ks) d.can_insert.ensures.0
     (whole_events a.source.now)
-    (whole_events a.target.now) ks (n + 1) refl d.if1.true
-    (one_more a.tags.now n s.pre.0 (a.place - 1) (800 + (a.place - 1)) (inside d).1)
-    c.allow.ensures l.shift-right.ensures
+    (whole_events a.target.now) ks (n + 1) refl d.if-can_insert.true
+    (one_more a.tags.now n s.requires.0 (a.place - 1) (800 + (a.place - 1)) (inside d).1)
+    c.allow.ensures l.shift_right.ensures
 
-returns-2 : tie.Need-returns-2
+returns-2 : tie.Need-returns
 returns-2 c =
     let d = c.before in
     let a = (begin d.before).args in
     refuses a.run a.tags.now _ _
     (trace (whole_events a.source.now) (whole_events a.target.now)
-    (with_new (a.place - 1) (800 + (a.place - 1)) (take a.run.standing a.tags.now))) d.before.can-insert.ensures.0 d.if1.false
+    (with_new (a.place - 1) (800 + (a.place - 1)) (take a.run.standing a.tags.now))) d.can_insert.ensures.0 d.if-can_insert.false
     c.refuse.ensures
 
-pub insert-spec : {M : Type 1} → statement M
-insert-spec =
+pub insert_spec : {M : Type 1} → statement M
+insert_spec =
     tie.close
-    (tie.spec (λ c κs. c.before.before.before.before.requires.0) (λ c. omega (arith, (inside c).0))
+    (tie.spec
+    (λ c κs. c.requires.0)
+    (λ c. omega (arith, (inside c).0))
     (λ c. omega (arith, (inside c.before).1, (inside c.before).2))
     (λ c κs. ((inside c.before).1, omega (arith, (inside c.before).2, (begin c.before.before).requires.1)))
-    (λ c. omega (arith, (inside c.before.before.before.before).2)) (search rules) (search rules) returns (search rules) (search rules) returns-2)
+    (λ c. omega (arith, (inside c.before.before.before.before).2))
+    (search rules)
+    (search rules)
+    returns
+    (search rules)
+    (search rules)
+    returns-2)

@@ -15,11 +15,11 @@ use Rattle.changes.proofs.Shifts.{exchange_front}
 use Rattle.changes.proofs.change.swap.Statement.{statement}
 use Rattle.changes.proofs.change.swap.Tie as tie
 
-abbrev begin : tie.After-can-swap → tie.Start
-begin c = c.before.before.before.before.before
+abbrev begin : tie.After-can_swap → tie.Start
+begin c = c.before.before.before.before
 
-inside : (c : tie.Then1) → (0 < (begin c.before).args.place) × ((begin c.before).args.place < (begin c.before).args.run.standing)
-inside c = c.before.can-swap.ensures.1 c.if1.true
+inside : (c : tie.Then-can_swap) → (0 < (begin c.before).args.place) × ((begin c.before).args.place < (begin c.before).args.run.standing)
+inside c = c.can_swap.ensures.1 c.if-can_swap.true
 
 -- two stores
 stored : (i p n : ℕ) (A : List ℕ) → p ≡ suc i → p < n → n ≤ length A
@@ -29,7 +29,7 @@ stored i p n A e h l =
     let y = get_or-take n A (suc i) 0 (omega arith) in
     rw e (sym (exchange_front i n A (omega arith) l ∙ rw (x, y)))
 
-returns : tie.Need-returns
+returns : tie.Need-returns-then-can_swap
 returns c =
     let d = c.before.before.before in
     let s = begin d.before in
@@ -38,28 +38,36 @@ returns c =
     let p0 = (inside d).0 in
     let p1 = (inside d).1 in
     let ks = exchanged (a.place - 1) (take n a.tags.now) in
-    allows a.run a.tags.now _ _ (trace (whole_events a.source.now) (whole_events a.target.now) ks) d.before.can-swap.ensures.0
+    allows a.run a.tags.now _ _ (trace (whole_events a.source.now) (whole_events a.target.now) ks) d.can_swap.ensures.0
     (whole_events a.source.now)
-    (whole_events a.target.now) ks n refl d.if1.true (as_many a.tags.now n s.pre (a.place - 1) (omega arith))
-    c.allow.ensures (stored (a.place - 1) a.place n a.tags.now (omega arith) p1 s.pre)
+    (whole_events a.target.now) ks n refl d.if-can_swap.true (as_many a.tags.now n s.requires (a.place - 1) (omega arith))
+    c.allow.ensures (stored (a.place - 1) a.place n a.tags.now (omega arith) p1 s.requires)
 
-returns-2 : tie.Need-returns-2
+returns-2 : tie.Need-returns
 returns-2 c =
     let d = c.before in
     let a = (begin d.before).args in
     refuses a.run a.tags.now _ _
     (trace (whole_events a.source.now) (whole_events a.target.now) (exchanged (a.place - 1) (take a.run.standing a.tags.now)))
-    d.before.can-swap.ensures.0 d.if1.false c.refuse.ensures
+    d.can_swap.ensures.0 d.if-can_swap.false c.refuse.ensures
 
 pub swap_spec : {M : Type 1} → statement M
 swap_spec =
     tie.close
-    (tie.spec (search rules) (λ c. omega (arith, (inside c).0)) (λ c. omega (arith, (inside c).1, (begin c.before).requires))
-    (λ c. omega (arith, (inside c.before).1, (begin c.before.before).requires)) (λ c. omega (arith, (inside c.before).1, (begin c.before.before).requires))
+    (tie.spec
+    (search rules)
+    (λ c. omega (arith, (inside c).0))
+    (λ c. omega (arith, (inside c).1, (begin c.before).requires))
+    (λ c. omega (arith, (inside c.before).1, (begin c.before.before).requires))
+    (λ c. omega (arith, (inside c.before).1, (begin c.before.before).requires))
     (λ c. omega (arith, (inside c.before.before).1, (begin c.before.before.before).requires))
     (λ c. omega (arith, (inside c.before.before).1, (begin c.before.before.before).requires))
     (λ c. omega (arith, (inside c.before.before).1, (begin c.before.before.before).requires))
     (λ c. omega (arith, (inside c.before.before).1, (begin c.before.before.before).requires))
-    (λ c. simp length-set (omega (arith, (inside c.before.before).1, (begin c.before.before.before).requires))) (search rules) (search rules) returns
-    (search rules) (search rules)
+    (λ c. simp length-set (omega (arith, (inside c.before.before).1, (begin c.before.before.before).requires)))
+    (search rules)
+    (search rules)
+    returns
+    (search rules)
+    (search rules)
     returns-2)

@@ -5,11 +5,11 @@ use borrow.Author.Tests.{lt-ltb, le-ltb}
 use Rattle.changes.proofs.tag.is_source.Statement.{statement}
 use Rattle.changes.proofs.tag.is_source.Tie as tie
 
-returns : tie.Need-returns
-returns c = rw (lt-ltb c.before.args.tag _ c.if1.true, add-one c.before.args.tag)
+returns : tie.Need-returns-then-tag-lt-EVENT_LIMIT
+returns c = rw (lt-ltb c.args.tag _ c.if-tag-lt-EVENT_LIMIT.true, add-one c.args.tag)
 
-returns-2 : tie.Need-returns-2
-returns-2 c = rw (le-ltb c.before.args.tag _ c.if1.false)
+returns-2 : tie.Need-returns
+returns-2 c = rw (le-ltb c.args.tag _ c.if-tag-lt-EVENT_LIMIT.false)
 
-pub is-source-spec : {M : Type 1} → statement M
-is-source-spec = tie.close (tie.spec (search rules) returns returns-2)
+pub is_source_spec : {M : Type 1} → statement M
+is_source_spec = tie.close (tie.spec (search rules) returns returns-2)

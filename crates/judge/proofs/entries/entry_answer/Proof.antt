@@ -32,10 +32,10 @@ record Passed (entries : List ℕ) (targets : ℕ) (marks : List ℕ) (i : ℕ) 
   named : (k : ℕ) → has k entries ≡ (has k behind || has k (drop i entries))
   answers : entry_answer targets 1 [] entries ≡ entry_answer targets (i + 1) behind (drop i entries)
 
-abbrev invariant-loop : tie.invariant-loop
+abbrev invariant-loop : tie.invariant-loop-i
 invariant-loop entries targets marks₀ i₀ marks i = Passed entries targets marks i
 
-abbrev decreases-loop : tie.decreases-loop
+abbrev decreases-loop : tie.decreases-loop-i
 decreases-loop entries targets marks₀ i₀ marks i = length entries - i
 
 join : (x y z : Bool) → (x || (y || z)) ≡ ((y || x) || z)
@@ -49,21 +49,21 @@ unfolding entry_answer
 none_left n i b l j e = rw (e, drop-length l)
 
 -- an entry, those before it and those after it
-module _ (c : tie.After-is-gone invariant-loop decreases-loop) where
-  abbrev turn : tie.At-loop invariant-loop decreases-loop
+module _ (c : tie.After-is_gone invariant-loop decreases-loop) where
+  abbrev turn : tie.At-loop-i invariant-loop decreases-loop
   turn = c.before.before.before
 
   abbrev entries : List ℕ
-  entries = turn.before.before.args.entries.now
+  entries = turn.args.entries.now
 
   abbrev targets : ℕ
-  targets = turn.before.before.args.targets
+  targets = turn.args.targets
 
   abbrev index : ℕ
-  index = turn.loop.i
+  index = turn.loop-i.i
 
   abbrev behind : List ℕ
-  behind = turn.loop.inv.behind
+  behind = turn.loop-i.invariant.behind
 
   abbrev entry : ℕ
   entry = get_or entries index 0
@@ -78,10 +78,10 @@ module _ (c : tie.After-is-gone invariant-loop decreases-loop) where
   parts = drop_next entries index entry (omega arith) refl
 
   from_here : entry_answer targets 1 [] entries ≡ entry_answer targets (index + 1) behind (entry ∷ rest)
-  from_here = turn.loop.inv.answers ∙ rw parts
+  from_here = turn.loop-i.invariant.answers ∙ rw parts
 
-  gone_is : {b : Bool} → c.is_gone_lem.result ≡ b → is_gone entry ≡ b
-  gone_is h = sym c.is_gone_lem.ensures ∙ h
+  gone_is : {b : Bool} → c.is_gone.result ≡ b → is_gone entry ≡ b
+  gone_is h = sym c.is_gone.ensures ∙ h
 
   passed : refuses ≡ false → (marks : List ℕ) → length marks ≡ 13 → Marked marks (entry ∷ behind) → Passed entries targets marks (index + 1)
   passed t marks size m = record {
@@ -89,75 +89,92 @@ module _ (c : tie.After-is-gone invariant-loop decreases-loop) where
     size = size;
     behind = entry ∷ behind;
     marked = m;
-    named = λ k. turn.loop.inv.named k ∙ (rw parts (join (has k behind) (eqb k entry) (has k rest)));
+    named = λ k. turn.loop-i.invariant.named k ∙ (rw parts (join (has k behind) (eqb k entry) (has k rest)));
     answers = from_here ∙ (entry_goes _ _ _ _ _ t ∙ rw (← add-one (index + 1)));
   }
 
   refused : refuses ≡ true → {a : Answer} → a ≡ answer 9 3 (index + 1)
-      → (a ≡ entry_answer targets 1 [] entries) × (a.number ≡ 0 → Marked turn.loop.marks entries)
+      → (a ≡ entry_answer targets 1 [] entries) × (a.number ≡ 0 → Marked turn.loop-i.marks entries)
   refused t e = (
     e ∙ sym (from_here ∙ entry_stops _ _ _ _ _ t),
     λ z. let n : ◌≡◌ {A = ℕ} 9 0 = ap (λ (a : Answer). a.number) (sym e) ∙ z in absurd (omega arith),
   )
 
 -- a kept number beyond the target, and one within it
-beyond : (c : tie.Then2 invariant-loop decreases-loop) → refuses c.before.before.before ≡ true
+beyond : (c : tie.Then-targets-at invariant-loop decreases-loop) → refuses c.before.before.before ≡ true
 beyond c =
     let k = c.before in
-    let h : targets k.before.before < entry k.before.before = omega (arith, k.number-index.ensures, c.if2.true) in
-    rw (gone_is k.before.before k.before.if1.false, lt-ltb _ _ h)
+    let h : targets k.before.before < entry k.before.before = omega (arith, k.number_index-at.ensures, c.if-targets-at.true) in
+    rw (gone_is k.before.before k.if-is_gone.false, lt-ltb _ _ h)
 
-within : (c : tie.Else2 invariant-loop decreases-loop) → entry c.before.before.before ≤ targets c.before.before.before
-within c = omega (arith, c.before.number-index.ensures, c.if2.false)
+within : (c : tie.Else-targets-at invariant-loop decreases-loop) → entry c.before.before.before ≤ targets c.before.before.before
+within c = omega (arith, c.number_index-at.ensures, c.if-targets-at.false)
 
-again : (c : tie.After-is-marked invariant-loop decreases-loop) → refuses c.before.before.before.before.before ≡ c.is-marked.result
+again : (c : tie.After-is_marked invariant-loop decreases-loop) → refuses c.before.before.before.before ≡ c.is_marked.result
 again c =
-    let d = c.before.before in
+    let d = c.before in
     let k = d.before.before.before in
-    let g = gone_is k d.before.before.if1.false in
-    let m = (turn k).loop.invariant.marked (entry k) (kept_number (entry k) g) (omega (arith, within d)) in
-    rw (g, le-ltb _ _ (within d)) (sym (c.is-marked.ensures ∙ (rw d.before.number-index.ensures m)))
+    let g = gone_is k d.if-is_gone.false in
+    let m = (turn k).loop-i.invariant.marked (entry k) (kept_number (entry k) g) (omega (arith, within d)) in
+    rw (g, le-ltb _ _ (within d)) (sym (c.is_marked.ensures ∙ (rw d.number_index-at.ensures m)))
 
-loop-holds : tie.Need-loop-init invariant-loop decreases-loop
+loop-holds : tie.Need-loop-i-init invariant-loop decreases-loop
 loop-holds c =
-    let e = c.before.requires.1 in
+    let e = c.requires.1 in
     record { bound = omega arith; size = ap length e; behind = []; marked = rw e marked_start; named = λ k. refl; answers = refl }
 
-loop-again : tie.Need-loop-preserved invariant-loop decreases-loop
+loop-again : tie.Need-loop-i-preserved-then-is_gone invariant-loop decreases-loop
 loop-again c =
     let k = c.before in
-    let g = gone_is k c.if1.true in
-    passed k (rw g) (turn k).loop.marks (turn k).loop.invariant.size
-    (marked_gone (turn k).loop.marks (behind k) (entry k) g (turn k).loop.invariant.marked)
+    let g = gone_is k c.if-is_gone.true in
+    passed k (rw g) (turn k).loop-i.marks (turn k).loop-i.invariant.size
+    (marked_gone (turn k).loop-i.marks (behind k) (entry k) g (turn k).loop-i.invariant.marked)
 
-returns : tie.Need-returns invariant-loop decreases-loop
+returns : tie.Need-returns-then-targets-at invariant-loop decreases-loop
 returns c = refused c.before.before.before.before (beyond c.before) c.new.ensures
 
-returns-2 : tie.Need-returns-2 invariant-loop decreases-loop
+returns-2 : tie.Need-returns-then-is_marked invariant-loop decreases-loop
 returns-2 c =
     let d = c.before.before in
-    refused d.before.before.before.before.before (again d ∙ c.before.if3.true) c.new2.ensures
+    refused d.before.before.before.before (again d ∙ c.if-is_marked.true) c.new-then-is_marked.ensures
 
-loop-again-2 : tie.Need-loop-preserved-2 invariant-loop decreases-loop
+loop-again-2 : tie.Need-loop-i-preserved invariant-loop decreases-loop
 loop-again-2 c =
     let d = c.before.before.before in
-    let k = d.before.before.before.before.before in
-    let n = d.before.before.before in
-    let t = (turn k).loop in
-    let m = marked_next t.marks (behind k) (entry k) (omega (arith, within d.before.before)) t.inv.size t.inv.marked in
-    passed k (again d ∙ c.before.before.if3.false) _ (rw c.mark.ensures (simp length-set t.inv.size))
-    (rw (c.mark.ensures, n.number-index.ensures) m)
+    let k = d.before.before.before.before in
+    let t = (turn k).loop-i in
+    let m = marked_next t.marks (behind k) (entry k) (omega (arith, within d.before)) t.invariant.size t.invariant.marked in
+    passed k (again d ∙ c.if-is_marked.false) _ (rw c.mark.ensures (simp length-set t.invariant.size))
+    (rw (c.mark.ensures, d.number_index-at.ensures) m)
 
-returns-3 : tie.Need-returns-3 invariant-loop decreases-loop
+returns-3 : tie.Need-returns invariant-loop decreases-loop
 returns-3 c =
-    let l = c.before.before.before.before.args.entries.now in
-    let e : c.before.before.loop.i ≡ length l = omega arith in
-    let inv = c.before.before.loop.invariant in
-    (c.new3.ensures ∙ sym (inv.answers ∙ none_left _ _ _ l _ e), λ z k p h. inv.marked k p h ∙ sym (inv.named k ∙ rw (e, drop-length l, or-false)))
+    let l = c.args.entries.now in
+    let e : c.loop-i.i ≡ length l = omega arith in
+    let inv = c.loop-i.invariant in
+    (c.new-2.ensures ∙ sym (inv.answers ∙ none_left _ _ _ l _ e), λ z k p h. inv.marked k p h ∙ sym (inv.named k ∙ rw (e, drop-length l, or-false)))
 
-pub entry-answer-spec : {M : Type 1} → statement M
-entry-answer-spec =
+pub entry_answer_spec : {M : Type 1} → statement M
+entry_answer_spec =
     tie.close
-    (tie.spec invariant-loop decreases-loop loop-holds (λ c. omega arith) (λ c. omega arith) (λ c. omega arith) (λ c κs. tt) (λ c. omega arith) loop-again
-    (λ c κs. tt) (λ c κs. tt) returns (λ c. omega arith) (λ c κs. tt) returns-2 (λ c. omega arith) (λ c. omega arith) loop-again-2
-    (λ c κs. tt) returns-3)
+    (tie.spec
+    invariant-loop
+    decreases-loop
+    loop-holds
+    (λ c. omega arith)
+    (λ c. omega arith)
+    (λ c. omega arith)
+    (λ c κs. tt)
+    (λ c. omega arith)
+    loop-again
+    (λ c κs. tt)
+    (λ c κs. tt)
+    returns
+    (λ c. omega arith)
+    (λ c κs. tt)
+    returns-2
+    (λ c. omega arith)
+    (λ c. omega arith)
+    loop-again-2
+    (λ c κs. tt)
+    returns-3)

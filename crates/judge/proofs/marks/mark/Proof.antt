@@ -8,7 +8,7 @@ use Rattle.judge.proofs.marks.mark.Statement.{statement}
 use Rattle.judge.proofs.marks.mark.Tie as tie
 
 returns : tie.Need-returns
-returns c = rw (shl_exact {a = 1} 1 (c.before.args.k % 64) 64 (omega arith) (omega arith), one-mul (2 ^ (c.before.args.k % 64)))
+returns c = rw (shl_exact {a = 1} 1 (c.args.k % 64) 64 (omega arith) (omega arith), one-mul (2 ^ (c.args.k % 64)))
 
 pub mark_spec : {M : Type 1} → statement M
 mark_spec = tie.close (tie.spec (search rules) (search rules) (search rules) (search rules) (search rules) returns)

@@ -4,8 +4,11 @@ use borrow.Author.Rules.{rules}
 use Rattle.judge.proofs.target.target_fault.Statement.{statement}
 use Rattle.judge.proofs.target.target_fault.Tie as tie
 
-pub target-fault-spec : {M : Type 1} → statement M
-target-fault-spec =
+pub target_fault_spec : {M : Type 1} → statement M
+target_fault_spec =
     tie.close
-    (tie.spec (search rules) (λ c. rw (c.before.before.if1.true, sym c.before.is-load-kind.ensures ∙ c.if2.true))
-    (λ c. rw (c.before.before.if1.true, sym c.before.is-load-kind.ensures ∙ c.if2.false)) (λ c. rw c.if1.false))
+    (tie.spec
+    (search rules)
+    (λ c. rw (c.if-unsupported.true, sym c.is_load_kind.ensures ∙ c.if-is_load_kind.true))
+    (λ c. rw (c.if-unsupported.true, sym c.is_load_kind.ensures ∙ c.if-is_load_kind.false))
+    (λ c. rw c.if-unsupported.false))
