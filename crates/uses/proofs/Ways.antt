@@ -1,7 +1,7 @@
 -- An array that says how each location was used, and one event more. While no event has clashed, each location was used in one way
 -- at most, so that one number for each location tells all; and whether it was touched at all it tells always. Assumes nothing.
 use Prim.Native.Nat.{ℕ, ◌<◌}
-use mathlib.Core.Path.{◌≡◌, refl, sym, ◌∙◌, fun_ext}
+use mathlib.Core.Path.{◌≡◌, refl, sym, ◌∙◌, fun_ext, subst}
 use mathlib.Core.Bool.{Bool, true, false, cond, not, ◌&&◌, ◌||◌, and-true, and-false, or-false, or_assoc, or_comm, false≢true}
 use mathlib.Core.List.{List, [], ◌∷◌}
 use native.Mathlib.Omega.{arith}
@@ -78,11 +78,12 @@ module _ (ways : List ℕ) (before : List Event) (e : Event) (inside : e.place <
     here : (l : ℕ) → l < 256 → e.place ≡ l → (uses plain l (e ∷ before) ≡ eqb way_now 1) × (uses atomic l (e ∷ before) ≡ eqb way_now 2)
     unfolding uses way_of
     here l h i =
-        rw (← i, eq-eqb e.place e.place refl)
+        subst (λ (l : ℕ). (uses plain l (e ∷ before) ≡ eqb way_now 1) × (uses atomic l (e ∷ before) ≡ eqb way_now 2)) i
+        (rw (eq-eqb e.place e.place refl)
         (next_at (is_location (row e.kind).place) (row e.kind).sync (uses plain e.place before) (uses atomic e.place before) was
         (marks e.place inside).0
         (marks e.place inside).1
-        free)
+        free))
 
     pub marks_next : Marks (ways_after ways e) (e ∷ before)
     unfolding uses

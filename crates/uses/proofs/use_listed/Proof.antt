@@ -34,30 +34,30 @@ unlisted_is a k p t = p ∙ rw (t, and-false a)
 abbrev its : tie.Start → Event
 its s = s.args.e
 
-returns : tie.Need-returns
+returns : tie.Need-returns-then-e-gt-LAST_PLACE
 returns c =
-    let o = le-ltb (its c.before.before).place places (omega (arith, c.if1.true)) in (rw o, rw o)
+    let o = le-ltb (its c.before.before).place places (omega (arith, c.if-e-gt-LAST_PLACE.true)) in (rw o, rw o)
 
-here : (c : tie.After-use-place) → ltb (its c.before.before.before.before).place places ≡ true
-here c = lt-ltb (its c.before.before.before.before).place places (omega (arith, c.before.before.if1.false))
+here : (c : tie.After-use_place-clash) → ltb (its c.before.before.before.before).place places ≡ true
+here c = lt-ltb (its c.before.before.before.before).place places (omega (arith, c.if-e-gt-LAST_PLACE.false))
 
-returns-2 : tie.Need-returns-2
+returns-2 : tie.Need-returns-then-is_listed
 returns-2 c =
     let w = c.before in
     let i = w.before.before in
     let u = i.before in (
       rw (here u)
-          (listed_is _ _ c.is-either.ensures (way_atomic _ w.Way-of.ensures) u.use-place.ensures.0 (sym i.is-listed.ensures ∙ w.before.if2.true)),
-      rw (here u) u.use-place.ensures.1,
+          (listed_is _ _ c.is_either.ensures (way_atomic _ w.way_of.ensures) u.use_place-clash.ensures.0 (sym i.is_listed.ensures ∙ w.if-is_listed.true)),
+      rw (here u) u.use_place-clash.ensures.1,
     )
 
-returns-3 : tie.Need-returns-3
+returns-3 : tie.Need-returns
 returns-3 c =
     let u = c.before.before in (
       rw (here u)
-          (unlisted_is (atomic (its u.before.before.before.before)) _ u.use-place.ensures.0 (sym c.before.is-listed.ensures ∙ c.if2.false)),
-      rw (here u) u.use-place.ensures.1,
+          (unlisted_is (atomic (its u.before.before.before.before)) _ u.use_place-clash.ensures.0 (sym c.is_listed.ensures ∙ c.if-is_listed.false)),
+      rw (here u) u.use_place-clash.ensures.1,
     )
 
-pub use-listed-spec : {M : Type 1} → statement M
-use-listed-spec = tie.close (tie.spec returns (λ c κs. omega (arith, c.before.if1.false)) (search rules) (search rules) (search rules) returns-2 returns-3)
+pub use_listed_spec : {M : Type 1} → statement M
+use_listed_spec = tie.close (tie.spec returns (λ c κs. omega (arith, c.if-e-gt-LAST_PLACE.false)) (search rules) (search rules) (search rules) returns-2 returns-3)

@@ -4,15 +4,12 @@ use Rattle.uses.proofs.use_place.Statement.{statement}
 use Rattle.uses.proofs.use_place.Tie as tie
 
 returns : tie.Need-returns
-returns c =
-    let j = c.before in
-    let w = j.before.before in
-    let i = w.before in (
-      rw (← i.index_of.ensures, ← w.Way-of.ensures) c.are-opposed.ensures,
-      rw (← i.index_of.ensures, ← w.Way-of.ensures, ← j.joined-way.ensures),
-    )
+returns c = (
+  rw (← c.index_of-place.ensures, ← c.way_of-way.ensures) c.are_opposed.ensures,
+  rw (← c.index_of-place.ensures, ← c.way_of-way.ensures, ← c.joined_way.ensures),
+)
 
-pub use-place-spec : {M : Type 1} → statement M
-use-place-spec =
+pub use_place_spec : {M : Type 1} → statement M
+use_place_spec =
     tie.close
     (tie.spec (search rules) (search rules) (search rules) (search rules) (search rules) (search rules) returns)

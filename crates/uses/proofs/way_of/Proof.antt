@@ -22,17 +22,17 @@ elsewhere Location (inr h) = absurd (omega arith)
 elsewhere Mutex h = refl
 elsewhere Nowhere h = refl
 
-returns : tie.Need-returns
+returns : tie.Need-returns-in_default
 unfolding way_of
-returns c = rw (← c.before.row_of.ensures, elsewhere _ c.match.keys2)
+returns c = rw (← c.row_of-row.ensures, elsewhere _ c.in_default.in_default-own.keys2)
 
-returns-2 : tie.Need-returns-2
+returns-2 : tie.Need-returns-then-row
 unfolding way_of
-returns-2 c = rw (← c.before.before.before.row_of.ensures, c.before.enum_told.given.1, c.if1.true)
+returns-2 c = rw (← c.row_of-row.ensures, c.in-Location.is, c.if-row.true)
 
-returns-3 : tie.Need-returns-3
+returns-3 : tie.Need-returns
 unfolding way_of
-returns-3 c = rw (← c.before.before.before.row_of.ensures, c.before.enum_told.given.1, c.if1.false)
+returns-3 c = rw (← c.row_of-row.ensures, c.in-Location.is, c.if-row.false)
 
-pub way-of-spec : {M : Type 1} → statement M
-way-of-spec = tie.close (tie.spec (search rules) (search rules) returns returns-2 returns-3)
+pub way_of_spec : {M : Type 1} → statement M
+way_of_spec = tie.close (tie.spec (search rules) (search rules) returns returns-2 returns-3)

@@ -19,18 +19,16 @@ way_touches : (kind : ℕ) {way : ℕ} → way ≡ way_of kind → not (eqb way 
 unfolding way_of
 way_touches kind h = rw h (used_way (is_location (row kind).place) (row kind).sync)
 
-returns : tie.Need-returns
-returns c = rw (sym c.before.is-silent.ensures ∙ c.if1.true)
+returns : tie.Need-returns-then-is_silent
+returns c = rw (sym c.is_silent.ensures ∙ c.if-is_silent.true)
 
-returns-2 : tie.Need-returns-2
+returns-2 : tie.Need-returns-then-is_listed
 returns-2 c =
-    let i = c.before in
-    rw (sym i.before.before.is-silent.ensures ∙ i.before.if1.false, sym i.is-listed.ensures ∙ c.if2.true, and-false (is_location _))
+    rw (sym c.is_silent.ensures ∙ c.if-is_silent.false, sym c.is_listed.ensures ∙ c.if-is_listed.true, and-false (is_location _))
 
-returns-3 : tie.Need-returns-3
+returns-3 : tie.Need-returns
 returns-3 c =
-    let i = c.before.before in
-    rw (sym i.before.before.is-silent.ensures ∙ i.before.if1.false, sym i.is-listed.ensures ∙ c.before.if2.false, ← way_touches _ c.Way-of.ensures, and-true (not _))
+    rw (sym c.is_silent.ensures ∙ c.if-is_silent.false, sym c.is_listed.ensures ∙ c.if-is_listed.false, ← way_touches _ c.way_of.ensures, and-true (not _))
 
-pub lacks-line-spec : {M : Type 1} → statement M
-lacks-line-spec = tie.close (tie.spec (search rules) returns (search rules) returns-2 (search rules) returns-3)
+pub lacks_line_spec : {M : Type 1} → statement M
+lacks_line_spec = tie.close (tie.spec (search rules) returns (search rules) returns-2 (search rules) returns-3)
