@@ -89,7 +89,7 @@ module _ (ns : List ℕ) where
 
   pub rises_numbers : (j k : ℕ) (u : List Traced) → Numbers ns k u → suc j ≡ k → Rises j u
   rises_numbers j k [] h e = tt
-  rises_numbers j k (x ∷ u) h e = let i = h.0 in (omega arith, rises_numbers _ (suc k) u h.1 (omega arith))
+  rises_numbers j k (x ∷ u) h e = let i = h.0 in (omega arith, rises_numbers (number x) (suc k) u h.1 (omega arith))
 
   rises_onto : (j : ℕ) (b u : List Traced) → Below j b → Rises j u → Rises 0 (onto b u)
   rises_onto j [] u h r = rw h at r

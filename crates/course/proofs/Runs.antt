@@ -12,7 +12,7 @@ use Rattle.event.specs.declared.Event.{Event}
 use Rattle.rules.specs.View.{View}
 use Rattle.rules.specs.Moves.{one, two, Moves, Run, insert, swap, next, done, step}
 use Rattle.rules.specs.Run.{old, new, Traced, traced, tag_of, changes}
-use Rattle.changes.specs.Change.{at, phase, applied}
+use Rattle.changes.specs.Change.{phase, applied}
 use Rattle.changes.specs.declared.Step.{Step}
 use Rattle.changes.specs.declared.Step.TheVariants.{Insert, Done}
 use Rattle.changes.proofs.Allow.{Shift, allowed}

@@ -1,6 +1,6 @@
 -- The next step in the request's words: the gone event that is removed has the highest number of those that may be removed now, since while gone events
 -- remain the trace is a part of the source; and what is inserted has the least number that no event has. Assumes nothing.
-use mathlib.Core.Path.{◌≡◌, refl, sym, ◌∙◌, ap}
+use mathlib.Core.Path.{◌≡◌, refl, sym, ◌∙◌, ap, subst}
 use mathlib.Core.Bool.{Bool, true, false, cond, ◌&&◌, ◌||◌, false≢true}
 use mathlib.Core.Option.{Option, none, some, some-injective, none-ne-some, some-ne-none}
 use mathlib.Core.List.{List, [], ◌∷◌, map}
@@ -74,8 +74,9 @@ module _ (view : Event → View) (ns : List ℕ) where
           let k = f j e in
           let k0 = k.0 in
           let l0 = l.0 in
-          rw (← q) (omega arith, (λ y z. omega arith, k.1))
-      go none true e h f g = let q : zero ≡ i = some-injective zero i h in rw (← q) (l.0, (λ y z. omega arith, g e))
+          subst (λ p. (m < number_at (x ∷ a) p) × Highest (number_at (x ∷ a) p) b (x ∷ a)) q (omega arith, (λ y z. omega arith, k.1))
+      go none true e h f g = let q : zero ≡ i = some-injective zero i h in
+          subst (λ p. (m < number_at (x ∷ a) p) × Highest (number_at (x ∷ a) p) b (x ∷ a)) q (l.0, (λ y z. omega arith, g e))
       go none false e h f g = absurd (none-ne-some i h)
 
   -- while a removal is next, something is gone

@@ -8,8 +8,8 @@ use Rattle.steps.proofs.next.Tie as tie
 
 returns : tie.Need-returns
 returns c =
-    let a = c.before.before.before.before.before.args in
-    c.next-listed.ensures ∙ next_none (whole_events a.source.now) (whole_events a.target.now) a.run a.tags.now a.entries.now a.swapped
+    let a = c.args in
+    c.next_listed.ensures ∙ next_none (whole_events a.source.now) (whole_events a.target.now) a.run a.tags.now a.entries.now a.swapped
 
-pub next-spec : {M : Type 1} → statement M
-next-spec = tie.close (tie.spec (search rules) returns)
+pub next_spec : {M : Type 1} → statement M
+next_spec = tie.close (tie.spec (search rules) returns)

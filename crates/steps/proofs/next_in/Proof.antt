@@ -44,7 +44,7 @@ whole : (n : ℕ) → n - 0 ≡ n
 whole n = omega arith
 
 -- what stands
-module _ (c : tie.After-part) where
+module _ (c : tie.After-part-1) where
   abbrev begin : tie.Start
   begin = c.before.before.before.before.before.before.before
 
@@ -64,12 +64,12 @@ module _ (c : tie.After-part) where
   tags = begin.args.tags.now
 
   open_is : is_open run ≡ true
-  open_is = sym c.before.before.is_open.ensures ∙ c.before.if1.true
+  open_is = sym c.is_open.ensures ∙ c.if-is_open.true
 
   targets : length begin.args.target.now / 6 ≡ length target
   targets = sym (onward_length begin.args.target.now 0 (length begin.args.target.now / 6))
 
-gone_is : (c : tie.After-any-gone) {b : Bool} → c.any_gone.result ≡ b
+gone_is : (c : tie.After-any_gone) {b : Bool} → c.any_gone.result ≡ b
     → any_gone (entries c.before.before) (stands (source c.before.before) (target c.before.before) (run c.before.before)
     (tags c.before.before)) ≡ b
 gone_is c h =
@@ -77,51 +77,62 @@ gone_is c h =
     ap (λ n. any_gone (entries p) (trace (source p) (target p) (take n (tags p)))) (sym (whole (run p).standing))
     ∙ (sym (c.any_gone.ensures (source p) (target p)) ∙ h)
 
-returns : tie.Need-returns
+returns : tie.Need-returns-then-any_gone
 returns c =
     let d = c.before in
     let p = d.before.before.before in
     let w = whole (run p).standing in
-    c.removal-step.ensures
+    c.removal_step.ensures
     ∙ (ap (λ n. remove_step (trace (source p) (target p) (take n (tags p))) (removal (view_in (begin p).args.listed.now) (entries p) [] (trace (source p) (target p) (take n (tags p))))) w
-    ∙ to_remove (view_in (begin p).args.listed.now) (source p) (target p) (entries p) (run p) (tags p) (open_is p) (gone_is d.before d.if3.true) (begin p).args.swapped
-    d.before.before.if2.true)
+    ∙ to_remove (view_in (begin p).args.listed.now) (source p) (target p) (entries p) (run p) (tags p) (open_is p) (gone_is d.before d.if-any_gone.true) (begin p).args.swapped
+    d.if-swapped-eq0.true)
 
-returns-2 : tie.Need-returns-2
+returns-2 : tie.Need-returns-then-swapped-eq0
 returns-2 c =
     let d = c.before in
     let p = d.before.before.before in
     let w = whole (run p).standing in
-    c.order-step.ensures (source p) (target p)
+    c.order_step.ensures (source p) (target p)
     ∙ (ap (λ n. order_step (entries p) (length (begin p).args.target.now / 6) 0 (trace (source p) (target p) (take n (tags p)))) w
     ∙ (ap (λ n. order_step (entries p) n 0 (stands (source p) (target p) (run p) (tags p))) (targets p)
-    ∙ to_order (view_in (begin p).args.listed.now) (source p) (target p) (entries p) (run p) (tags p) (open_is p) (gone_is d.before d.if3.false) (begin p).args.swapped
-    d.before.before.if2.true))
+    ∙ to_order (view_in (begin p).args.listed.now) (source p) (target p) (entries p) (run p) (tags p) (open_is p) (gone_is d.before d.if-any_gone.false) (begin p).args.swapped
+    d.if-swapped-eq0.true))
 
-returns-3 : tie.Need-returns-3
+returns-3 : tie.Need-returns-then-is_open
 returns-3 c =
     let b = c.before in
     let p = b.before.before in
     let w = whole (run p).standing in
-    c.order-step2.ensures (source p) (target p)
+    c.order_step-then-is_open.ensures (source p) (target p)
     ∙ (ap (λ n. order_step (entries p) (length (begin p).args.target.now / 6) n (trace (source p) (target p) (take ((run p).standing - 0) (tags p))))
-    b.Before-swap.ensures
+    b.before_swap.ensures
     ∙ (ap (λ n. order_step (entries p) (length (begin p).args.target.now / 6) ((begin p).args.swapped - 2) (trace (source p) (target p) (take n (tags p)))) w
     ∙ (ap (λ n. order_step (entries p) n ((begin p).args.swapped - 2) (stands (source p) (target p) (run p) (tags p))) (targets p)
-    ∙ after_swap (view_in (begin p).args.listed.now) (source p) (target p) (entries p) (run p) (tags p) (open_is p) (begin p).args.swapped b.before.if2.false)))
+    ∙ after_swap (view_in (begin p).args.listed.now) (source p) (target p) (entries p) (run p) (tags p) (open_is p) (begin p).args.swapped b.if-swapped-eq0.false)))
 
-returns-4 : tie.Need-returns-4
-returns-4 c = rw (sym c.before.is_open.ensures ∙ c.if1.false)
+returns-4 : tie.Need-returns
+returns-4 c = rw (sym c.is_open.ensures ∙ c.if-is_open.false)
 
-part_end : tie.Need-slice-bounds-part-end
+part_end : tie.Need-slice_bounds-part-end
 part_end c =
-    let s = c.before.before.before.before.before.before in
-    let a = s.args in
-    let f = fits (whole_events a.source.now) (whole_events a.target.now) a.run a.tags.now (sym c.before.is_open.ensures ∙ c.if1.true) in
-    omega (arith, s.requires)
+    let a = c.args in
+    let f = fits (whole_events a.source.now) (whole_events a.target.now) a.run a.tags.now (sym c.is_open.ensures ∙ c.if-is_open.true) in
+    omega (arith, c.requires)
 
-pub next-in-spec : {M : Type 1} → statement M
-next-in-spec =
+pub next_in_spec : {M : Type 1} → statement M
+next_in_spec =
     tie.close
-    (tie.spec (search rules) (search rules) (search rules) part_end (search rules) (search rules) returns (search rules) returns-2 (search rules)
-    (search rules) returns-3 returns-4)
+    (tie.spec
+    (search rules)
+    (search rules)
+    (search rules)
+    part_end
+    (search rules)
+    (search rules)
+    returns
+    (search rules)
+    returns-2
+    (search rules)
+    (search rules)
+    returns-3
+    returns-4)

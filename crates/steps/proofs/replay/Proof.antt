@@ -7,8 +7,8 @@ use Rattle.steps.proofs.replay.Tie as tie
 
 returns : tie.Need-returns
 returns c =
-    let a = c.before.before.before.before.before.before.args in
-    plays_none (whole_events a.source.now) (whole_events a.target.now) a.run a.tags.now a.entries.now a.budget c.replay-listed.ensures
+    let a = c.args in
+    plays_none (whole_events a.source.now) (whole_events a.target.now) a.run a.tags.now a.entries.now a.budget c.replay_listed.ensures
 
-pub replay-spec : {M : Type 1} → statement M
-replay-spec = tie.close (tie.spec (search rules) returns)
+pub replay_spec : {M : Type 1} → statement M
+replay_spec = tie.close (tie.spec (search rules) returns)

@@ -13,15 +13,15 @@ use Rattle.steps.proofs.search.any_gone.Statement.{statement}
 use Rattle.steps.proofs.search.any_gone.Tie as tie
 
 -- the index is reached
-abbrev invariant-loop : tie.invariant-loop
+abbrev invariant-loop : tie.invariant-loop-i
 invariant-loop tags entries i₀ i = (s t : List Event) → any_gone entries (trace s t tags) ≡ any_gone entries (drop i (trace s t tags))
 
-abbrev decreases-loop : tie.decreases-loop
+abbrev decreases-loop : tie.decreases-loop-i
 decreases-loop tags entries i₀ i = length tags - i
 
 -- an event looked at
-module _ (c : tie.After-is-leaving invariant-loop decreases-loop) where
-  abbrev turn : tie.At-loop invariant-loop decreases-loop
+module _ (c : tie.After-is_leaving invariant-loop decreases-loop) where
+  abbrev turn : tie.At-loop-i invariant-loop decreases-loop
   turn = c.before.before.before
 
   abbrev start : tie.Start invariant-loop decreases-loop
@@ -33,20 +33,30 @@ module _ (c : tie.After-is-leaving invariant-loop decreases-loop) where
   abbrev entries : List ℕ
   entries = start.args.entries.now
 
-  from_here : {b : Bool} → c.is-leaving.result ≡ b → (s t : List Event)
-      → any_gone entries (trace s t tags) ≡ (b || any_gone entries (drop (turn.loop.i + 1) (trace s t tags)))
+  from_here : {b : Bool} → c.is_leaving.result ≡ b → (s t : List Event)
+      → any_gone entries (trace s t tags) ≡ (b || any_gone entries (drop (turn.loop-i.i + 1) (trace s t tags)))
   from_here h s t =
-      turn.loop.inv s t
-      ∙ (ap (any_gone entries) (drop_at s t tags turn.loop.i c.before.before.loop-test.true)
-      ∙ ap (λ z. z || any_gone entries (drop (turn.loop.i + 1) (trace s t tags))) (sym c.is-leaving.ensures ∙ h))
+      turn.loop-i.invariant s t
+      ∙ (ap (any_gone entries) (drop_at s t tags turn.loop-i.i c.loop-i-test.true)
+      ∙ ap (λ z. z || any_gone entries (drop (turn.loop-i.i + 1) (trace s t tags))) (sym c.is_leaving.ensures ∙ h))
 
-returns-2 : tie.Need-returns-2 invariant-loop decreases-loop
+returns-2 : tie.Need-returns invariant-loop decreases-loop
 returns-2 c s t =
-    let a = c.before.before.before.before.args in
-    rw (c.before.loop.invariant s t, drop_past s t a.tags.now c.before.loop.i c.loop-test.false)
+    let a = c.args in
+    rw (c.loop-i.invariant s t, drop_past s t a.tags.now c.loop-i.i c.loop-i-test.false)
 
-pub any-gone-spec : {M : Type 1} → statement M
-any-gone-spec =
+pub any_gone_spec : {M : Type 1} → statement M
+any_gone_spec =
     tie.close
-    (tie.spec invariant-loop decreases-loop (λ c s t. refl) (λ c. omega arith) (λ c. omega arith) (λ c κs. tt) (λ c s t. sym (from_here c.before c.if1.true s t))
-    (λ c. omega arith) (λ c. omega arith) (λ c s t. from_here c.before c.if1.false s t) returns-2)
+    (tie.spec
+    invariant-loop
+    decreases-loop
+    (λ c s t. refl)
+    (λ c. omega arith)
+    (λ c. omega arith)
+    (λ c κs. tt)
+    (λ c s t. sym (from_here c.before c.if-is_leaving.true s t))
+    (λ c. omega arith)
+    (λ c. omega arith)
+    (λ c s t. from_here c.before c.if-is_leaving.false s t)
+    returns-2)

@@ -22,10 +22,10 @@ abbrev place : List ℕ → ℕ → List Traced → Option ℕ
 place entries i u = shifted i (against entries (drop i u))
 
 -- the index i is reached
-abbrev invariant-loop : tie.invariant-loop
+abbrev invariant-loop : tie.invariant-loop-i
 invariant-loop tags entries targets from count i₀ i = (s t : List Event) → place entries from (trace s t tags) ≡ place entries i (trace s t tags)
 
-abbrev decreases-loop : tie.decreases-loop
+abbrev decreases-loop : tie.decreases-loop-i
 decreases-loop tags entries targets from count i₀ i = length tags - i
 
 -- none is left
@@ -36,8 +36,8 @@ last ns tags n from i h s t e =
     ap (λ o. swap_step o (missing ns n 1 (trace s t tags))) (e ∙ ap (shifted i) z)
 
 -- two events looked at
-module _ (c : tie.After-is-overtaking invariant-loop decreases-loop) where
-  abbrev turn : tie.At-loop invariant-loop decreases-loop
+module _ (c : tie.After-is_overtaking invariant-loop decreases-loop) where
+  abbrev turn : tie.At-loop-i invariant-loop decreases-loop
   turn = c.before.before.before.before
 
   abbrev start : tie.Start invariant-loop decreases-loop
@@ -50,46 +50,61 @@ module _ (c : tie.After-is-overtaking invariant-loop decreases-loop) where
   entries = start.args.entries.now
 
   abbrev index : ℕ
-  index = turn.loop.i
+  index = turn.loop-i.i
 
   inside : (s t : List Event) → suc index < length (trace s t tags)
-  inside s t = omega (arith, length_trace s t tags, c.before.before.before.loop-test.true)
+  inside s t = omega (arith, length_trace s t tags, c.loop-i-test.true)
 
-  against_is : {b : Bool} → c.is-overtaking.result ≡ b → (s t : List Event)
+  against_is : {b : Bool} → c.is_overtaking.result ≡ b → (s t : List Event)
       → overtakes entries (tag_of (get_or (trace s t tags) index (traced_for s t 0))) (tag_of (get_or (trace s t tags) (suc index) (traced_for s t 0))) ≡ b
   against_is h s t =
       ap₂ (λ x y. overtakes entries (tag_of x) (tag_of y)) (trace_at s t tags index) (trace_at s t tags (suc index))
-      ∙ (ap (λ n. overtakes entries (decoded (get_or tags index 0)) (decoded (get_or tags n 0))) (sym (add-one index)) ∙ (sym c.is-overtaking.ensures ∙ h))
+      ∙ (ap (λ n. overtakes entries (decoded (get_or tags index 0)) (decoded (get_or tags n 0))) (sym (add-one index)) ∙ (sym c.is_overtaking.ensures ∙ h))
 
-returns : tie.Need-returns invariant-loop decreases-loop
+returns : tie.Need-returns-then-count-eq0 invariant-loop decreases-loop
 returns c s t =
-    let a = c.before.before.before.before.args in
-    c.missing-step.ensures s t
-    ∙ sym (last a.entries.now a.tags.now a.targets a.from a.from (omega (arith, c.before.if1.true)) s t refl)
+    let a = c.args in
+    c.missing_step.ensures s t
+    ∙ sym (last a.entries.now a.tags.now a.targets a.from a.from (omega (arith, c.if-count-eq0.true)) s t refl)
 
-returns-2 : tie.Need-returns-2 invariant-loop decreases-loop
+returns-2 : tie.Need-returns-then-is_overtaking invariant-loop decreases-loop
 returns-2 c s t =
     let a = c.before in
     ap Swap (add-one (index a))
     ∙ sym (ap (λ o. swap_step o (missing (entries a) (start a).args.targets 1 (trace s t (tags a))))
-    ((turn a).loop.invariant s t ∙ against_found (entries a) (traced_for s t 0) (index a) (trace s t (tags a)) (inside a s t) (against_is a c.if2.true s t)))
+    ((turn a).loop-i.invariant s t ∙ against_found (entries a) (traced_for s t 0) (index a) (trace s t (tags a)) (inside a s t) (against_is a c.if-is_overtaking.true s t)))
 
-loop-again : tie.Need-loop-preserved invariant-loop decreases-loop
+loop-again : tie.Need-loop-i-preserved invariant-loop decreases-loop
 loop-again c s t =
     let a = c.before in
-    (turn a).loop.invariant s t
-    ∙ (against_next (entries a) (traced_for s t 0) (index a) (trace s t (tags a)) (inside a s t) (against_is a c.if2.false s t)
+    (turn a).loop-i.invariant s t
+    ∙ (against_next (entries a) (traced_for s t 0) (index a) (trace s t (tags a)) (inside a s t) (against_is a c.if-is_overtaking.false s t)
     ∙ ap (λ n. place (entries a) n (trace s t (tags a))) (sym (add-one (index a))))
 
-returns-3 : tie.Need-returns-3 invariant-loop decreases-loop
+returns-3 : tie.Need-returns invariant-loop decreases-loop
 returns-3 c s t =
-    let l = c.before.before in
-    let a = l.before.before.before.before.args in
-    c.missing-step2.ensures s t
-    ∙ sym (last a.entries.now a.tags.now a.targets a.from l.loop.i (omega (arith, c.before.loop-test.false)) s t (l.loop.invariant s t))
+    let a = c.args in
+    c.missing_step-2.ensures s t
+    ∙ sym (last a.entries.now a.tags.now a.targets a.from c.loop-i.i (omega (arith, c.loop-i-test.false)) s t (c.loop-i.invariant s t))
 
-pub order-step-spec : {M : Type 1} → statement M
-order-step-spec =
+pub order_step_spec : {M : Type 1} → statement M
+order_step_spec =
     tie.close
-    (tie.spec invariant-loop decreases-loop (λ c κs. tt) returns (λ c s t. refl) (λ c. omega arith) (λ c. omega arith) (λ c. omega arith) (λ c. omega arith)
-    (λ c. omega arith) (λ c. omega arith) (λ c κs. tt) returns-2 (λ c. omega arith) loop-again (λ c κs. tt) returns-3)
+    (tie.spec
+    invariant-loop
+    decreases-loop
+    (λ c κs. tt)
+    returns
+    (λ c s t. refl)
+    (λ c. omega arith)
+    (λ c. omega arith)
+    (λ c. omega arith)
+    (λ c. omega arith)
+    (λ c. omega arith)
+    (λ c. omega arith)
+    (λ c κs. tt)
+    returns-2
+    (λ c. omega arith)
+    loop-again
+    (λ c κs. tt)
+    returns-3)

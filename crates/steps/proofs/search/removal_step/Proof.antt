@@ -27,10 +27,10 @@ record Past (regs : List Bool) (ns : List ℕ) (s t : List Event) (tags : List �
   bound : i ≤ length tags
   none_yet : removal (view_in regs) ns (behind [] (trace s t tags) i) (drop i (trace s t tags)) ≡ none
 
-abbrev invariant-loop : tie.invariant-loop
+abbrev invariant-loop : tie.invariant-loop-i
 invariant-loop listed tags source target entries i₀ i = Past listed entries (whole_events source) (whole_events target) tags i
 
-abbrev decreases-loop : tie.decreases-loop
+abbrev decreases-loop : tie.decreases-loop-i
 decreases-loop listed tags source target entries i₀ i = i
 
 -- an index further
@@ -56,8 +56,8 @@ module _ (regs : List Bool) (ns : List ℕ) (s t : List Event) (tags : List ℕ)
       let n : number_at (trace s t tags) i ≡ suc (get_or tags i 0) = number_at_lem s t tags i (omega (arith, p.bound)) ∙ (leaving_old ns (get_or tags i 0) g).1 in
       rw (r, n, add-one i, add-one (get_or tags i 0))
 
-module _ (c : tie.After-is-leaving invariant-loop decreases-loop) where
-  abbrev turn : tie.At-loop invariant-loop decreases-loop
+module _ (c : tie.After-is_leaving invariant-loop decreases-loop) where
+  abbrev turn : tie.At-loop-i invariant-loop decreases-loop
   turn = c.before.before.before
 
   abbrev start : tie.Start invariant-loop decreases-loop
@@ -79,60 +79,73 @@ module _ (c : tie.After-is-leaving invariant-loop decreases-loop) where
   target = whole_events start.args.target.now
 
   abbrev index : ℕ
-  index = turn.loop.i - 1
+  index = turn.loop-i.i - 1
 
-  one_less : turn.loop.i ≡ suc index
-  one_less = omega (arith, c.before.before.loop-test.true)
+  one_less : turn.loop-i.i ≡ suc index
+  one_less = omega (arith, c.loop-i-test.true)
 
-  gone_is : {b : Bool} → c.is-leaving.result ≡ b → leaves entries (decoded (get_or tags index 0)) ≡ b
-  gone_is h = sym c.is-leaving.ensures ∙ h
+  gone_is : {b : Bool} → c.is_leaving.result ≡ b → leaves entries (decoded (get_or tags index 0)) ≡ b
+  gone_is h = sym c.is_leaving.ensures ∙ h
 
-  few : c.is-leaving.result ≡ true → get_or tags index 0 < event_limit
+  few : c.is_leaving.result ≡ true → get_or tags index 0 < event_limit
   few h = (leaving_old entries (get_or tags index 0) (gone_is h)).0
 
-may_is : (c : tie.After-may-remove invariant-loop decreases-loop) {b : Bool} → c.may-remove.result ≡ b
+may_is : (c : tie.After-may_remove invariant-loop decreases-loop) {b : Bool} → c.may_remove.result ≡ b
     → removable_at (marks c.before.before) (source c.before.before) (target c.before.before) (tags c.before.before) (index c.before.before) ≡ b
-may_is c h = sym c.may-remove.ensures ∙ h
+may_is c h = sym c.may_remove.ensures ∙ h
 
-returns : tie.Need-returns invariant-loop decreases-loop
+returns : tie.Need-returns-then-may_remove invariant-loop decreases-loop
 returns c =
     let a = c.before.before.before in
-    found (marks a) (entries a) (source a) (target a) (tags a) (turn a).loop.i (index a) (one_less a) (turn a).loop.invariant (gone_is a c.before.before.if1.true)
-    (may_is c.before c.if2.true)
+    found (marks a) (entries a) (source a) (target a) (tags a) (turn a).loop-i.i (index a) (one_less a) (turn a).loop-i.invariant (gone_is a c.if-is_leaving.true)
+    (may_is c.before c.if-may_remove.true)
 
-loop-again : tie.Need-loop-preserved invariant-loop decreases-loop
+loop-again : tie.Need-loop-i-preserved-else-may_remove invariant-loop decreases-loop
 loop-again c =
     let a = c.before.before.before in
-    on (marks a) (entries a) (source a) (target a) (tags a) (turn a).loop.i (index a) (one_less a) (turn a).loop.invariant
-    (rw (gone_is a c.before.before.if1.true) (may_is c.before c.if2.false))
+    on (marks a) (entries a) (source a) (target a) (tags a) (turn a).loop-i.i (index a) (one_less a) (turn a).loop-i.invariant
+    (rw (gone_is a c.if-is_leaving.true) (may_is c.before c.if-may_remove.false))
 
-loop-again-2 : tie.Need-loop-preserved-2 invariant-loop decreases-loop
+loop-again-2 : tie.Need-loop-i-preserved invariant-loop decreases-loop
 loop-again-2 c =
     let a = c.before in
-    on (marks a) (entries a) (source a) (target a) (tags a) (turn a).loop.i (index a) (one_less a) (turn a).loop.invariant (rw (gone_is a c.if1.false))
+    on (marks a) (entries a) (source a) (target a) (tags a) (turn a).loop-i.i (index a) (one_less a) (turn a).loop-i.invariant (rw (gone_is a c.if-is_leaving.false))
 
-loop-holds : tie.Need-loop-init invariant-loop decreases-loop
+loop-holds : tie.Need-loop-i-init invariant-loop decreases-loop
 loop-holds c =
-    let a = c.before.before.before.before.args in
+    let a = c.args in
     record {
       bound = omega arith;
       none_yet = rw (drop_past (whole_events a.source.now) (whole_events a.target.now) a.tags.now (length a.tags.now) (omega arith));
     }
 
-returns-2 : tie.Need-returns-2 invariant-loop decreases-loop
+returns-2 : tie.Need-returns invariant-loop decreases-loop
 returns-2 c =
-    let l = c.before.loop in
-    let e : l.i ≡ 0 = omega (arith, c.loop-test.false) in
-    let a = c.before.before.before.before.before.before.args in
+    let l = c.loop-i in
+    let e : l.i ≡ 0 = omega (arith, c.loop-i-test.false) in
+    let a = c.args in
     let s = whole_events a.source.now in
     let t = whole_events a.target.now in
     let u = trace s t a.tags.now in
     sym (ap (remove_step u) (subst (λ k. removal (view_in a.listed.now) a.entries.now (behind [] u k) (drop k u) ≡ none) e l.invariant.none_yet))
 
-pub removal-step-spec : {M : Type 1} → statement M
-removal-step-spec =
+pub removal_step_spec : {M : Type 1} → statement M
+removal_step_spec =
     tie.close
-    (tie.spec invariant-loop decreases-loop loop-holds (λ c. omega arith) (λ c. omega (arith, c.before.loop.invariant.bound)) (λ c. omega arith) (λ c κs. tt)
-    (λ c κs. omega (arith, c.before.before.before.before.loop.invariant.bound)) (λ c. omega arith)
-    (λ c. omega (arith, few c.before.before.before c.before.before.if1.true))
-    returns (λ c. omega arith) loop-again (λ c. omega arith) loop-again-2 returns-2)
+    (tie.spec
+    invariant-loop
+    decreases-loop
+    loop-holds
+    (λ c. omega arith)
+    (λ c. omega (arith, c.loop-i.invariant.bound))
+    (λ c. omega arith)
+    (λ c κs. tt)
+    (λ c κs. omega (arith, c.loop-i.invariant.bound))
+    (λ c. omega arith)
+    (λ c. omega (arith, few c.before.before.before c.if-is_leaving.true))
+    returns
+    (λ c. omega arith)
+    loop-again
+    (λ c. omega arith)
+    loop-again-2
+    returns-2)

@@ -7,8 +7,8 @@ use Rattle.steps.proofs.tag.is_leaving.Tie as tie
 
 returns : tie.Need-returns
 returns c =
-    let a = c.before.before.args in
-    rw c.target-number.ensures (sym (leaves_zero a.entries.now a.tag))
+    let a = c.args in
+    rw c.target_number.ensures (sym (leaves_zero a.entries.now a.tag))
 
-pub is-leaving-spec : {M : Type 1} → statement M
-is-leaving-spec = tie.close (tie.spec (search rules) returns)
+pub is_leaving_spec : {M : Type 1} → statement M
+is_leaving_spec = tie.close (tie.spec (search rules) returns)

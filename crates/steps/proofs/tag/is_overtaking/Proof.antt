@@ -6,17 +6,17 @@ use Rattle.steps.proofs.Numbers.{leaves_zero}
 use Rattle.steps.proofs.tag.is_overtaking.Statement.{statement}
 use Rattle.steps.proofs.tag.is_overtaking.Tie as tie
 
-returns : tie.Need-returns
-returns c = rw (leaves_zero, eq-eqb _ 0 (sym c.before.target-number.ensures ∙ c.if1.true))
+returns : tie.Need-returns-then-number-eq0
+returns c = rw (leaves_zero, eq-eqb _ 0 (sym c.target_number-number.ensures ∙ c.if-number-eq0.true))
 
-returns-2 : tie.Need-returns-2
+returns-2 : tie.Need-returns
 returns-2 c =
     rw (
       leaves_zero,
-      ne_eqb _ 0 (λ e. c.before.if1.false (c.before.before.target-number.ensures ∙ e)),
-      c.before.before.target-number.ensures,
-      c.target-number2.ensures,
+      ne_eqb _ 0 (λ e. c.if-number-eq0.false (c.target_number-number.ensures ∙ e)),
+      c.target_number-number.ensures,
+      c.target_number.ensures,
     )
 
-pub is-overtaking-spec : {M : Type 1} → statement M
-is-overtaking-spec = tie.close (tie.spec (search rules) returns (search rules) returns-2)
+pub is_overtaking_spec : {M : Type 1} → statement M
+is_overtaking_spec = tie.close (tie.spec (search rules) returns (search rules) returns-2)

@@ -7,14 +7,14 @@ use borrow.Author.Tests.{lt-ltb, le-ltb}
 use Rattle.steps.proofs.tag.target_number.Statement.{statement}
 use Rattle.steps.proofs.tag.target_number.Tie as tie
 
-returns : tie.Need-returns
-returns c = rw (lt-ltb _ _ c.before.before.before.if1.true) c.number-index.ensures
+returns : tie.Need-returns-then-tag-entries
+returns c = rw (lt-ltb _ _ c.if-tag-lt-EVENT_LIMIT.true) c.number_index.ensures
 
-returns-2 : tie.Need-returns-2
-returns-2 c = rw (lt-ltb _ _ c.before.if1.true) (sym (get_or-eq_default c.before.before.before.args.entries.now 0 c.if2.false))
+returns-2 : tie.Need-returns-then-tag-lt-EVENT_LIMIT
+returns-2 c = rw (lt-ltb _ _ c.if-tag-lt-EVENT_LIMIT.true) (sym (get_or-eq_default c.args.entries.now 0 c.if-tag-entries.false))
 
-returns-3 : tie.Need-returns-3
-returns-3 c = rw (le-ltb _ _ c.if1.false) (omega arith)
+returns-3 : tie.Need-returns
+returns-3 c = rw (le-ltb _ _ c.if-tag-lt-EVENT_LIMIT.false) (omega arith)
 
-pub target-number-spec : {M : Type 1} → statement M
-target-number-spec = tie.close (tie.spec (search rules) (search rules) (search rules) returns returns-2 (search rules) returns-3)
+pub target_number_spec : {M : Type 1} → statement M
+target_number_spec = tie.close (tie.spec (search rules) (search rules) (search rules) returns returns-2 (search rules) returns-3)
