@@ -10,13 +10,13 @@ ghost use Rattle.memory.specs.Memory.{empty as empty_memory, leaves, stepped, wr
 use event::{Event, PLACES, Word, index_of};
 use kinds::{Sets, Width, is_lawful, row_of};
 
-#[derive(Drop)]
+#[derive(Clone, Copy)]
 pub struct Memory {
     pub cells: [Word; PLACES],
 }
 
 // The memory after an event, and whether the event's value is the latest.
-#[derive(Drop)]
+#[derive(Clone, Copy)]
 pub struct Stepped {
     pub memory: Memory,
     pub right: bool,

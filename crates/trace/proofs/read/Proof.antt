@@ -4,4 +4,4 @@ use Rattle.trace.proofs.read.Statement.{statement}
 use Rattle.trace.proofs.read.Tie as tie
 
 pub read_spec : {M : Type 1} → statement M
-read_spec = tie.close (tie.spec (search rules) (search rules) (λ c. c.before.before.read_in_lem.ensures))
+read_spec = tie.close (tie.spec (search rules) (search rules) (λ c. c.read_in.ensures))

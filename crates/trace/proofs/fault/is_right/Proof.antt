@@ -3,11 +3,11 @@ use borrow.Author.Rules.{rules}
 use Rattle.trace.proofs.fault.is_right.Statement.{statement}
 use Rattle.trace.proofs.fault.is_right.Tie as tie
 
-returns : tie.Need-returns
-returns c = rw c.if1.true
+returns : tie.Need-returns-then-latest
+returns c = rw c.if-latest.true
 
-returns-2 : tie.Need-returns-2
-returns-2 c = rw c.before.if1.false c.is-register.ensures
+returns-2 : tie.Need-returns
+returns-2 c = rw c.if-latest.false c.is_register.ensures
 
-pub is-right-spec : {M : Type 1} → statement M
-is-right-spec = tie.close (tie.spec returns (search rules) returns-2)
+pub is_right_spec : {M : Type 1} → statement M
+is_right_spec = tie.close (tie.spec returns (search rules) returns-2)

@@ -5,13 +5,13 @@ use Rattle.trace.specs.Reading.{form_of}
 use Rattle.trace.proofs.form.form_of.Statement.{statement}
 use Rattle.trace.proofs.form.form_of.Tie as tie
 
-returns : tie.Need-returns
+returns : tie.Need-returns-then-is_of
 unfolding form_of
-returns c = rw (sym c.before.is-of.ensures ∙ c.if1.true)
+returns c = rw (sym c.is_of.ensures ∙ c.if-is_of.true)
 
-returns-2 : tie.Need-returns-2
+returns-2 : tie.Need-returns
 unfolding form_of
-returns-2 c = rw (sym c.before.is-of.ensures ∙ c.if1.false)
+returns-2 c = rw (sym c.is_of.ensures ∙ c.if-is_of.false)
 
-pub form-of-spec : {M : Type 1} → statement M
-form-of-spec = tie.close (tie.spec (search rules) returns returns-2)
+pub form_of_spec : {M : Type 1} → statement M
+form_of_spec = tie.close (tie.spec (search rules) returns returns-2)

@@ -3,11 +3,17 @@ use borrow.Author.Rules.{rules}
 use Rattle.trace.proofs.form.is_of.Statement.{statement}
 use Rattle.trace.proofs.form.is_of.Tie as tie
 
-returns : tie.Need-returns
-returns c = rw c.before.before.enum_told.given.1 c.is_headed_lem.ensures
+returns : tie.Need-returns-in-One
+returns c = rw c.in-One.is c.is_headed.ensures
 
-returns-2 : tie.Need-returns-2
-returns-2 c = rw c.before.before.enum-told2.given.1 c.is-headed2.ensures
+returns-2 : tie.Need-returns-in-Two
+returns-2 c = rw c.in-Two.is c.is_headed-in-Two.ensures
 
-pub is-of-spec : {M : Type 1} → statement M
-is-of-spec = tie.close (tie.spec (search rules) (search rules) (search rules) (search rules) (search rules) (search rules) returns returns-2)
+pub is_of_spec : {M : Type 1} → statement M
+is_of_spec = tie.close (tie.spec
+    (search rules)
+    (search rules)
+    (search rules)
+    (search rules)
+    returns
+    returns-2)

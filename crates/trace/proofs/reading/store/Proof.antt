@@ -15,49 +15,48 @@ use Rattle.trace.proofs.Stores.{events_put, says, brief}
 use Rattle.trace.proofs.reading.store.Statement.{statement}
 use Rattle.trace.proofs.reading.store.Tie as tie
 
-abbrev invariant-loop : tie.invariant-loop
+abbrev invariant-loop : tie.invariant-loop-to
 invariant-loop text room₀ form at₀ i₀ room at i = Held put_at events_put (says (form_of text)) (brief (form_of text)) text room₀ i room at
 
-abbrev decreases-loop : tie.decreases-loop
+abbrev decreases-loop : tie.decreases-loop-to
 decreases-loop text room₀ form at₀ i₀ room at i = length text - at
 
 -- a turn's line
-module _ (c : tie.After-to invariant-loop decreases-loop) where
-  abbrev l : tie.At-loop invariant-loop decreases-loop
-  l = c.before.before.before
+module _ (c : tie.In-Line invariant-loop decreases-loop) where
+  abbrev l : tie.At-loop-to invariant-loop decreases-loop
+  l = c.before.before
 
   abbrev text : List ℕ
-  text = l.before.before.before.before.before.args.text.now
+  text = l.args.text.now
 
-  here : line_at text l.loop.at ≡ Line c.to.given.0.0
-  here = sym c.before.before.next-line.ensures ∙ c.to.given.1
+  here : line_at text l.loop-to.at ≡ Line c.in-Line.to
+  here = sym c.next_line.ensures ∙ c.in-Line.is
 
   -- it lies within the text, and there are no more events than bytes before it
-  line : Next text l.loop.at c.to.given.0.0 × (l.loop.i ≤ l.loop.at)
-  line = (next _ _ _ here, l.loop.inv.few)
+  line : Next text l.loop-to.at c.in-Line.to × (l.loop-to.i ≤ l.loop-to.at)
+  line = (next _ _ _ here, l.loop-to.invariant.few)
 
 -- it is put
-abbrev put : tie.After-slice-known2 invariant-loop decreases-loop → tie.After-put-record invariant-loop decreases-loop
+abbrev put : tie.After-slice_known-in-loop-to-1 invariant-loop decreases-loop → tie.After-put_record-i invariant-loop decreases-loop
 put c = c.before.before
 
-abbrev its : tie.After-record-of invariant-loop decreases-loop → tie.After-to invariant-loop decreases-loop
-its c = c.before.before.before.before
+abbrev its : tie.After-record_of invariant-loop decreases-loop → tie.In-Line invariant-loop decreases-loop
+its c = c.before.before.before
 
-loop-holds : tie.Need-loop-init invariant-loop decreases-loop
-loop-holds c = rw c.line-two.ensures (held_start put_at events_put (says _) (brief _) _ _)
+loop-holds : tie.Need-loop-to-init invariant-loop decreases-loop
+loop-holds c = rw c.line_two-at.ensures (held_start put_at events_put (says _) (brief _) _ _)
 
-loop-again : tie.Need-loop-preserved invariant-loop decreases-loop
+loop-again : tie.Need-loop-to-preserved invariant-loop decreases-loop
 loop-again c =
     let e = (put c).before in
-    let f = (l (its e)).before.before.form_of_lem.ensures in
-    held_step put_at events_put (says _) (brief _) _ _ (l (its e)).loop.inv (here (its e)) (events_on e.record_of.result)
-    (rw (← f) (ap events_on e.record_of.ensures)) (put c).put_record.ensures.0 (put c).put_record.ensures.1
+    let f = (l (its e)).form_of-form.ensures in
+    held_step put_at events_put (says _) (brief _) _ _ (l (its e)).loop-to.invariant (here (its e)) (events_on e.record_of.result)
+    (rw (← f) (ap events_on e.record_of.ensures)) (put c).put_record-i.ensures.0 (put c).put_record-i.ensures.1
 
-returns : tie.Need-returns invariant-loop decreases-loop
+returns : tie.Need-returns-in_default invariant-loop decreases-loop
 unfolding events_of
 returns c =
-    let o = c.before.before in
-    held_all put_at events_put (says _) (brief _) _ _ o.before.loop.invariant (sym o.next-line.ensures ∙ c.enum_told.given.1)
+    held_all put_at events_put (says _) (brief _) _ _ c.loop-to.invariant (sym c.next_line.ensures ∙ c.in_default.is)
 
 pub store_spec : {M : Type 1} → statement M
 store_spec =
@@ -71,11 +70,11 @@ store_spec =
     (search rules)
     (search rules)
     (search rules)
-    (λ c. c.before.before.before.loop.invariant.size)
+    (λ c. c.loop-to.invariant.size)
     returns
-    (λ c. omega (arith, line c.before.before))
-    (λ c. omega (arith, line c.before.before))
-    (λ c. omega (arith, line c.before.before))
+    (λ c. omega (arith, line c.before))
+    (λ c. omega (arith, line c.before))
+    (λ c. omega (arith, line c.before))
     (search rules)
     (λ c κs. omega (arith, line (its c)))
     (λ c. omega (arith, line (its (put c).before)))

@@ -6,14 +6,13 @@ use borrow.Author.Rules.{rules}
 use Rattle.trace.proofs.reading.survey_in.Statement.{statement}
 use Rattle.trace.proofs.reading.survey_in.Tie as tie
 
-returns : tie.Need-returns
+returns : tie.Need-returns-then-words-events
 returns c =
-    let v = c.before.before.before in
-    rw (← v.survey.ensures, lt-leb _ _ c.before.before.if1.true) (c.refusal.ensures ∙ ap refused c.before.new.ensures)
+    rw (← c.survey-surveyed.ensures, lt-leb _ _ c.if-words-events.true) (c.refusal.ensures ∙ ap refused c.new.ensures)
 
-returns-2 : tie.Need-returns-2
-returns-2 c = rw (← c.before.survey.ensures, le-leb _ _ c.if1.false)
+returns-2 : tie.Need-returns
+returns-2 c = rw (← c.survey-surveyed.ensures, le-leb _ _ c.if-words-events.false)
 
-pub survey-in-spec : {M : Type 1} → statement M
-survey-in-spec =
+pub survey_in_spec : {M : Type 1} → statement M
+survey_in_spec =
     tie.close (tie.spec (search rules) (search rules) (search rules) returns returns-2)

@@ -35,14 +35,14 @@ record Inv (regs : List Bool) (form : Form) (text : List ℕ) (from side : ℕ) 
   walk : Tried (trace_layout form) refused side (survey_inits regs form side 2 0 (replicate 256 false) empty (split_from text from)) text k (opened low)
       (with_inits regs form side has start) at
 
-abbrev invariant-loop : tie.invariant-loop
+abbrev invariant-loop : tie.invariant-loop-to
 invariant-loop regs form text from side start₀ has₀ at₀ k₀ low₀ start has at k low = Inv regs form text from side start has at k low
 
-abbrev decreases-loop : tie.decreases-loop
+abbrev decreases-loop : tie.decreases-loop-to
 decreases-loop regs form text from side start₀ has₀ at₀ k₀ low₀ start has at k low = length text - at
 
 -- a turn's place
-module _ (c : tie.After-next-line invariant-loop decreases-loop) where
+module _ (c : tie.After-next_line invariant-loop decreases-loop) where
   abbrev begin : tie.Start invariant-loop decreases-loop
   begin = c.before.before.before.before
 
@@ -50,119 +50,119 @@ module _ (c : tie.After-next-line invariant-loop decreases-loop) where
   text = begin.args.text.now
 
   abbrev at : ℕ
-  at = c.before.loop.at
+  at = c.loop-to.at
 
   abbrev k : ℕ
-  k = c.before.loop.k
+  k = c.loop-to.k
 
   abbrev start : Memory
-  start = c.before.loop.start
+  start = c.loop-to.start
 
   abbrev has : List Bool
-  has = c.before.loop.has
+  has = c.loop-to.has
 
-  inv : Inv begin.args.listed.now begin.args.form text begin.args.from begin.args.side start has at k c.before.loop.low
-  inv = c.before.loop.invariant
+  inv : Inv begin.args.listed.now begin.args.form text begin.args.from begin.args.side start has at k c.loop-to.low
+  inv = c.loop-to.invariant
 
   -- the places that the reading of events is handed
   handed : (k ≤ at) × (0 < at)
   handed = (inv.walk.lined, omega (arith, inv.second, inv.walk.lined))
 
 -- its line has a LF
-module _ (c : tie.After-to invariant-loop decreases-loop) where
-  abbrev l : tie.After-next-line invariant-loop decreases-loop
-  l = c.before.before
+module _ (c : tie.In-Line invariant-loop decreases-loop) where
+  abbrev l : tie.After-next_line invariant-loop decreases-loop
+  l = c.before
 
   abbrev to : ℕ
-  to = c.to.given.0.0
+  to = c.in-Line.to
 
   here : line_at (text l) (at l) ≡ Line to
-  here = sym l.next-line.ensures ∙ c.to.given.1
+  here = sym l.next_line.ensures ∙ c.in-Line.is
 
   -- it lies within the text, and there are no more lines than bytes before it
   line : Next (text l) (at l) to × (k l ≤ at l)
   line = (next _ _ _ here, (inv l).walk.lined)
 
 -- and is read
-module _ (c : tie.After-record-of invariant-loop decreases-loop) where
-  abbrev t : tie.After-to invariant-loop decreases-loop
-  t = c.before.before.before
+module _ (c : tie.After-record_of invariant-loop decreases-loop) where
+  abbrev t : tie.In-Line invariant-loop decreases-loop
+  t = c.before.before
 
   is : {r : Record} → c.record_of.result ≡ r → record_of (begin (l t)).args.form (part (text (l t)) (at (l t)) (to t)) ≡ r
   is e = sym c.record_of.ensures ∙ e
 
 -- it is a starting value
-module _ (c : tie.After-place invariant-loop decreases-loop) where
-  abbrev r : tie.After-record-of invariant-loop decreases-loop
-  r = c.before.before
+module _ (c : tie.In-Init invariant-loop decreases-loop) where
+  abbrev r : tie.After-record_of invariant-loop decreases-loop
+  r = c.before
 
-  abbrev p : tie.After-next-line invariant-loop decreases-loop
+  abbrev p : tie.After-next_line invariant-loop decreases-loop
   p = l (t r)
 
   abbrev cell : ℕ
-  cell = c.place.given.0.0
+  cell = c.in-Init.place
 
-  its : record_of (begin p).args.form (part (text p) (at p) (to (t r))) ≡ Init cell c.place.given.0.1.0
-  its = is r c.place.given.1
+  its : record_of (begin p).args.form (part (text p) (at p) (to (t r))) ≡ Init cell c.in-Init.value
+  its = is r c.in-Init.is
 
   inside : cell ≤ 255
   inside = init_place _ _ _ _ its
 
-loop-holds : tie.Need-loop-init invariant-loop decreases-loop
+loop-holds : tie.Need-loop-to-init invariant-loop decreases-loop
 loop-holds c = record {
   second = omega arith;
-  size = rw c.empty.ensures;
+  size = rw c.empty-start.ensures;
   marks = refl;
   none = λ j b. unmarked j;
-  walk = record { lined = omega arith; same = rw c.empty.ensures };
+  walk = record { lined = omega arith; same = rw c.empty-start.ensures };
 }
 
-returns : tie.Need-returns invariant-loop decreases-loop
+returns : tie.Need-returns-in_default invariant-loop decreases-loop
 returns c =
-    let o = c.before.before.before.before in
-    inits_none _ _ _ _ _ (has o) (start o) (inv o).walk c.survey-events.ensures (sym o.next-line.ensures ∙ c.before.before.enum_told.given.1)
+    let o = c.before.before.before in
+    inits_none _ _ _ _ _ (has o) (start o) (inv o).walk c.survey_events.ensures (sym o.next_line.ensures ∙ c.in_default.is)
 
-returns-2 : tie.Need-returns-2 invariant-loop decreases-loop
+returns-2 : tie.Need-returns-in-Refused invariant-loop decreases-loop
 returns-2 c =
-    let q = c.before.before.before.before in
-    inits_refused _ _ _ _ _ (has (l (t q))) (start (l (t q))) (inv (l (t q))).walk c.survey-events2.ensures (here (t q)) (is q c.before.before.enum-told2.given.1)
+    let q = c.before.before.before in
+    inits_refused _ _ _ _ _ (has (l (t q))) (start (l (t q))) (inv (l (t q))).walk c.survey_events-in-Refused.ensures (here (t q)) (is q c.in-Refused.is)
 
-returns-3 : tie.Need-returns-3 invariant-loop decreases-loop
+returns-3 : tie.Need-returns-in-AnEvent invariant-loop decreases-loop
 returns-3 c =
-    let q = c.before.before.before.before in
-    inits_event _ _ _ _ _ (has (l (t q))) (start (l (t q))) (inv (l (t q))).walk c.survey-events3.ensures (here (t q)) _ (is q c.before.before.enum-told3.given.1)
+    let q = c.before.before.before in
+    inits_event _ _ _ _ _ (has (l (t q))) (start (l (t q))) (inv (l (t q))).walk c.survey_events-in-AnEvent.ensures (here (t q)) _ (is q c.in-AnEvent.is)
 
-returns-4 : tie.Need-returns-4 invariant-loop decreases-loop
+returns-4 : tie.Need-returns-then-place-low invariant-loop decreases-loop
 returns-4 c =
-    let q = c.before.before.before.before in
-    tried_stop (inv (p q)).walk c.refusal.ensures (here (t (r q))) c.before.new.ensures refl (rw (its q, lt-ltb _ _ c.before.before.if1.true))
+    let q = c.before.before.before in
+    tried_stop (inv (p q)).walk c.refusal.ensures (here (t (r q))) c.new.ensures refl (rw (its q, lt-ltb _ _ c.if-place-low.true))
 
 -- what is known of a turn's numbers
-module _ (c : tie.After-index-of invariant-loop decreases-loop) where
-  abbrev q : tie.After-place invariant-loop decreases-loop
-  q = c.before.before.before
+module _ (c : tie.After-index_of-cell invariant-loop decreases-loop) where
+  abbrev q : tie.In-Init invariant-loop decreases-loop
+  q = c.before.before
 
-  index : c.index_of.result < 256
-  index = omega (arith, inside q, c.index_of.ensures)
+  index : c.index_of-cell.result < 256
+  index = omega (arith, inside q, c.index_of-cell.ensures)
 
-loop-again : tie.Need-loop-preserved invariant-loop decreases-loop
+loop-again : tie.Need-loop-to-preserved invariant-loop decreases-loop
 loop-again c =
     let d = p (q c) in
     let i = inv d in
-    let o = c.before.if1.false in
+    let o = c.if-place-low.false in
     record {
       second = omega (arith, i.second);
       size = simp length-set i.size;
       marks = simp length-set i.marks;
-      none = λ j b. get_or-set_other (has d) c.index_of.result j true false (λ z. omega (arith, c.index_of.ensures)) ∙ i.none j (omega arith);
+      none = λ j b. get_or-set_other (has d) c.index_of-cell.result j true false (λ z. omega (arith, c.index_of-cell.ensures)) ∙ i.none j (omega arith);
       walk =
           tried_go i.walk (here (t (r (q c)))) (omega arith) (rw (its (q c), le-ltb _ _ o)) (rw (its (q c)))
           (λ m ls. inits_go _ _ _ (k d) _ (has d) (start d) _ m ls (its (q c)) o (omega (arith, inside (q c), i.size)) (omega (arith, inside (q c), i.marks)) i.none
-          c.index_of.ensures);
+          c.index_of-cell.ensures);
     }
 
-pub survey-lines-spec : {M : Type 1} → statement M
-survey-lines-spec =
+pub survey_lines_spec : {M : Type 1} → statement M
+survey_lines_spec =
     tie.close
     (tie.spec
     invariant-loop
@@ -172,17 +172,17 @@ survey-lines-spec =
     (search rules)
     (search rules)
     (search rules)
-    (λ c κs. handed c.before.before.before)
+    (λ c κs. handed c.before.before)
     returns
-    (λ c. omega (arith, line c.before))
-    (λ c. omega (arith, line c.before))
-    (λ c. omega (arith, line c.before))
+    (λ c. omega (arith, line c))
+    (λ c. omega (arith, line c))
+    (λ c. omega (arith, line c))
     (search rules)
     (search rules)
-    (λ c κs. handed (l (t c.before.before.before)))
+    (λ c κs. handed (l (t c.before.before)))
     returns-2
     (search rules)
-    (λ c κs. handed (l (t c.before.before.before)))
+    (λ c κs. handed (l (t c.before.before)))
     returns-3
     (search rules)
     (search rules)
@@ -193,7 +193,7 @@ survey-lines-spec =
     (λ c. omega (arith, index c))
     (λ c. omega (arith, index c))
     (λ c. omega (arith, inside (q c)))
-    (λ c. omega (arith, line (t (r (q c))), (begin (p (q c))).good))
-    (λ c. omega (arith, line (t (r (q c))), (begin (p (q c))).good))
-    (λ c. omega (arith, line (t (r (q c))), (begin (p (q c))).good))
+    (λ c. omega (arith, line (t (r (q c))), (begin (p (q c))).well_formed))
+    (λ c. omega (arith, line (t (r (q c))), (begin (p (q c))).well_formed))
+    (λ c. omega (arith, line (t (r (q c))), (begin (p (q c))).well_formed))
     loop-again)
