@@ -5,24 +5,22 @@ use Rattle.uses.proofs.Bad.{bad_go, bad_here, bad_end}
 use Rattle.refusals.proofs.moving.loss_on.Statement.{statement}
 use Rattle.refusals.proofs.moving.loss_on.Tie as tie
 
-returns : tie.Need-returns
+returns : tie.Need-returns-then-does_lose
 returns c =
-    let l = c.before.before in
-    rw l.before.before.line.given.1 (c.new.ensures ∙ sym (bad_here _ 19 1 _ _ _ (sym l.does-lose.ensures ∙ c.before.if1.true)))
+    rw c.in-AnEvent.is (c.new.ensures ∙ sym (bad_here _ 19 1 _ _ _ (sym c.does_lose.ensures ∙ c.if-does_lose.true)))
 
-returns-2 : tie.Need-returns-2
+returns-2 : tie.Need-returns-else-does_lose
 returns-2 c =
-    let l = c.before.before in
-    rw l.before.before.line.given.1
-    (c.new2.ensures ∙ sym (bad_go _ 19 1 _ _ _ (sym l.does-lose.ensures ∙ c.before.if1.false) ∙ bad_end _ 19 1 _))
+    rw c.in-AnEvent.is
+    (c.new-in-AnEvent.ensures ∙ sym (bad_go _ 19 1 _ _ _ (sym c.does_lose.ensures ∙ c.if-does_lose.false) ∙ bad_end _ 19 1 _))
 
-returns-3 : tie.Need-returns-3
-returns-3 c = rw c.before.enum_told.given.1 (c.new3.ensures ∙ sym (bad_end _ 19 1 _))
+returns-3 : tie.Need-returns-in-Init
+returns-3 c = rw c.in-Init.is (c.new-in-Init.ensures ∙ sym (bad_end _ 19 1 _))
 
-returns-4 : tie.Need-returns-4
-returns-4 c = rw c.before.enum-told2.given.1 (c.new4.ensures ∙ sym (bad_end _ 19 1 _))
+returns-4 : tie.Need-returns-in-Refused
+returns-4 c = rw c.in-Refused.is (c.new-in-Refused.ensures ∙ sym (bad_end _ 19 1 _))
 
-pub loss-on-spec : {M : Type 1} → statement M
-loss-on-spec =
+pub loss_on_spec : {M : Type 1} → statement M
+loss_on_spec =
     tie.close
     (tie.spec (search rules) (search rules) (search rules) returns (search rules) (search rules) (search rules) (search rules) (search rules) returns-2 returns-3 returns-4)

@@ -6,28 +6,23 @@ use Rattle.trace.specs.Moving.{move_head}
 use Rattle.refusals.proofs.moving.move_head.Statement.{statement}
 use Rattle.refusals.proofs.moving.move_head.Tie as tie
 
-returns : tie.Need-returns
+returns : tie.Need-returns-then-limit_of-text
 unfolding move_head
 returns c =
-    let l = c.before.before in
-    rw (← l.before.form_of_lem.ensures, ← l.limit-of.ensures, lt-ltb _ _ c.before.if1.true) c.new.ensures
+    rw (← c.form_of.ensures, ← c.limit_of.ensures, lt-ltb _ _ c.if-limit_of-text.true) c.new.ensures
 
-returns-2 : tie.Need-returns-2
+returns-2 : tie.Need-returns-then-is_of
 unfolding move_head
 returns-2 c =
-    let o = c.before.before in
-    let l = o.before.before in
-    rw (← l.before.form_of_lem.ensures, ← l.limit-of.ensures, le-ltb _ _ o.before.if1.false, sym o.is-of.ensures ∙ c.before.if2.true) c.new2.ensures
+    rw (← c.form_of.ensures, ← c.limit_of.ensures, le-ltb _ _ c.if-limit_of-text.false, sym c.is_of.ensures ∙ c.if-is_of.true) c.new-then-is_of.ensures
 
-returns-3 : tie.Need-returns-3
+returns-3 : tie.Need-returns
 unfolding move_head
 returns-3 c =
-    let o = c.before.before in
-    let l = o.before.before in
-    rw (← l.before.form_of_lem.ensures, ← l.limit-of.ensures, le-ltb _ _ o.before.if1.false, sym o.is-of.ensures ∙ c.before.if2.false) c.new3.ensures
+    rw (← c.form_of.ensures, ← c.limit_of.ensures, le-ltb _ _ c.if-limit_of-text.false, sym c.is_of.ensures ∙ c.if-is_of.false) c.new-2.ensures
 
-pub move-head-spec : {M : Type 1} → statement M
-move-head-spec =
+pub move_head_spec : {M : Type 1} → statement M
+move_head_spec =
     tie.close
     (tie.spec
     (search rules)

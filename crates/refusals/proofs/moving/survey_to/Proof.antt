@@ -14,33 +14,33 @@ none : {a b : Answer} → a ≡ b → a.number ≡ 0 → b.number ≡ 0
 none q z = ap (λ (a : Answer). a.number) (sym q) ∙ z
 
 -- nothing of line 1, and nothing of the reading
-head : (c : tie.Else1) → let a = c.before.before.before.before.args in (move_head a.to a.text.now).number ≡ 0
-head c = none c.before.before.move-head.ensures c.if1.false
+head : (c : tie.Else-head-ne0) → let a = c.args in (move_head a.to a.text.now).number ≡ 0
+head c = none c.move_head-head.ensures c.if-head-ne0.false
 
-abbrev surveyed : tie.Else2 → tie.After-survey
+abbrev surveyed : tie.Else-found-ne0 → tie.After-survey-surveyed
 surveyed c = c.before.before.before
 
-reading : (c : tie.Else2) → let a = (surveyed c).before.before.before.before.before.args in (survey_in a.listed.now 1 a.text.now).answer.number ≡ 0
-reading c = none (ap (λ (r : TraceRead). r.answer) (surveyed c).survey.ensures) c.if2.false
+reading : (c : tie.Else-found-ne0) → let a = (surveyed c).args in (survey_in a.listed.now 1 a.text.now).answer.number ≡ 0
+reading c = none (ap (λ (r : TraceRead). r.answer) (surveyed c).survey-surveyed.ensures) c.if-found-ne0.false
 
-returns : tie.Need-returns
-returns c = c.refusal.ensures ∙ by_head _ _ _ c.before.before.before.move-head.ensures c.before.if1.true
+returns : tie.Need-returns-then-head-ne0
+returns c = c.refusal.ensures ∙ by_head _ _ _ c.move_head-head.ensures c.if-head-ne0.true
 
-returns-2 : tie.Need-returns-2
-returns-2 c = let s = c.before.before.before in by_reading _ _ _ (head s.before) s.survey.ensures c.if2.true
+returns-2 : tie.Need-returns-then-found-ne0
+returns-2 c = let s = c.before.before.before in by_reading _ _ _ (head s.before) s.survey-surveyed.ensures c.if-found-ne0.true
 
-returns-3 : tie.Need-returns-3
+returns-3 : tie.Need-returns-then-loss-ne0
 returns-3 c =
     let l = c.before.before.before in
-    c.refusal2.ensures ∙ by_loss _ _ _ (head (surveyed l.before).before) (reading l.before) l.loss-in.ensures c.before.if3.true
+    c.refusal-then-loss-ne0.ensures ∙ by_loss _ _ _ (head (surveyed l.before).before) (reading l.before) l.loss_in-loss.ensures c.if-loss-ne0.true
 
-returns-4 : tie.Need-returns-4
+returns-4 : tie.Need-returns
 returns-4 c =
     let l = c.before.before in
     let s = surveyed l.before in
-    s.survey.ensures ∙ by_none _ _ _ (head s.before) (reading l.before) (none l.loss-in.ensures c.if3.false)
+    s.survey-surveyed.ensures ∙ by_none _ _ _ (head s.before) (reading l.before) (none l.loss_in-loss.ensures c.if-loss-ne0.false)
 
-pub survey-to-spec : {M : Type 1} → statement M
-survey-to-spec =
+pub survey_to_spec : {M : Type 1} → statement M
+survey_to_spec =
     tie.close
     (tie.spec (search rules) (search rules) returns (search rules) returns-2 (search rules) (search rules) returns-3 returns-4)

@@ -36,10 +36,10 @@ record Inv (regs : List Bool) (room : List ℕ) (n : ℕ) (start m : Memory) (wa
   marks : Marks ways before
   same : event_fault_in regs 0 1 start [] (onward room 0 n) ≡ event_fault_in regs 0 (i + 1) m before (onward room i (n - i))
 
-abbrev invariant-loop : tie.invariant-loop
+abbrev invariant-loop : tie.invariant-loop-i
 invariant-loop regs room n last₀ ways₀ none₀ i₀ last ways i = Inv regs room n last₀.memory last.memory ways i
 
-abbrev decreases-loop : tie.decreases-loop
+abbrev decreases-loop : tie.decreases-loop-i
 decreases-loop regs room n last₀ ways₀ none₀ i₀ last ways i = n - i
 
 -- what was found, by what the calls tell
@@ -51,8 +51,8 @@ refuses : (b : Answer) {a r : Answer} → r ≡ a → eqb r.number 0 ≡ false �
 refuses b p z = rw (← p, z)
 
 -- the event at the loop's place
-module _ (c : tie.After-get invariant-loop decreases-loop) where
-  abbrev l : tie.At-loop invariant-loop decreases-loop
+module _ (c : tie.After-get-e invariant-loop decreases-loop) where
+  abbrev l : tie.At-loop-i invariant-loop decreases-loop
   l = c.before.before
 
   abbrev args : tie.Start invariant-loop decreases-loop
@@ -68,19 +68,19 @@ module _ (c : tie.After-get invariant-loop decreases-loop) where
   n = args.args.n
 
   abbrev i : ℕ
-  i = l.loop.i
+  i = l.loop-i.i
 
   abbrev e : Event
-  e = c.get.result
+  e = c.get-e.result
 
   abbrev others : List Event
   others = onward room (i + 1) (n - (i + 1))
 
-  inv : Inv regs room n args.args.start l.loop.last.memory l.loop.ways i
-  inv = l.loop.inv
+  inv : Inv regs room n args.args.start l.loop-i.last.memory l.loop-i.ways i
+  inv = l.loop-i.invariant
 
   parts : onward room i (n - i) ≡ e ∷ others
-  parts = event_next room i n c.get.ensures (omega arith)
+  parts = event_next room i n c.get-e.ensures (omega arith)
 
   sound : (lawful e ≡ true) × ((layout_fault (i + 1 + 1) others).number ≡ 0)
   sound =
@@ -91,86 +91,84 @@ module _ (c : tie.After-get invariant-loop decreases-loop) where
   inside = place_below e sound.0
 
   -- it is at a location
-  told : {b : Bool} → b ≡ clashing_in regs l.loop.ways e → b ≡ (uses_atomically regs e || clashing l.loop.ways e)
-  told q = q ∙ clash_inside regs l.loop.ways e inside
+  told : {b : Bool} → b ≡ clashing_in regs l.loop-i.ways e → b ≡ (uses_atomically regs e || clashing l.loop-i.ways e)
+  told q = q ∙ clash_inside regs l.loop-i.ways e inside
 
-  ways_told : {ways : List ℕ} → ways ≡ ways_with l.loop.ways e → ways ≡ ways_after l.loop.ways e
-  ways_told q = q ∙ with_inside l.loop.ways e inside
+  ways_told : {ways : List ℕ} → ways ≡ ways_with l.loop-i.ways e → ways ≡ ways_after l.loop-i.ways e
+  ways_told q = q ∙ with_inside l.loop-i.ways e inside
 
 -- judged
-module _ (c : tie.After-fault-at invariant-loop decreases-loop) where
-  abbrev judged : tie.After-is-right invariant-loop decreases-loop
+module _ (c : tie.After-fault_at-found invariant-loop decreases-loop) where
+  abbrev judged : tie.After-is_right-right invariant-loop decreases-loop
   judged = c.before
 
-  abbrev u : tie.After-use-listed invariant-loop decreases-loop
-  u = judged.before.before
+  abbrev u : tie.After-use_listed-clash invariant-loop decreases-loop
+  u = judged.before.before.before
 
-  abbrev g : tie.After-get invariant-loop decreases-loop
+  abbrev g : tie.After-get-e invariant-loop decreases-loop
   g = u.before.before
 
   abbrev clash_now : Bool
   clash_now = clashes_in (regs g) (inv g).before (e g)
 
   abbrev right_now : Bool
-  right_now = (stepped_in (regs g) (l g).loop.last.memory (e g)).right
+  right_now = (stepped_in (regs g) (l g).loop-i.last.memory (e g)).right
 
   abbrev its : Answer
   its = fault_at 0 (i g + 1) clash_now right_now
 
-  clash_is : u.use-listed.result ≡ clash_now
+  clash_is : u.use_listed-clash.result ≡ clash_now
   clash_is =
-      told g u.use-listed.ensures.0
-      ∙ ap (λ (b : Bool). uses_atomically (regs g) (e g) || b) (sym (clash (l g).loop.ways (inv g).before (e g) (inside g) (inv g).marks))
+      told g u.use_listed-clash.ensures.0
+      ∙ ap (λ (b : Bool). uses_atomically (regs g) (e g) || b) (sym (clash (l g).loop-i.ways (inv g).before (e g) (inside g) (inv g).marks))
 
-  right_is : judged.is_right.result ≡ right_now
-  right_is = judged.is_right.ensures ∙ right_told (regs g) _ (e g) _ (sound g).0 judged.before.step.ensures
+  right_is : judged.is_right-right.result ≡ right_now
+  right_is = judged.is_right-right.ensures ∙ right_told (regs g) _ (e g) _ (sound g).0 judged.step-last.ensures
 
-  found_is : c.fault_at_lem.result ≡ its
-  found_is = found_told (i g + 1) (l g).before.new.ensures clash_is right_is c.fault_at_lem.ensures
+  found_is : c.fault_at-found.result ≡ its
+  found_is = found_told (i g + 1) (l g).new-none.ensures clash_is right_is c.fault_at-found.ensures
 
   whole : event_fault_in (regs g) 0 1 (args g).args.start [] (onward (room g) 0 (n g))
-      ≡ first its (event_fault_in (regs g) 0 (i g + 1 + 1) judged.before.step.result.memory (e g ∷ (inv g).before) (others g))
+      ≡ first its (event_fault_in (regs g) 0 (i g + 1 + 1) judged.step-last.result.memory (e g ∷ (inv g).before) (others g))
   whole =
-      (inv g).same ∙ rw (parts g) (fault_next (regs g) 0 (i g + 1) (l g).loop.last.memory (inv g).before (e g) (others g))
-      ∙ ap (λ (s : Stepped). first its (event_fault_in (regs g) 0 (i g + 1 + 1) s.memory (e g ∷ (inv g).before) (others g))) (sym judged.before.step.ensures)
+      (inv g).same ∙ rw (parts g) (fault_next (regs g) 0 (i g + 1) (l g).loop-i.last.memory (inv g).before (e g) (others g))
+      ∙ ap (λ (s : Stepped). first its (event_fault_in (regs g) 0 (i g + 1 + 1) s.memory (e g ∷ (inv g).before) (others g))) (sym judged.step-last.ensures)
 
-loop-holds : tie.Need-loop-init invariant-loop decreases-loop
+loop-holds : tie.Need-loop-i-init invariant-loop decreases-loop
 loop-holds c =
-    let a = c.before.before in
-    let p = onward_all a.args.room.now a.args.n in
-    record { within = omega arith; size = refl; sound = rw p a.requires.1; before = []; marks = marks_start; same = rw p }
+    let p = onward_all c.args.room.now c.args.n in
+    record { within = omega arith; size = refl; sound = rw p c.requires.1; before = []; marks = marks_start; same = rw p }
 
-returns : tie.Need-returns invariant-loop decreases-loop
+returns : tie.Need-returns-then-found-ne0 invariant-loop decreases-loop
 returns c =
     let f = c.before.before in
-    let z = ne_eqb _ _ c.if1.true in
+    let z = ne_eqb _ _ c.if-found-ne0.true in
     sym (whole f ∙ refuses _ (found_is f) z)
 
-loop-again : tie.Need-loop-preserved invariant-loop decreases-loop
+loop-again : tie.Need-loop-i-preserved invariant-loop decreases-loop
 loop-again c =
     let f = c.before.before in
-    let z = ap (λ (a : Answer). a.number) (sym (found_is f)) ∙ c.if1.false in
+    let z = ap (λ (a : Answer). a.number) (sym (found_is f)) ∙ c.if-found-ne0.false in
     let none = clash_is f ∙ (fault_free 0 (i (g f) + 1) (clash_now f) (right_now f) z).0 in
-    let free = or_right (uses_atomically (regs (g f)) (e (g f))) _ (sym (told (g f) (u f).use-listed.ensures.0) ∙ none) in
+    let free = or_right (uses_atomically (regs (g f)) (e (g f))) _ (sym (told (g f) (u f).use_listed-clash.ensures.0) ∙ none) in
     record {
       within = omega arith;
-      size = ap length (ways_told (g f) (u f).use-listed.ensures.1) ∙ simp length-set (inv (g f)).size;
+      size = ap length (ways_told (g f) (u f).use_listed-clash.ensures.1) ∙ simp length-set (inv (g f)).size;
       sound = (sound (g f)).1;
       before = e (g f) ∷ (inv (g f)).before;
       marks =
-          marks_told (e (g f) ∷ (inv (g f)).before) (ways_told (g f) (u f).use-listed.ensures.1)
-          (marks_next (l (g f)).loop.ways (inv (g f)).before (e (g f)) (inside (g f)) (inv (g f)).marks (inv (g f)).size free);
+          marks_told (e (g f) ∷ (inv (g f)).before) (ways_told (g f) (u f).use_listed-clash.ensures.1)
+          (marks_next (l (g f)).loop-i.ways (inv (g f)).before (e (g f)) (inside (g f)) (inv (g f)).marks (inv (g f)).size free);
       same = whole f ∙ rw z;
     }
 
-returns-2 : tie.Need-returns-2 invariant-loop decreases-loop
+returns-2 : tie.Need-returns invariant-loop decreases-loop
 returns-2 c =
-    let k = c.before in
-    let a = k.before.before.before.args in
-    k.before.new.ensures ∙ sym (k.loop.invariant.same ∙ rw (onward_end a.room.now k.loop.i a.n (omega arith)) (fault_end _ _ _ _ _))
+    let a = c.args in
+    c.new-none.ensures ∙ sym (c.loop-i.invariant.same ∙ rw (onward_end a.room.now c.loop-i.i a.n (omega arith)) (fault_end _ _ _ _ _))
 
-pub event-fault-spec : {M : Type 1} → statement M
-event-fault-spec =
+pub event_fault_spec : {M : Type 1} → statement M
+event_fault_spec =
     tie.close
     (tie.spec
     invariant-loop

@@ -14,32 +14,32 @@ use Rattle.refusals.proofs.room.layout_fault.Tie as tie
 abbrev unlawful : Event → Bool
 unlawful e = not (lawful e)
 
-abbrev invariant-loop : tie.invariant-loop
+abbrev invariant-loop : tie.invariant-loop-i
 invariant-loop room n i₀ i = Sought unlawful 18 0 room n i
 
-abbrev decreases-loop : tie.decreases-loop
+abbrev decreases-loop : tie.decreases-loop-i
 decreases-loop room n i₀ i = n - i
 
 -- whether the event at hand is
-told : (c : tie.After-is-lawful invariant-loop decreases-loop) → let l = c.before.before.before in
-    unlawful (event_at l.before.before.args.room.now l.loop.i) ≡ not c.is_lawful.result
-told c = ap not (sym (rw c.before.get.ensures at c.is_lawful.ensures))
+told : (c : tie.After-is_lawful invariant-loop decreases-loop) →
+    unlawful (event_at c.args.room.now c.loop-i.i) ≡ not c.is_lawful.result
+told c = ap not (sym (rw c.get.ensures at c.is_lawful.ensures))
 
-returns : tie.Need-returns invariant-loop decreases-loop
+returns : tie.Need-returns-then-not-is_lawful invariant-loop decreases-loop
 returns c =
     let p = c.before.before in
-    c.new.ensures ∙ sym (sought_here unlawful 18 0 p.before.before.before.loop.invariant (omega arith) (told p ∙ c.before.if1.true))
+    c.new.ensures ∙ sym (sought_here unlawful 18 0 p.loop-i.invariant (omega arith) (told p ∙ c.if-not-is_lawful.true-raw))
 
-loop-again : tie.Need-loop-preserved invariant-loop decreases-loop
+loop-again : tie.Need-loop-i-preserved invariant-loop decreases-loop
 loop-again c =
     let p = c.before in
-    sought_next unlawful 18 0 p.before.before.before.loop.invariant (omega arith) (told p ∙ c.if1.false)
+    sought_next unlawful 18 0 p.loop-i.invariant (omega arith) (told p ∙ c.if-not-is_lawful.false-raw)
 
-returns-2 : tie.Need-returns-2 invariant-loop decreases-loop
-returns-2 c = c.new2.ensures ∙ sym (sought_end unlawful 18 0 c.before.before.loop.invariant (omega arith))
+returns-2 : tie.Need-returns invariant-loop decreases-loop
+returns-2 c = c.new-2.ensures ∙ sym (sought_end unlawful 18 0 c.loop-i.invariant (omega arith))
 
-pub layout-fault-spec : {M : Type 1} → statement M
-layout-fault-spec =
+pub layout_fault_spec : {M : Type 1} → statement M
+layout_fault_spec =
     tie.close
     (tie.spec
     invariant-loop

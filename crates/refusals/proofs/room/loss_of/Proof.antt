@@ -15,33 +15,33 @@ use Rattle.refusals.proofs.room.loss_of.Tie as tie
 abbrev losing : Form → Event → Bool
 losing f e = loses f e.code
 
-abbrev invariant-loop : tie.invariant-loop
+abbrev invariant-loop : tie.invariant-loop-i
 invariant-loop form room n i₀ i = Sought (losing form) 19 0 room n i
 
-abbrev decreases-loop : tie.decreases-loop
+abbrev decreases-loop : tie.decreases-loop-i
 decreases-loop form room n i₀ i = n - i
 
 -- whether the event at hand has one
-told : (c : tie.After-does-lose invariant-loop decreases-loop) → let l = c.before.before.before in
-    let a = l.before.before.args in
-    losing a.form (event_at a.room.now l.loop.i) ≡ c.does-lose.result
-told c = sym (rw c.before.get.ensures at c.does-lose.ensures)
+told : (c : tie.After-does_lose invariant-loop decreases-loop) →
+    let a = c.args in
+    losing a.form (event_at a.room.now c.loop-i.i) ≡ c.does_lose.result
+told c = sym (rw c.get.ensures at c.does_lose.ensures)
 
-returns : tie.Need-returns invariant-loop decreases-loop
+returns : tie.Need-returns-then-does_lose invariant-loop decreases-loop
 returns c =
     let p = c.before.before in
-    c.new.ensures ∙ sym (sought_here _ 19 0 p.before.before.before.loop.invariant (omega arith) (told p ∙ c.before.if1.true))
+    c.new.ensures ∙ sym (sought_here _ 19 0 p.loop-i.invariant (omega arith) (told p ∙ c.if-does_lose.true))
 
-loop-again : tie.Need-loop-preserved invariant-loop decreases-loop
+loop-again : tie.Need-loop-i-preserved invariant-loop decreases-loop
 loop-again c =
     let p = c.before in
-    sought_next _ 19 0 p.before.before.before.loop.invariant (omega arith) (told p ∙ c.if1.false)
+    sought_next _ 19 0 p.loop-i.invariant (omega arith) (told p ∙ c.if-does_lose.false)
 
-returns-2 : tie.Need-returns-2 invariant-loop decreases-loop
-returns-2 c = c.new2.ensures ∙ sym (sought_end _ 19 0 c.before.before.loop.invariant (omega arith))
+returns-2 : tie.Need-returns invariant-loop decreases-loop
+returns-2 c = c.new-2.ensures ∙ sym (sought_end _ 19 0 c.loop-i.invariant (omega arith))
 
-pub loss-of-spec : {M : Type 1} → statement M
-loss-of-spec =
+pub loss_of_spec : {M : Type 1} → statement M
+loss_of_spec =
     tie.close
     (tie.spec
     invariant-loop

@@ -8,22 +8,21 @@ use Rattle.trace.proofs.Written.{room_sound}
 use Rattle.refusals.proofs.room.write_fault.Statement.{statement}
 use Rattle.refusals.proofs.room.write_fault.Tie as tie
 
-returns : tie.Need-returns
+returns : tie.Need-returns-then-found-ne0
 unfolding write_fault_in
 returns c =
-    let f = c.before.before in
-    rw (← f.room-fault.ensures, ne_eqb _ _ c.if1.true)
+    rw (← c.room_fault-found.ensures, ne_eqb _ _ c.if-found-ne0.true)
 
 -- the room is not refused
-none : (c : tie.Else1) → let a = c.before.before.before.before.args in (room_fault_in a.listed.now a.memory a.room.now).number ≡ 0
-none c = ap (λ (r : Answer). r.number) (sym c.before.before.room-fault.ensures) ∙ c.if1.false
+none : (c : tie.Else-found-ne0) → let a = c.args in (room_fault_in a.listed.now a.memory a.room.now).number ≡ 0
+none c = ap (λ (r : Answer). r.number) (sym c.room_fault-found.ensures) ∙ c.if-found-ne0.false
 
-loss-of-requires : tie.Need-loss-of-requires
+loss-of-requires : tie.Need-loss_of-requires
 loss-of-requires c κs = (room_sound _ _ _ c.count_of.ensures (none c.before)).0
 
-returns-2 : tie.Need-returns-2
+returns-2 : tie.Need-returns
 unfolding write_fault_in
-returns-2 c = rw (none c.before.before, ← c.before.count_of.ensures) c.loss-of.ensures
+returns-2 c = rw (none c.before.before, ← c.count_of.ensures) c.loss_of.ensures
 
-pub write-fault-spec : {M : Type 1} → statement M
-write-fault-spec = tie.close (tie.spec (search rules) returns (search rules) loss-of-requires returns-2)
+pub write_fault_spec : {M : Type 1} → statement M
+write_fault_spec = tie.close (tie.spec (search rules) returns (search rules) loss-of-requires returns-2)
