@@ -4,4 +4,4 @@ use Rattle.writer.proofs.write.Statement.{statement}
 use Rattle.writer.proofs.write.Tie as tie
 
 pub write_spec : {M : Type 1} → statement M
-write_spec = tie.close (tie.spec (search rules) (search rules) (λ c. c.before.before.write-in.ensures))
+write_spec = tie.close (tie.spec (search rules) (search rules) (λ c. c.write_in.ensures))

@@ -3,7 +3,7 @@ use Prim.Native.Nat.{ℕ}
 use mathlib.Core.Bool.{Bool}
 use mathlib.Core.List.{List}
 use mathlib.Core.Path.{◌≡◌, refl, sym, ◌∙◌, ap}
-use lib.ListN.{length, length-map}
+use lib.ListN.{length}
 use Rattle.event.specs.Room.{onward}
 use Rattle.event.specs.declared.Answer.{Answer}
 use Rattle.event.specs.declared.Event.{Event}
@@ -33,82 +33,82 @@ module _ (s : tie.Start) where
   abbrev out : List ℕ
   out = s.args.out.now
 
-abbrev start : tie.After-count-of → tie.Start
+abbrev start : tie.After-count_of-n → tie.Start
 start c = c.before.before.before.before.before.before
 
 -- no refusal so far
-none : (c : tie.Else1) → (fault c.before.before.before.before.before).number ≡ 0
-none c = ap (λ (a : Answer). a.number) (sym c.before.before.write-fault.ensures) ∙ c.if1.false
+none : (c : tie.Else-fault-ne0) → (fault c.before.before.before.before.before).number ≡ 0
+none c = ap (λ (a : Answer). a.number) (sym c.write_fault-fault.ensures) ∙ c.if-fault-ne0.false
 
 -- so the events have a text
-fit : (c : tie.After-count-of) → let a = (start c).args in Fits a.form a.memory (onward a.room.now 0 c.count_of.result)
+fit : (c : tie.After-count_of-n) → let a = (start c).args in Fits a.form a.memory (onward a.room.now 0 c.count_of-n.result)
 unfolding write_fault_in
 fit c =
     let s = start c in
     let a = s.args in
-    let n = c.count_of.ensures in
+    let n = c.count_of-n.ensures in
     let d = first_done (room_fault_in a.listed.now a.memory a.room.now) (lost a.form 0 1 (room_events a.room.now)) (none c.before) in
     let f = room_sound a.listed.now a.memory a.room.now n d.0 in
-    let g = s.good.1.1.0.1.1.0 in
-    room_fits a.room.now a.form a.memory c.count_of.result
-    (simp length-map at g.1.0.1) (words_below a.memory.cells g.0 g.1.1) f.0 f.1
+    let g = s.well_formed.1.1.0.1.1.0 in
+    room_fits a.room.now a.form a.memory c.count_of-n.result
+    g.1.0.1 (words_below a.memory.cells g.0 g.1.1) f.0 f.1
     (ap (λ (k : ℕ). (lost a.form 0 1 (onward a.room.now 0 k)).number) n ∙ d.1)
 
 -- by the ways in which the events use the locations
-module _ (c : tie.After-touch-all) where
-  abbrev e : tie.After-count-of
+module _ (c : tie.After-touch_all) where
+  abbrev e : tie.After-count_of-n
   e = c.before.before
 
   abbrev events : List Event
-  events = onward (start e).args.room.now 0 e.count_of.result
+  events = onward (start e).args.room.now 0 e.count_of-n.result
 
   abbrev by_ways : List ℕ
-  by_ways = text_by (start e).args.form (is_used c.touch-all.new.0) (start e).args.memory events
+  by_ways = text_by (start e).args.form (is_used c.touch_all.new.ways) (start e).args.memory events
 
   by_ways_is : by_ways ≡ text (start e)
   by_ways_is =
       let a = (start e).args in
       ap (λ (has : ℕ → Bool). text_by a.form has a.memory events)
-      (ap is_used c.touch-all.ensures ∙ used_by events (fit_inside a.form 256 events refl (fit e).events))
-      ∙ ap (λ (k : ℕ). trace_text a.form a.memory (onward a.room.now 0 k)) e.count_of.ensures
+      (ap is_used c.touch_all.ensures ∙ used_by events (fit_inside a.form 256 events refl (fit e).events))
+      ∙ ap (λ (k : ℕ). trace_text a.form a.memory (onward a.room.now 0 k)) e.count_of-n.ensures
 
   -- the text is a small one
   below : Small 0 by_ways
   below =
       let a = (start e).args in
-      small_text a.form by_ways (text_length a.form (is_used c.touch-all.new.0) a.memory events (fit e))
+      small_text a.form by_ways (text_length a.form (is_used c.touch_all.new.ways) a.memory events (fit e))
 
-abbrev touched-all : tie.After-size-of → tie.After-touch-all
+abbrev touched-all : tie.After-size_of-size → tie.After-touch_all
 touched-all c = c.before.before
 
-size_is : (c : tie.After-size-of) → c.type_size.result ≡ length (text (start (e (touched-all c))))
-size_is c = c.type_size.ensures ∙ ap length (by_ways_is (touched-all c))
+size_is : (c : tie.After-size_of-size) → c.size_of-size.result ≡ length (text (start (e (touched-all c))))
+size_is c = c.size_of-size.ensures ∙ ap length (by_ways_is (touched-all c))
 
-returns : tie.Need-returns
+returns : tie.Need-returns-then-fault-ne0
 unfolding write_in out_after_in
 returns c =
     let f = c.before.before in
     let s = f.before.before.before in
-    refused (fault s) (text s) (out s) f.write-fault.ensures c.if1.true
+    refused (fault s) (text s) (out s) f.write_fault-fault.ensures c.if-fault-ne0.true
 
-returns-2 : tie.Need-returns-2
+returns-2 : tie.Need-returns-then-out-size
 unfolding write_in out_after_in
 returns-2 c =
     let z = c.before.before in
     let s = start (e (touched-all z)) in
-    short (fault s) (text s) (out s) (none (e (touched-all z)).before) (size_is z) c.before.if2.true c.new.ensures
+    short (fault s) (text s) (out s) (none (e (touched-all z)).before) (size_is z) c.if-out-size.true c.new.ensures
 
-returns-3 : tie.Need-returns-3
+returns-3 : tie.Need-returns
 unfolding write_in out_after_in
 returns-3 c =
     let p = c.before.before.before in
     let z = p.before.before.before.before in
     let s = start (e (touched-all z)) in
-    written (fault s) (text s) (out s) (none (e (touched-all z)).before) (size_is z) {next = p.put-text.result} p.before.before.before.if2.false c.new2.ensures
-    (rw (← by_ways_is (touched-all z)) p.put-text.ensures)
+    written (fault s) (text s) (out s) (none (e (touched-all z)).before) (size_is z) {next = p.put_text.result} p.if-out-size.false c.new-2.ensures
+    (rw (← by_ways_is (touched-all z)) p.put_text.ensures)
 
-pub write-in-spec : {M : Type 1} → statement M
-write-in-spec =
+pub write_in_spec : {M : Type 1} → statement M
+write_in_spec =
     tie.close
     (tie.spec
     (λ c κs. tt)
@@ -120,5 +120,5 @@ write-in-spec =
     returns-2
     (λ c κs. below (touched-all c.before.before.before))
     (λ c κs. tt)
-    (λ c. put_length c.before.before.before.put-text.ensures)
+    (λ c. put_length c.put_text.ensures)
     returns-3)

@@ -37,78 +37,77 @@ module _ (s : tie.Start) where
   out = s.args.out.now
 
 -- the survey refuses
-refusal_is : (c : tie.Then1) → let s = c.before.before.before in
-    s.survey-to.result.answer ≡ move_fault_in (regs s.before.before.before) (to s.before.before.before) (text s.before.before.before)
+refusal_is : (c : tie.Then-fault-ne0) → let s = c.before.before.before in
+    s.survey_to-surveyed.result.answer ≡ move_fault_in (regs s.before.before.before) (to s.before.before.before) (text s.before.before.before)
 refusal_is c =
-    let s = c.before.before.before in
-    let a = ap (λ (r : TraceRead). r.answer) s.survey-to.ensures in
-    a ∙ found_fault _ _ _ (λ z. c.if1.true (ap (λ (x : Answer). x.number) a ∙ z))
+    let a = ap (λ (r : TraceRead). r.answer) c.survey_to-surveyed.ensures in
+    a ∙ found_fault _ _ _ (λ z. c.if-fault-ne0.true (ap (λ (x : Answer). x.number) a ∙ z))
 
 -- it does not: the memory is the text's
-module _ (c : tie.Else1) where
-  abbrev v : tie.After-survey-to
+module _ (c : tie.Else-fault-ne0) where
+  abbrev v : tie.After-survey_to-surveyed
   v = c.before.before.before
 
   abbrev start : tie.Start
   start = v.before.before.before
 
-  found : ((move_fault_in (regs start) (to start) (text start)).number ≡ 0) × (v.survey-to.result.memory ≡ start_of (text start))
+  found : ((move_fault_in (regs start) (to start) (text start)).number ≡ 0) × (v.survey_to-surveyed.result.memory ≡ start_of (text start))
   found =
-      let f = found_none (regs start) (to start) (text start) (ap (λ (r : TraceRead). r.answer.number) (sym v.survey-to.ensures) ∙ c.if1.false) in
-      (f.0, ap (λ (r : TraceRead). r.memory) v.survey-to.ensures ∙ f.1)
+      let f = found_none (regs start) (to start) (text start) (ap (λ (r : TraceRead). r.answer.number) (sym v.survey_to-surveyed.ensures) ∙ c.if-fault-ne0.false) in
+      (f.0, ap (λ (r : TraceRead). r.memory) v.survey_to-surveyed.ensures ∙ f.1)
 
 -- by the ways in which its events use the locations
-module _ (c : tie.After-touch-lines) where
-  abbrev e : tie.Else1
+module _ (c : tie.After-touch_lines) where
+  abbrev e : tie.Else-fault-ne0
   e = c.before.before.before
 
   abbrev begin : tie.Start
   begin = start e
 
   abbrev by_ways : List ℕ
-  by_ways = text_by (to begin) (is_used c.touch-lines.new.0) (v e).survey-to.result.memory (events_of (text begin))
+  by_ways = text_by (to begin) (is_used c.touch_lines.new.ways) (v e).survey_to-surveyed.result.memory (events_of (text begin))
 
   moved_is : by_ways ≡ moved_text (to begin) (text begin)
   unfolding moved_text
   moved_is =
       let fits = moved_fits (regs begin) (to begin) (text begin) (found e).0 in
-      ap (λ (has : ℕ → Bool). text_by (to begin) has (v e).survey-to.result.memory (events_of (text begin)))
-      (ap is_used c.touch-lines.ensures ∙ used_by (events_of (text begin)) (fit_inside (to begin) 256 (events_of (text begin)) refl fits.events))
+      ap (λ (has : ℕ → Bool). text_by (to begin) has (v e).survey_to-surveyed.result.memory (events_of (text begin)))
+      (ap is_used c.touch_lines.ensures ∙ used_by (events_of (text begin)) (fit_inside (to begin) 256 (events_of (text begin)) refl fits.events))
       ∙ ap (λ (m : Memory). trace_text (to begin) m (events_of (text begin))) (found e).1
 
   small : Small 0 by_ways
   small = rw moved_is (small_text (to begin) (moved_text (to begin) (text begin)) (moved_length (regs begin) (to begin) (text begin) (found e).0))
 
-abbrev touched-all : tie.After-moved-size → tie.After-touch-lines
+abbrev touched-all : tie.After-moved_size-size → tie.After-touch_lines
 touched-all c = c.before.before
 
-size_is : (c : tie.After-moved-size) → let s = begin (touched-all c) in c.moved-size.result ≡ length (moved_text (to s) (text s))
-size_is c = c.moved-size.ensures ∙ ap length (moved_is (touched-all c))
+size_is : (c : tie.After-moved_size-size) → let s = begin (touched-all c) in c.moved_size-size.result ≡ length (moved_text (to s) (text s))
+size_is c = c.moved_size-size.ensures ∙ ap length (moved_is (touched-all c))
 
-returns : tie.Need-returns
+returns : tie.Need-returns-then-fault-ne0
 unfolding move_in moved_out_in
 returns c =
     let s = c.before.before.before.before.before.before in
-    refused (move_fault_in (regs s) (to s) (text s)) (moved_text (to s) (text s)) (out s) (refusal_is c) c.if1.true
+    refused (move_fault_in (regs s) (to s) (text s)) (moved_text (to s) (text s)) (out s) (refusal_is c) c.if-fault-ne0.true
 
-returns-2 : tie.Need-returns-2
+returns-2 : tie.Need-returns-then-out-size
 unfolding move_in moved_out_in
 returns-2 c =
     let z = c.before.before in
     let s = begin (touched-all z) in
-    short (move_fault_in (regs s) (to s) (text s)) (moved_text (to s) (text s)) (out s) (found (e (touched-all z))).0 (size_is z) c.before.if2.true c.new.ensures
+    short (move_fault_in (regs s) (to s) (text s)) (moved_text (to s) (text s)) (out s) (found (e (touched-all z))).0 (size_is z) c.if-out-size.true c.new.ensures
 
-returns-3 : tie.Need-returns-3
+returns-3 : tie.Need-returns
 unfolding move_in moved_out_in
 returns-3 c =
     let p = c.before.before.before in
     let z = p.before.before.before.before in
     let s = begin (touched-all z) in
-    written (move_fault_in (regs s) (to s) (text s)) (moved_text (to s) (text s)) (out s) (found (e (touched-all z))).0 (size_is z) {next = p.put-moved.result}
-    p.before.before.before.if2.false c.new2.ensures (rw (← moved_is (touched-all z)) p.put-moved.ensures)
+    written (move_fault_in (regs s) (to s) (text s)) (moved_text (to s) (text s)) (out s) (found (e (touched-all z))).0 (size_is z) {next = p.put_moved.result}
+    p.if-out-size.false c.new-2.ensures (rw (← moved_is (touched-all z)) p.put_moved.ensures)
 
-pub move-in-spec : {M : Type 1} → statement M
-move-in-spec =
+pub move_in_spec : {M : Type 1} → statement M
+move_in_spec =
     tie.close
     (tie.spec
     (search rules)
@@ -119,5 +118,5 @@ move-in-spec =
     returns-2
     (λ c κs. small (touched-all c.before.before.before))
     (search rules)
-    (λ c. put_length c.before.before.before.put-moved.ensures)
+    (λ c. put_length c.put_moved.ensures)
     returns-3)

@@ -6,19 +6,15 @@ use Rattle.trace.specs.Listed.{move_listed, moved_listed}
 use Rattle.writer.proofs.moving.move_listed.Statement.{statement}
 use Rattle.writer.proofs.moving.move_listed.Tie as tie
 
-returns : tie.Need-returns
+returns : tie.Need-returns-then-found-ne0
 unfolding move_listed moved_listed
 returns c =
-    let v = c.before.before.before in
-    rw (← v.read.ensures, ne_eqb _ _ c.if1.true) (refl, refl)
+    rw (← c.read-read.ensures, ne_eqb _ _ c.if-found-ne0.true) (refl, refl)
 
-returns-2 : tie.Need-returns-2
+returns-2 : tie.Need-returns
 unfolding move_listed moved_listed
 returns-2 c =
-    let i = c.before.before in
-    let e = i.before.before.before.before in
-    let v = e.before.before.before in
-    rw (← v.read.ensures, eq-eqb _ _ e.if1.false) i.Move-in.ensures
+    rw (← c.read-read.ensures, eq-eqb _ _ c.if-found-ne0.false) c.move_in.ensures
 
-pub move-listed-spec : {M : Type 1} → statement M
-move-listed-spec = tie.close (tie.spec (search rules) returns (search rules) (search rules) returns-2)
+pub move_listed_spec : {M : Type 1} → statement M
+move_listed_spec = tie.close (tie.spec (search rules) returns (search rules) (search rules) returns-2)

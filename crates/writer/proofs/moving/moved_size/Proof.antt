@@ -5,7 +5,7 @@ use Rattle.writer.proofs.moving.moved_size.Statement.{statement}
 use Rattle.writer.proofs.moving.moved_size.Tie as tie
 
 returns : tie.Need-returns
-returns c = omega (arith, c.before.put-moved.ensures.counted)
+returns c = omega (arith, c.put_moved.ensures.counted)
 
-pub moved-size-spec : {M : Type 1} → statement M
-moved-size-spec = tie.close (tie.spec (λ c. refl) (λ c κs. c.before.before.requires) returns)
+pub moved_size_spec : {M : Type 1} → statement M
+moved_size_spec = tie.close (tie.spec (λ c. refl) (λ c κs. c.requires) returns)

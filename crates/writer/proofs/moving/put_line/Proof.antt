@@ -5,35 +5,33 @@ use Rattle.writer.proofs.Puts.{put_none, put_length}
 use Rattle.writer.proofs.moving.put_line.Statement.{statement}
 use Rattle.writer.proofs.moving.put_line.Tie as tie
 
-put-event-requires : tie.Need-put-event-requires
+put-event-requires : tie.Need-put_event-requires
 unfolding text_of
 put-event-requires c κs =
-    let l = c.before.before in
-    rw l.line.given.1 at l.before.before.before.requires
+    rw c.in-AnEvent.is at c.requires
 
-returns : tie.Need-returns
+returns : tie.Need-returns-in-AnEvent
 unfolding text_of
 returns c =
-    let p = c.before.before in
-    rw p.before.before.before.line.given.1 p.put-event.ensures
+    rw c.in-AnEvent.is c.put_event.ensures
 
-returns-2 : tie.Need-returns-2
+returns-2 : tie.Need-returns-in-Init
 unfolding text_of
-returns-2 c = rw c.enum_told.given.1 (put_none _ _)
+returns-2 c = rw c.in-Init.is (put_none _ _)
 
-returns-3 : tie.Need-returns-3
+returns-3 : tie.Need-returns-in-Refused
 unfolding text_of
-returns-3 c = rw c.enum-told2.given.1 (put_none _ _)
+returns-3 c = rw c.in-Refused.is (put_none _ _)
 
-pub put-line-spec : {M : Type 1} → statement M
-put-line-spec =
+pub put_line_spec : {M : Type 1} → statement M
+put_line_spec =
     tie.close
     (tie.spec
     (search rules)
     put-event-requires
     (search rules)
     (search rules)
-    (λ c. put_length c.before.before.put-event.ensures)
+    (λ c. put_length c.put_event.ensures)
     returns
     returns-2
     returns-3)

@@ -31,70 +31,68 @@ onward to text from = lines to (events_from text from)
 lines_append : (to : Form) (xs ys : List Event) → lines to (xs ++ ys) ≡ lines to xs ++ lines to ys
 lines_append to xs ys = rw (map-append (event_line to) xs ys) (text_append (map (event_line to) xs) (map (event_line to) ys))
 
-abbrev invariant-loop : tie.invariant-loop
+abbrev invariant-loop : tie.invariant-loop-end
 invariant-loop to out₀ at text form next₀ from₀ out next from =
     Going (lines to (events_of text)) (onward to text) (length text + 1) out₀ at out next from
 
-abbrev decreases-loop : tie.decreases-loop
+abbrev decreases-loop : tie.decreases-loop-end
 decreases-loop to out₀ at text form next₀ from₀ out next from = length text - from
 
 -- a turn's line
-module _ (c : tie.After-end invariant-loop decreases-loop) where
-  abbrev l : tie.At-loop invariant-loop decreases-loop
-  l = c.before.before.before
+module _ (c : tie.In-Line invariant-loop decreases-loop) where
+  abbrev l : tie.At-loop-end invariant-loop decreases-loop
+  l = c.before.before
 
   abbrev text : List ℕ
-  text = l.before.before.before.before.before.args.text.now
+  text = l.args.text.now
 
   abbrev end : ℕ
-  end = c.end.given.0.0
+  end = c.in-Line.end
 
-  here : line_at text l.loop.from ≡ Line end
-  here = sym c.before.before.next-line.ensures ∙ c.end.given.1
+  here : line_at text l.loop-end.from ≡ Line end
+  here = sym c.next_line.ensures ∙ c.in-Line.is
 
-  line : Next text l.loop.from end
+  line : Next text l.loop-end.from end
   line = next _ _ _ here
 
 -- what it says, and the others
-module _ (c : tie.After-record-of invariant-loop decreases-loop) where
-  abbrev e : tie.After-end invariant-loop decreases-loop
-  e = c.before.before.before.before
+module _ (c : tie.After-record_of invariant-loop decreases-loop) where
+  abbrev e : tie.In-Line invariant-loop decreases-loop
+  e = c.before.before.before
 
   abbrev to : Form
-  to = (l e).before.before.before.before.before.args.to
+  to = (l e).args.to
 
-  parted : onward to (text e) (l e).loop.from ≡ lines to (events_on c.record_of.result) ++ onward to (text e) (end e + 1)
+  parted : onward to (text e) (l e).loop-end.from ≡ lines to (events_on c.record_of.result) ++ onward to (text e) (end e + 1)
   parted =
-      ap (lines to) (events_line (text e) (l e).loop.from (here e) {r = c.record_of.result}
-      (rw (← (l e).before.before.form_of_lem.ensures) c.record_of.ensures))
+      ap (lines to) (events_line (text e) (l e).loop-end.from (here e) {r = c.record_of.result}
+      (rw (← (l e).form_of-form.ensures) c.record_of.ensures))
       ∙ lines_append to (events_on c.record_of.result) (events_from (text e) (end e + 1))
 
-loop-holds : tie.Need-loop-init invariant-loop decreases-loop
+loop-holds : tie.Need-loop-end-init invariant-loop decreases-loop
 loop-holds c =
-    let s = c.before.before.before.before in
-    let t = s.args.text.now in
-    going _ _ _ _ (omega (arith, c.line-two.ensures, until_le 10 t)) s.requires (rw c.line-two.ensures (ap (lines s.args.to) (events_start t)))
+    let t = c.args.text.now in
+    going _ _ _ _ (omega (arith, c.line_two-from.ensures, until_le 10 t)) c.requires (rw c.line_two-from.ensures (ap (lines c.args.to) (events_start t)))
 
-put-line-requires : tie.Need-put-line-requires invariant-loop decreases-loop
+put-line-requires : tie.Need-put_line-next-requires invariant-loop decreases-loop
 put-line-requires c κs =
-    left_small {v = lines (to c) (events_on c.record_of.result)} (going_next (l (e c)).loop.inv {j = end (e c) + 1} (parted c))
+    left_small {v = lines (to c) (events_on c.record_of.result)} (going_next (l (e c)).loop-end.invariant {j = end (e c) + 1} (parted c))
 
-loop-again : tie.Need-loop-preserved invariant-loop decreases-loop
+loop-again : tie.Need-loop-end-preserved invariant-loop decreases-loop
 loop-again c =
     let p = c.before.before in
     let r = p.before in
-    going_on (l (e r)).loop.inv (omega (arith, line (e r))) (parted r) p.put-line.ensures
+    going_on (l (e r)).loop-end.invariant (omega (arith, line (e r))) (parted r) p.put_line-next.ensures
 
-all_put : (c : tie.After-enum-told invariant-loop decreases-loop) → let l = c.before.before.before in let s = l.before.before.before.before.before in
-    Put s.args.out.now s.args.at (lines s.args.to (events_of s.args.text.now)) l.loop.out l.loop.next
+all_put : (c : tie.In_default invariant-loop decreases-loop) →
+    Put c.args.out.now c.args.at (lines c.args.to (events_of c.args.text.now)) c.loop-end.out c.loop-end.next
 unfolding text_of
 all_put c =
-    let o = c.before.before in
-    let t = o.before.before.before.before.before.before.args.text.now in
-    going_end o.before.loop.invariant (ap (lines _) (events_none t o.before.loop.from (sym o.next-line.ensures ∙ c.enum_told.given.1)))
+    let t = c.args.text.now in
+    going_end c.loop-end.invariant (ap (lines _) (events_none t c.loop-end.from (sym c.next_line.ensures ∙ c.in_default.is)))
 
-pub put-lines-spec : {M : Type 1} → statement M
-put-lines-spec =
+pub put_lines_spec : {M : Type 1} → statement M
+put_lines_spec =
     tie.close
     (tie.spec
     invariant-loop
@@ -107,9 +105,9 @@ put-lines-spec =
     (search rules)
     (λ c. put_length (all_put c))
     all_put
-    (λ c. omega (arith, line c.before.before))
-    (λ c. omega (arith, line c.before.before))
-    (λ c. omega (arith, line c.before.before))
+    (λ c. omega (arith, line c.before))
+    (λ c. omega (arith, line c.before))
+    (λ c. omega (arith, line c.before))
     (search rules)
     put-line-requires
     (λ c. omega (arith, line (e c.before.before.before)))

@@ -19,20 +19,19 @@ module _ (s : tie.Start) where
   lines = text_of (map (event_line s.args.to) (events_of s.args.text.now))
 
   small : Small 0 (before ++ lines)
-  small = rw (trace_parts s.args.to (is_used s.args.ways.now) s.args.memory (events_of s.args.text.now)) at s.pre
+  small = rw (trace_parts s.args.to (is_used s.args.ways.now) s.args.memory (events_of s.args.text.now)) at s.requires
 
-text_put : (c : tie.After-put-lines) → let s = c.before.before.before.before.before.before.before.before in
-    Put s.args.out.now 0 (text_by s.args.to (is_used s.args.ways.now) s.args.memory (events_of s.args.text.now)) c.put-lines.new.1.0 c.put-lines.result
+text_put : (c : tie.After-put_lines) →
+    Put c.args.out.now 0 (text_by c.args.to (is_used c.args.ways.now) c.args.memory (events_of c.args.text.now)) c.put_lines.new.out c.put_lines.result
 text_put c =
-    let p = c.before.before.before.before in
-    rw (trace_parts _ _ _ _) (then p.put-start.ensures c.put-lines.ensures)
+    rw (trace_parts _ _ _ _) (then c.put_start-after_start.ensures c.put_lines.ensures)
 
-pub put-moved-spec : {M : Type 1} → statement M
-put-moved-spec =
+pub put_moved_spec : {M : Type 1} → statement M
+put_moved_spec =
     tie.close
     (tie.spec
     (λ c κs. let s = c.before.before.before in small_first 0 (before s) (lines s) (small s))
     (λ c κs. let p = c.before.before.before in
-    let s = p.before.before.before.before in small_then 0 (before s) (lines s) (small s) p.put-start.ensures)
+    let s = p.before.before.before.before in small_then 0 (before s) (lines s) (small s) p.put_start-after_start.ensures)
     (λ c. put_length (text_put c.before.before))
     (λ c. text_put c.before.before))

@@ -23,51 +23,49 @@ ways_append ways (d ∷ ds) es = ways_append (ways_with ways d) ds es
 ways_then : (ways : List ℕ) (ds es : List Event) {w : List ℕ} → w ≡ ways_of ways ds → ways_of ways (ds ++ es) ≡ ways_of w es
 ways_then ways ds es q = rw q (ways_append ways ds es)
 
-abbrev invariant-loop : tie.invariant-loop
+abbrev invariant-loop : tie.invariant-loop-to
 invariant-loop ways₀ text form at₀ ways at = ways_of ways₀ (events_of text) ≡ ways_of ways (events_from text at)
 
-abbrev decreases-loop : tie.decreases-loop
+abbrev decreases-loop : tie.decreases-loop-to
 decreases-loop ways₀ text form at₀ ways at = length text - at
 
 -- a turn's line
-module _ (c : tie.After-to invariant-loop decreases-loop) where
-  abbrev l : tie.At-loop invariant-loop decreases-loop
-  l = c.before.before.before
+module _ (c : tie.In-Line invariant-loop decreases-loop) where
+  abbrev l : tie.At-loop-to invariant-loop decreases-loop
+  l = c.before.before
 
   abbrev text : List ℕ
-  text = l.before.before.before.before.args.text.now
+  text = l.args.text.now
 
-  here : line_at text l.loop.at ≡ Line c.to.given.0.0
-  here = sym c.before.before.next-line.ensures ∙ c.to.given.1
+  here : line_at text l.loop-to.at ≡ Line c.in-Line.to
+  here = sym c.next_line.ensures ∙ c.in-Line.is
 
-  line : Next text l.loop.at c.to.given.0.0
+  line : Next text l.loop-to.at c.in-Line.to
   line = next _ _ _ here
 
-abbrev its : tie.After-touch-line invariant-loop decreases-loop → tie.After-to invariant-loop decreases-loop
-its c = c.before.before.before.before.before
+abbrev its : tie.After-touch_line invariant-loop decreases-loop → tie.In-Line invariant-loop decreases-loop
+its c = c.before.before.before.before
 
-loop-holds : tie.Need-loop-init invariant-loop decreases-loop
+loop-holds : tie.Need-loop-to-init invariant-loop decreases-loop
 loop-holds c =
-    let s = c.before.before.before in
-    rw c.line-two.ensures (ap (ways_of s.args.ways.now) (events_start s.args.text.now))
+    rw c.line_two-at.ensures (ap (ways_of c.args.ways.now) (events_start c.args.text.now))
 
-loop-again : tie.Need-loop-preserved invariant-loop decreases-loop
+loop-again : tie.Need-loop-to-preserved invariant-loop decreases-loop
 loop-again c =
     let e = its c in
-    let r = c.before.record_of.result in
-    let f = (l e).before.before.form_of_lem.ensures in
-    let parted = events_line (text e) (l e).loop.at (here e) {r = r} (rw (← f) c.before.record_of.ensures) in
-    (l e).loop.inv ∙ rw parted (ways_then _ (events_on r) _ c.touch-line.ensures)
+    let r = c.record_of.result in
+    let f = (l e).form_of-form.ensures in
+    let parted = events_line (text e) (l e).loop-to.at (here e) {r = r} (rw (← f) c.record_of.ensures) in
+    (l e).loop-to.invariant ∙ rw parted (ways_then _ (events_on r) _ c.touch_line.ensures)
 
-returns : tie.Need-returns invariant-loop decreases-loop
+returns : tie.Need-returns-in_default invariant-loop decreases-loop
 unfolding ways_of
 returns c =
-    let o = c.before.before in
-    let t = o.before.before.before.before.before.args.text.now in
-    sym (o.before.loop.invariant ∙ rw (events_none t o.before.loop.at (sym o.next-line.ensures ∙ c.enum_told.given.1)))
+    let t = c.args.text.now in
+    sym (c.loop-to.invariant ∙ rw (events_none t c.loop-to.at (sym c.next_line.ensures ∙ c.in_default.is)))
 
-pub touch-lines-spec : {M : Type 1} → statement M
-touch-lines-spec =
+pub touch_lines_spec : {M : Type 1} → statement M
+touch_lines_spec =
     tie.close
     (tie.spec
     invariant-loop
@@ -79,9 +77,9 @@ touch-lines-spec =
     (search rules)
     (search rules)
     returns
-    (λ c. omega (arith, line c.before.before))
-    (λ c. omega (arith, line c.before.before))
-    (λ c. omega (arith, line c.before.before))
+    (λ c. omega (arith, line c.before))
+    (λ c. omega (arith, line c.before))
+    (λ c. omega (arith, line c.before))
     (search rules)
     (search rules)
     (λ c. omega (arith, line (its c)))

@@ -11,41 +11,37 @@ use Rattle.writer.proofs.Puts.{sets_beyond, Going, going, going_on, going_end, p
 use Rattle.writer.proofs.put.put.Statement.{statement}
 use Rattle.writer.proofs.put.put.Tie as tie
 
-abbrev invariant-loop : tie.invariant-loop
+abbrev invariant-loop : tie.invariant-loop-i
 invariant-loop out₀ at bytes i₀ out i = Going bytes (λ k. drop k bytes) (length bytes) out₀ at out (at + i) i
 
-abbrev decreases-loop : tie.decreases-loop
+abbrev decreases-loop : tie.decreases-loop-i
 decreases-loop out₀ at bytes i₀ out i = length bytes - i
 
 -- all lie beyond the end
-returns : tie.Need-returns invariant-loop decreases-loop
+returns : tie.Need-returns-then-out-at invariant-loop decreases-loop
 returns c =
-    let a = c.before.before.before.args in
-    record { counted = refl; stored = sym (sets_beyond a.out.now a.at a.bytes.now c.if1.true) }
+    let a = c.args in
+    record { counted = refl; stored = sym (sets_beyond a.out.now a.at a.bytes.now c.if-out-at.true) }
 
-loop-holds : tie.Need-loop-init invariant-loop decreases-loop
+loop-holds : tie.Need-loop-i-init invariant-loop decreases-loop
 loop-holds c =
-    let s = c.before.before.before in
-    let z : s.args.at + 0 ≡ s.args.at = omega arith in
-    rw z (going _ _ _ 0 (omega arith) s.requires refl)
+    let z : c.args.at + 0 ≡ c.args.at = omega arith in
+    rw z (going _ _ _ 0 (omega arith) c.requires refl)
 
 -- the byte at hand, and the others
 next : (bytes : List ℕ) (i : ℕ) → i < length bytes → drop i bytes ≡ (get_or bytes i 0 ∷ []) ++ drop (i + 1) bytes
 next bytes i h = rw (add-one i, drop-cons bytes i 0 h)
 
-loop-again : tie.Need-loop-preserved invariant-loop decreases-loop
+loop-again : tie.Need-loop-i-preserved invariant-loop decreases-loop
 loop-again c =
-    let o = c.before.before in
-    let l = o.before.before.before.before in
-    let a = l.before.before.before.before.args in
-    going_on l.loop.invariant {v = get_or a.bytes.now l.loop.i 0 ∷ []} (omega arith) (next a.bytes.now l.loop.i (omega arith))
-    (record { counted = omega arith; stored = o.IsStore-byte.ensures })
+    let a = c.args in
+    going_on c.loop-i.invariant {v = get_or a.bytes.now c.loop-i.i 0 ∷ []} (omega arith) (next a.bytes.now c.loop-i.i (omega arith))
+    (record { counted = omega arith; stored = c.store_byte.ensures })
 
-all_put : (c : tie.After-loop invariant-loop decreases-loop) → let s = c.before.before.before.before.before in
-    Put s.args.out.now s.args.at s.args.bytes.now c.before.loop.out (s.args.at + c.before.loop.i)
+all_put : (c : tie.After-loop-i invariant-loop decreases-loop) →
+    Put c.args.out.now c.args.at c.args.bytes.now c.loop-i.out (c.args.at + c.loop-i.i)
 all_put c =
-    let l = c.before in
-    going_end l.loop.invariant (drop_of_length-le l.before.before.before.before.args.bytes.now {i = l.loop.i} (omega arith))
+    going_end c.loop-i.invariant (drop_of_length-le c.args.bytes.now {i = c.loop-i.i} (omega arith))
 
 pub put_spec : {M : Type 1} → statement M
 put_spec =

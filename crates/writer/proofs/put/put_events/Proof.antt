@@ -16,30 +16,27 @@ use Rattle.writer.proofs.put.put_events.Tie as tie
 abbrev lines : Form → List ℕ → ℕ → ℕ → List ℕ
 lines form room n i = text_of (map (event_line form) (onward room i (n - i)))
 
-abbrev invariant-loop : tie.invariant-loop
+abbrev invariant-loop : tie.invariant-loop-i
 invariant-loop form out₀ at room n next₀ i₀ out next i = Going (text_of (map (event_line form) (onward room 0 n))) (lines form room n) n out₀ at out next i
 
-abbrev decreases-loop : tie.decreases-loop
+abbrev decreases-loop : tie.decreases-loop-i
 decreases-loop form out₀ at room n next₀ i₀ out next i = n - i
 
-loop-holds : tie.Need-loop-init invariant-loop decreases-loop
-loop-holds c = let s = c.before.before in going _ _ _ 0 (omega arith) s.requires (rw (onward_all s.args.room.now s.args.n))
+loop-holds : tie.Need-loop-i-init invariant-loop decreases-loop
+loop-holds c = going _ _ _ 0 (omega arith) c.requires (rw (onward_all c.args.room.now c.args.n))
 
-put-event-requires : tie.Need-put-event-requires invariant-loop decreases-loop
+put-event-requires : tie.Need-put_event-next-requires invariant-loop decreases-loop
 put-event-requires c κs =
-    let l = c.before.before.before in
-    let a = l.before.before.before.args in
-    let e = event_at a.room.now l.loop.i in
-    rw c.get.ensures (left_small {v = event_line a.form e ++ 10 ∷ []} (going_next l.loop.invariant (events_next _ _ _ _ (omega arith))))
+    let a = c.args in
+    let e = event_at a.room.now c.loop-i.i in
+    rw c.get.ensures (left_small {v = event_line a.form e ++ 10 ∷ []} (going_next c.loop-i.invariant (events_next _ _ _ _ (omega arith))))
 
-loop-again : tie.Need-loop-preserved invariant-loop decreases-loop
+loop-again : tie.Need-loop-i-preserved invariant-loop decreases-loop
 loop-again c =
-    let p = c.before.before in
-    let l = p.before.before.before.before in
-    going_on l.loop.invariant (omega arith) (events_next _ _ _ _ (omega arith)) (rw p.before.get.ensures at p.put-event.ensures)
+    going_on c.loop-i.invariant (omega arith) (events_next _ _ _ _ (omega arith)) (rw c.get.ensures at c.put_event-next.ensures)
 
-pub put-events-spec : {M : Type 1} → statement M
-put-events-spec =
+pub put_events_spec : {M : Type 1} → statement M
+put_events_spec =
     tie.close
     (tie.spec
     invariant-loop
@@ -50,5 +47,5 @@ put-events-spec =
     (λ c. omega arith)
     (λ c. omega arith)
     loop-again
-    (λ c. put_length (going_end c.before.loop.invariant (events_end _ _ _ _ (omega arith))))
-    (λ c. going_end c.before.loop.invariant (events_end _ _ _ _ (omega arith))))
+    (λ c. put_length (going_end c.loop-i.invariant (events_end _ _ _ _ (omega arith))))
+    (λ c. going_end c.loop-i.invariant (events_end _ _ _ _ (omega arith))))

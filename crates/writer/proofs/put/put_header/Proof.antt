@@ -4,23 +4,21 @@ use borrow.Author.Rules.{rules}
 use Rattle.writer.proofs.put.put_header.Statement.{statement}
 use Rattle.writer.proofs.put.put_header.Tie as tie
 
-returns : tie.Need-returns
-returns c = let p = c.before.before in rw p.before.before.before.enum_told.given.1 p.put.ensures
+returns : tie.Need-returns-in-One
+returns c = rw c.in-One.is c.put.ensures
 
-returns-2 : tie.Need-returns-2
-returns-2 c = let p = c.before.before in rw p.before.before.before.enum-told2.given.1 p.put2.ensures
+returns-2 : tie.Need-returns-in-Two
+returns-2 c = rw c.in-Two.is c.put-in-Two.ensures
 
-pub put-header-spec : {M : Type 1} → statement M
-put-header-spec =
+pub put_header_spec : {M : Type 1} → statement M
+put_header_spec =
     tie.close
     (tie.spec
     (search rules)
     (search rules)
     (search rules)
     (search rules)
-    (search rules)
-    (search rules)
-    (λ c. put_length c.before.before.put.ensures)
+    (λ c. put_length c.put.ensures)
     returns
-    (λ c. put_length c.before.before.put2.ensures)
+    (λ c. put_length c.put-in-Two.ensures)
     returns-2)

@@ -1,7 +1,7 @@
 -- Nothing, or a TAB and the digits after it, which were put at the front of an array first. Assumes nothing.
 use Prim.Native.Nat.{◌≤◌}
 use mathlib.Core.Bool.{true}
-use mathlib.Core.Path.{◌≡◌, refl, sym, ◌∙◌}
+use mathlib.Core.Path.{◌≡◌, sym, ◌∙◌}
 use native.Mathlib.Omega.{arith}
 use borrow.Author.Tests.{not-true, not-false}
 use lib.ListN.{length, take, replicate}
@@ -14,49 +14,48 @@ use Rattle.writer.proofs.put.put_number_if.Statement.{statement}
 use Rattle.writer.proofs.put.put_number_if.Tie as tie
 
 -- where the line is to have the number
-wanted : (c : tie.Else1) → c.before.before.args.wanted ≡ true
-wanted c = not-false _ c.if1.false
+wanted : (c : tie.Else-not-wanted) → c.args.wanted ≡ true
+wanted c = not-false _ c.if-not-wanted.false-raw
 
-small : (c : tie.Else1) → Small c.before.before.args.at (tab_if true (decimal c.before.before.args.n))
-small c = rw (wanted c) at c.before.before.requires
+small : (c : tie.Else-not-wanted) → Small c.args.at (tab_if true (decimal c.args.n))
+small c = rw (wanted c) at c.requires
 
 -- it has no more digits than the array
-digits_fit : (c : tie.After-put-number) → length (decimal c.before.before.before.before.args.n) ≤ 20
-digits_fit c = length_wide _ (omega (arith, c.before.before.before.before.ranges.n))
+digits_fit : (c : tie.After-put_number-size) → length (decimal c.args.n) ≤ 20
+digits_fit c = length_wide _ (omega (arith, c.ranges.n))
 
-digits_are : (c : tie.After-put-number)
-    → (c.put-number.result ≤ length c.put-number.new.0)
-    × (take c.put-number.result c.put-number.new.0 ≡ decimal c.before.before.before.before.args.n)
-digits_are c = front_put (replicate 20 0) _ (digits_fit c) c.put-number.ensures
+digits_are : (c : tie.After-put_number-size)
+    → (c.put_number-size.result ≤ length c.put_number-size.new.out)
+    × (take c.put_number-size.result c.put_number-size.new.out ≡ decimal c.args.n)
+digits_are c = front_put (replicate 20 0) _ (digits_fit c) c.put_number-size.ensures
 
-slice-aggregate-put-2 : tie.Need-slice-aggregate-put-2
+slice-aggregate-put-2 : tie.Need-slice_bounds-put-end-2
 slice-aggregate-put-2 c =
-    let p = c.before.before.before.before.before.before.before in
-    sym (length-take-le p.put-number.result p.put-number.new.0 (digits_are p).0)
+    let p = c.before.before.before.before.before.before.before.before in
+    sym (length-take-le p.put_number-size.result p.put_number-size.new.out (digits_are p).0)
 
-put-requires-2 : tie.Need-put-requires-2
+put-requires-2 : tie.Need-put-requires
 put-requires-2 c κs =
     let p = c.before.before.before.before in
-    let d = p.before.before.before in
-    rw (digits_are d).1 (omega (arith, p.put.ensures.counted, small d.before.before))
+    let d = p.before.before.before.before in
+    rw (digits_are d).1 (omega (arith, p.put-next.ensures.counted, small d.before.before))
 
-returns-2 : tie.Need-returns-2
+returns-2 : tie.Need-returns
 returns-2 c =
     let p = c.before.before in
     let q = p.before.before.before.before.before in
-    let d = q.before.before.before in
-    rw (wanted d.before.before) (then q.put.ensures (rw (digits_are d).1 at p.put2.ensures))
+    let d = q.before.before.before.before in
+    rw (wanted d.before.before) (then q.put-next.ensures (rw (digits_are d).1 at p.put.ensures))
 
-pub put-number-if-spec : {M : Type 1} → statement M
-put-number-if-spec =
+pub put_number_if_spec : {M : Type 1} → statement M
+put_number_if_spec =
     tie.close
     (tie.spec
-    (λ c. rw (not-true c.before.before.args.wanted c.if1.true) (put_none _ _))
+    (λ c. rw (not-true c.args.wanted c.if-not-wanted.true-raw) (put_none _ _))
     (λ c κs. tt)
-    (λ c. refl)
-    (λ c κs. omega (arith, small c.before.before.before.before))
-    (λ c. (digits_are c.before.before.before.before.before.before).0)
+    (λ c κs. omega (arith, small c.before.before.before.before.before))
+    (λ c. (digits_are c.before.before.before.before.before.before.before).0)
     slice-aggregate-put-2
     put-requires-2
-    (λ c. c.before.before.put2.auto.0 ∙ c.before.before.before.before.before.before.before.put.auto.0)
+    (λ c. c.put.auto.out ∙ c.put-next.auto.out)
     returns-2)

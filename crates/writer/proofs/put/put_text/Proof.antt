@@ -19,21 +19,20 @@ module _ (s : tie.Start) where
   lines = text_of (map (event_line s.args.form) (onward s.args.room.now 0 s.args.n))
 
   small : Small 0 (before ++ lines)
-  small = rw (trace_parts s.args.form (is_used s.args.ways.now) s.args.memory (onward s.args.room.now 0 s.args.n)) at s.pre
+  small = rw (trace_parts s.args.form (is_used s.args.ways.now) s.args.memory (onward s.args.room.now 0 s.args.n)) at s.requires
 
-text_put : (c : tie.After-put-events) → let s = c.before.before.before.before.before.before.before.before in
-    Put s.args.out.now 0 (text_by s.args.form (is_used s.args.ways.now) s.args.memory (onward s.args.room.now 0 s.args.n)) c.put-events.new.1.0
-    c.put-events.result
+text_put : (c : tie.After-put_events) →
+    Put c.args.out.now 0 (text_by c.args.form (is_used c.args.ways.now) c.args.memory (onward c.args.room.now 0 c.args.n)) c.put_events.new.out
+    c.put_events.result
 text_put c =
-    let p = c.before.before.before.before in
-    rw (trace_parts _ _ _ _) (then p.put-start.ensures c.put-events.ensures)
+    rw (trace_parts _ _ _ _) (then c.put_start-after_start.ensures c.put_events.ensures)
 
-pub put-text-spec : {M : Type 1} → statement M
-put-text-spec =
+pub put_text_spec : {M : Type 1} → statement M
+put_text_spec =
     tie.close
     (tie.spec
     (λ c κs. let s = c.before.before.before in small_first 0 (before s) (lines s) (small s))
     (λ c κs. let p = c.before.before.before in
-    let s = p.before.before.before.before in small_then 0 (before s) (lines s) (small s) p.put-start.ensures)
+    let s = p.before.before.before.before in small_then 0 (before s) (lines s) (small s) p.put_start-after_start.ensures)
     (λ c. put_length (text_put c.before.before))
     (λ c. text_put c.before.before))

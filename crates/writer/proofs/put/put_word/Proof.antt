@@ -10,23 +10,23 @@ use Rattle.writer.proofs.put.put_word.Statement.{statement}
 use Rattle.writer.proofs.put.put_word.Tie as tie
 
 -- beyond the table's end there is no word
-returns : tie.Need-returns
+returns : tie.Need-returns-then-table-i
 returns c =
-    let a = c.before.before.before.args in
+    let a = c.args in
     rw (get_or-map word_in a.table.now a.n [], get_or-eq_default a.table.now [] {n = a.n} (omega arith)) (put_none _ _)
 
 -- the row's word is the number's
-word_is : (c : tie.After-word-in) → let a = c.before.before.before.before.before.before.args in
+word_is : (c : tie.After-word_in) → let a = c.args in
     c.word_in.result.now ≡ get_or (map word_in a.table.now) a.n []
 word_is c =
-    let a = c.before.before.before.before.before.before.args in
-    c.word_in.ensures ∙ rw (get_or-map word_in a.table.now a.n [], c.before.before.before.before.index_of.ensures)
+    let a = c.args in
+    c.word_in.ensures ∙ rw (get_or-map word_in a.table.now a.n [], c.index_of-i.ensures)
 
 put-requires : tie.Need-put-requires
-put-requires c κs = rw (word_is c) c.before.before.before.before.before.before.requires
+put-requires c κs = rw (word_is c) c.requires
 
-returns-2 : tie.Need-returns-2
-returns-2 c = rw (word_is c.before.before.before) at c.before.before.put.ensures
+returns-2 : tie.Need-returns
+returns-2 c = rw (word_is c.before.before.before) at c.put.ensures
 
-pub put-word-spec : {M : Type 1} → statement M
-put-word-spec = tie.close (tie.spec (λ c κs. tt) returns (search rules) (search rules) (λ c κs. tt) put-requires (search rules) returns-2)
+pub put_word_spec : {M : Type 1} → statement M
+put_word_spec = tie.close (tie.spec (λ c κs. tt) returns (search rules) (search rules) (λ c κs. tt) put-requires (search rules) returns-2)

@@ -5,12 +5,12 @@ use Rattle.writer.proofs.put.size_of.Statement.{statement}
 use Rattle.writer.proofs.put.size_of.Tie as tie
 
 returns : tie.Need-returns
-returns c = omega (arith, c.before.put-text.ensures.counted)
+returns c = omega (arith, c.put_text.ensures.counted)
 
-pub size-of-spec : {M : Type 1} → statement M
-size-of-spec =
+pub size_of_spec : {M : Type 1} → statement M
+size_of_spec =
     tie.close
     (tie.spec
     (λ c. refl)
-    (λ c κs. c.before.before.requires)
+    (λ c κs. c.requires)
     returns)

@@ -5,8 +5,8 @@ use Rattle.writer.proofs.Puts.{set_beyond}
 use Rattle.writer.proofs.put.store_byte.Statement.{statement}
 use Rattle.writer.proofs.put.store_byte.Tie as tie
 
-returns-2 : tie.Need-returns-2
-returns-2 c = sym (set_beyond _ _ _ c.if1.false)
+returns-2 : tie.Need-returns-else-at-out
+returns-2 c = sym (set_beyond _ _ _ c.if-at-out.false)
 
-pub store-byte-spec : {M : Type 1} → statement M
-store-byte-spec = tie.close (tie.spec (search rules) (search rules) (search rules) returns-2)
+pub store_byte_spec : {M : Type 1} → statement M
+store_byte_spec = tie.close (tie.spec (search rules) (search rules) (search rules) returns-2)

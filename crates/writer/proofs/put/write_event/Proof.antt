@@ -23,7 +23,7 @@ short e l =
     omega (arith, h, length-append (event_line One (bare e)) (10 ∷ []))
 
 -- the event
-module _ (c : tie.After-is-lawful) where
+module _ (c : tie.After-is_lawful) where
   abbrev begin : tie.Start
   begin = c.before.before.before.before
 
@@ -31,31 +31,31 @@ module _ (c : tie.After-is-lawful) where
   room = begin.args.room.now
 
   abbrev event : Event
-  event = c.before.get.result
+  event = c.get-e.result
 
   event_is : event ≡ event_at room begin.args.i
-  event_is = c.before.get.ensures
+  event_is = c.get-e.ensures
 
-put-event-requires : tie.Need-put-event-requires
+put-event-requires : tie.Need-put_event-requires
 put-event-requires c κs =
     let d = c.before in
     let a = d.before in
-    short (event a) (sym a.is_lawful.ensures ∙ d.if1.true)
+    short (event a) (sym a.is_lawful.ensures ∙ d.if-is_lawful.true)
 
-returns : tie.Need-returns
+returns : tie.Need-returns-then-is_lawful
 returns c =
     let p = c.before.before in
     let d = p.before.before in
     let a = d.before in
     let e : bare_line (event_at (room a) (begin a).args.i) ≡ event_line One (bare (event a)) ++ 10 ∷ [] =
-    ap bare_line (sym (event_is a)) ∙ rw (sym a.is_lawful.ensures ∙ d.if1.true) in
-    rw e p.put-event.ensures
+    ap bare_line (sym (event_is a)) ∙ rw (sym a.is_lawful.ensures ∙ d.if-is_lawful.true) in
+    rw e p.put_event.ensures
 
-returns-2 : tie.Need-returns-2
+returns-2 : tie.Need-returns
 returns-2 c =
     let a = c.before in
-    let e : bare_line (event_at (room a) (begin a).args.i) ≡ [] = ap bare_line (sym (event_is a)) ∙ rw (sym a.is_lawful.ensures ∙ c.if1.false) in
+    let e : bare_line (event_at (room a) (begin a).args.i) ≡ [] = ap bare_line (sym (event_is a)) ∙ rw (sym a.is_lawful.ensures ∙ c.if-is_lawful.false) in
     rw e (put_none (begin a).args.out.now 0)
 
-pub write-event-spec : {M : Type 1} → statement M
-write-event-spec = tie.close (tie.spec (search rules) (search rules) put-event-requires (search rules) returns returns-2)
+pub write_event_spec : {M : Type 1} → statement M
+write_event_spec = tie.close (tie.spec (search rules) (search rules) put-event-requires (search rules) returns returns-2)

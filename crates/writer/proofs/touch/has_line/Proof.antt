@@ -5,14 +5,14 @@ use borrow.Author.Tests.{ne_eqb}
 use Rattle.writer.proofs.touch.has_line.Statement.{statement}
 use Rattle.writer.proofs.touch.has_line.Tie as tie
 
-returns : tie.Need-returns
-returns c = rw (ne_eqb _ 0 c.if1.true)
+returns : tie.Need-returns-then-value-ne0
+returns c = rw (ne_eqb _ 0 c.if-value-ne0.true)
 
-returns-2 : tie.Need-returns-2
-returns-2 c = rw (c.before.before.if1.false, rw c.before.before.if1.false at (sym c.before.is-silent.ensures ∙ c.if2.true))
+returns-2 : tie.Need-returns-then-is_silent
+returns-2 c = rw (c.if-value-ne0.false, rw c.if-value-ne0.false at (sym c.is_silent.ensures ∙ c.if-is_silent.true))
 
-returns-3 : tie.Need-returns-3
-returns-3 c = rw (c.before.before.if1.false, rw c.before.before.if1.false at (sym c.before.is-silent.ensures ∙ c.if2.false))
+returns-3 : tie.Need-returns
+returns-3 c = rw (c.if-value-ne0.false, rw c.if-value-ne0.false at (sym c.is_silent.ensures ∙ c.if-is_silent.false))
 
-pub has-line-spec : {M : Type 1} → statement M
-has-line-spec = tie.close (tie.spec returns (search rules) returns-2 returns-3)
+pub has_line_spec : {M : Type 1} → statement M
+has_line_spec = tie.close (tie.spec returns (search rules) returns-2 returns-3)

@@ -14,28 +14,26 @@ record Inv (ways₀ : List ℕ) (room : List ℕ) (n : ℕ) (ways : List ℕ) (i
   within : i ≤ n
   same : ways_of ways₀ (onward room 0 n) ≡ ways_of ways (onward room i (n - i))
 
-abbrev invariant-loop : tie.invariant-loop
+abbrev invariant-loop : tie.invariant-loop-i
 invariant-loop ways₀ room n i₀ ways i = Inv ways₀ room n ways i
 
-abbrev decreases-loop : tie.decreases-loop
+abbrev decreases-loop : tie.decreases-loop-i
 decreases-loop ways₀ room n i₀ ways i = n - i
 
-loop-holds : tie.Need-loop-init invariant-loop decreases-loop
+loop-holds : tie.Need-loop-i-init invariant-loop decreases-loop
 loop-holds c = record { within = omega arith; same = rw (onward_all _ _) }
 
-loop-again : tie.Need-loop-preserved invariant-loop decreases-loop
+loop-again : tie.Need-loop-i-preserved invariant-loop decreases-loop
 unfolding ways_of
 loop-again c =
-    let g = c.before in
-    let l = g.before.before.before in
     record {
       within = omega arith;
-      same = l.loop.invariant.same ∙ rw (event_next _ l.loop.i _ g.get.ensures g.before.before.loop-test.true, c.touch.ensures);
+      same = c.loop-i.invariant.same ∙ rw (event_next _ c.loop-i.i _ c.get.ensures c.loop-i-test.true, c.touch.ensures);
     }
 
 returns : tie.Need-returns invariant-loop decreases-loop
 unfolding ways_of
-returns c = sym (c.before.loop.invariant.same ∙ rw (onward_end _ c.before.loop.i _ c.loop-test.false))
+returns c = sym (c.loop-i.invariant.same ∙ rw (onward_end _ c.loop-i.i _ c.loop-i-test.false))
 
-pub touch-all-spec : {M : Type 1} → statement M
-touch-all-spec = tie.close (tie.spec invariant-loop decreases-loop loop-holds (search rules) (search rules) (λ c. omega arith) (λ c. omega arith) loop-again returns)
+pub touch_all_spec : {M : Type 1} → statement M
+touch_all_spec = tie.close (tie.spec invariant-loop decreases-loop loop-holds (search rules) (search rules) (λ c. omega arith) (λ c. omega arith) loop-again returns)
