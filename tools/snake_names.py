@@ -3,7 +3,8 @@
 A word or lemma that a file of specs/ or right in proofs/ defines, and a name given by `as`, loses its capitals and dashes, wherever it stands: in specs/, proofs/, the ghost text of
 src/, must-fail edits and, between backticks, in the pages. Names of types, of src/, of the library and of goals stay. Where two names would fall together,
 or one would be hidden by a parameter or field, the table below says what stands for them; a lemma that would have the name of a word or function gets
-`_lem`. It prints the names that differ by more than that."""
+`_lem`, and so does one that would meet that name of the library in a file, or that has in snake case already the name that a word beside it gets. It prints
+the names that differ by more than that."""
 
 import collections
 import os
@@ -25,7 +26,7 @@ HEADS = {"data", "record", "pub", "mutual", "module", "ruleset", "let", "_", "un
 
 def files(root):
     for folder, dirs, names in os.walk(root):
-        dirs[:] = sorted(d for d in dirs if d not in ("out", ".git", "target"))
+        dirs[:] = sorted(d for d in dirs if d not in ("out", ".git") and (d != "target" or folder != root))
         for name in sorted(names):
             if name.endswith((".antt", ".rt", ".edit", ".md")):
                 yield os.path.relpath(os.path.join(folder, name), root)
@@ -48,10 +49,28 @@ def local_lemmas(text):
     return {m[1] for m in said if not m[2].startswith(("tie.", "goal.", "statement", "Need-")) and not m[1].endswith("-spec") and snake(m[1]) != m[1]}
 
 
+def fallen(texts, met, words, defines):
+    """For each file the lemmas that have already the name that a word gets: where the word stands beside one, in its own file or in one that brings it in."""
+    word = {new: n for n, new in words.items()}
+    said = collections.defaultdict(dict)
+    for f in defines:
+        crate, folder, name = f[:-len(".antt")].split("/")[1:]
+        if folder != "proofs":
+            continue
+        for n in defines[f] & set(word):
+            beside = [f] + [g for g, t in texts.items() if any(
+                path == f"Rattle.{crate}.proofs.{name}" and n in TOKEN.findall(names) for path, names in USE.findall(t))]
+            if any(word[n] in met[g] for g in beside):
+                for g in beside:
+                    said[g][n] = n + "_lem"
+    return said
+
+
 def main(root):
     crates = set(os.listdir(os.path.join(root, "crates")))
     texts = {f: open(os.path.join(root, f), encoding="utf-8").read() for f in files(root)}
-    functions, defined, library = set(), set(), collections.defaultdict(set)
+    met = {f: set(TOKEN.findall(t)) for f, t in texts.items()}
+    functions, defines, library = set(), {}, collections.defaultdict(set)
     for f, t in texts.items():
         if f.endswith(".rt"):
             functions |= set(re.findall(r"\bfn (\w+)", t))
@@ -61,15 +80,17 @@ def main(root):
                     library[f] |= {n.strip().split(" as ")[0] for n in names.split(",")}
         if f.endswith(".antt") and len(f.split("/")) == 4:
             code = re.sub(r"(?m)--.*$", "", t)
-            for m in DEFINED.finditer(code):
-                defined |= set(m[1].split()) - HEADS
+            defines[f] = {n for m in DEFINED.finditer(code) for n in m[1].split()} - HEADS
+    defined = set().union(*defines.values())
     words = {n: SAID.get(n, snake(n)) for n in defined if n in SAID or re.fullmatch(r"[a-z][A-Za-z0-9]*[A-Z][A-Za-z0-9]*", n)}
     taken = set(words.values()) | functions | {n for n in defined if "-" not in n}
     lemmas = {}
     for n in sorted(n for n in defined if "-" in n and n not in SAID):
         s = snake(n)
-        lemmas[n] = s + "_lem" if s in taken else s
+        met_there = any(n in met[f] and s in library[f] for f in texts)
+        lemmas[n] = s + "_lem" if s in taken or met_there else s
     new = {**words, **lemmas}
+    beside = fallen(texts, met, words, defines)
     for s, c in collections.Counter(new.values()).items():
         if c > 1:
             sys.exit(f"names fall together: {s}: {[n for n in new if new[n] == s]}")
@@ -77,6 +98,7 @@ def main(root):
         here = dict(new)
         for n in library[f]:
             here.pop(n, None)
+        here.update(beside[f])
         there = set(TOKEN.findall(re.sub(r"(?m)^use \S+ as|^.*\bfn .*$", "", t)))
         for alias in ALIAS.findall(t):
             if alias[0].islower() and snake(alias) != alias:
@@ -96,6 +118,8 @@ def main(root):
     for n in sorted(new):
         if new[n] != snake(n):
             print(f"{n} -> {new[n]}")
+    for n, s in sorted({k for names in beside.values() for k in names.items()}):
+        print(f"{n} -> {s}")
     print(f"{len(words)} words, {len(lemmas)} lemmas")
 
 

@@ -4,7 +4,7 @@ use Rattle.numbers.proofs.run_numbers.Statement.{statement}
 use Rattle.numbers.proofs.run_numbers.Tie as tie
 
 returns : tie.Need-returns
-returns c = rw c.flag-of.ensures
+returns c = rw c.flag_of.ensures
 
-pub run-numbers-spec : {M : Type 1} → statement M
-run-numbers-spec = tie.close (tie.spec (search rules) returns)
+pub run_numbers_spec : {M : Type 1} → statement M
+run_numbers_spec = tie.close (tie.spec (search rules) returns)

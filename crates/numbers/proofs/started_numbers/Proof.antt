@@ -4,7 +4,7 @@ use Rattle.numbers.proofs.started_numbers.Statement.{statement}
 use Rattle.numbers.proofs.started_numbers.Tie as tie
 
 returns : tie.Need-returns
-returns c = rw (c.before.number-index.ensures, c.number-index2.ensures)
+returns c = rw (c.number_index.ensures, c.number_index-2.ensures)
 
-pub started-numbers-spec : {M : Type 1} → statement M
-started-numbers-spec = tie.close (tie.spec (search rules) (search rules) returns)
+pub started_numbers_spec : {M : Type 1} → statement M
+started_numbers_spec = tie.close (tie.spec (search rules) (search rules) returns)
