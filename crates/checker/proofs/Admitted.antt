@@ -12,7 +12,7 @@ use Rattle.laws.proofs.Cases.{cases, either}
 use Rattle.laws.proofs.Lists.{every}
 use Rattle.laws.specs.Has.{has}
 use Rattle.memory.specs.Listed.{none_listed}
-use Rattle.event.specs.Answer.{answer, done, first, InTable}
+use Rattle.event.specs.Answer.{done, first, InTable}
 use Rattle.event.specs.declared.Answer.{Answer}
 use Rattle.event.proofs.Answers.{Among, among_first, among_more, among_done, among_has, among_not, given_among, in_first}
 use Rattle.laws.proofs.Has.{has_every}

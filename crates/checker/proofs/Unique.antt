@@ -53,8 +53,8 @@ offending_span_one κ a x y s t h k = h.1 ∙ sym k.1
 offending_line_bytes : OneOf offending_line.Post (λ κ r s. r.now)
 offending_line_bytes κ a x y s t h k = h.0 ∙ sym k.0
 
-offending_line_block : OneOf offending_line.Post (λ κ r s. r.ptr.0)
+offending_line_block : OneOf offending_line.Post (λ κ r s. r.ref_ptr.0)
 offending_line_block κ a x y s t h k = h.1.0 ∙ sym k.1.0
 
-offending_line_place : OneOf offending_line.Post (λ κ r s. r.ptr.1)
+offending_line_place : OneOf offending_line.Post (λ κ r s. r.ref_ptr.1)
 offending_line_place κ a x y s t h k = h.1.1 ∙ sym k.1.1

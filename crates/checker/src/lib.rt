@@ -16,14 +16,14 @@ use memory::listed::Listed;
 use trace::reading::{TraceRead, store, survey_in};
 
 // What is held of a trace that was read: the events in its room, and its starting memory.
-#[derive(Drop)]
+#[derive(Clone, Copy)]
 pub struct Held {
     pub events: usize,
     pub memory: Memory,
 }
 
 // What a check hands back: its answer, what is held of both traces, and how many entries; all 0 where a reading refuses.
-#[derive(Drop)]
+#[derive(Clone, Copy)]
 pub struct Checked {
     pub answer: Answer,
     pub source: Held,

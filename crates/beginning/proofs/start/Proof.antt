@@ -4,7 +4,7 @@ use Rattle.beginning.proofs.start.Statement.{statement}
 use Rattle.beginning.proofs.start.Tie as tie
 
 returns : tie.Need-returns
-returns c = c.before.before.before.before.before.before.start_in_lem.ensures
+returns c = c.start_in.ensures
 
 pub start_spec : {M : Type 1} → statement M
 start_spec = tie.close (tie.spec (search rules) (search rules) (search rules) (search rules) returns)

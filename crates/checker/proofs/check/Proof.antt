@@ -4,7 +4,7 @@ use Rattle.checker.proofs.check.Statement.{statement}
 use Rattle.checker.proofs.check.Tie as tie
 
 returns : tie.Need-returns
-returns c = c.before.before.before.before.before.before.check_in_lem.ensures
+returns c = c.check_in.ensures
 
-pub check-spec : {M : Type 1} → statement M
-check-spec = tie.close (tie.spec (search rules) (search rules) (search rules) (search rules) returns)
+pub check_spec : {M : Type 1} → statement M
+check_spec = tie.close (tie.spec (search rules) (search rules) (search rules) (search rules) returns)

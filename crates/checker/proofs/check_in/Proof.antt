@@ -17,122 +17,122 @@ use Rattle.checker.proofs.check_in.Statement.{statement}
 use Rattle.checker.proofs.check_in.Tie as tie
 
 -- what is lent, what is listed, and the three readings
-abbrev given : tie.After-survey-in → Lent
+abbrev given : tie.After-survey_in-s → Lent
 given c =
-    let a = c.before.before.before.before.before.before.before.args in
+    let a = c.args in
     lent a.source.now a.target.now a.matching.now a.source_room.now a.target_room.now a.entry_room.now
 
-abbrev marks : tie.After-survey-in → List Bool
-marks c = c.before.before.before.before.before.before.before.args.listed.now
+abbrev marks : tie.After-survey_in-s → List Bool
+marks c = c.args.listed.now
 
-source_is : (c : tie.After-survey-in) → source_read_in (marks c) (given c) ≡ c.survey-in.result
+source_is : (c : tie.After-survey_in-s) → source_read_in (marks c) (given c) ≡ c.survey_in-s.result
 unfolding read_in
-source_is c = sym c.survey-in.ensures
+source_is c = sym c.survey_in-s.ensures
 
-abbrev first_of : tie.Else1 → tie.After-survey-in
+abbrev first_of : tie.Else-source_answer-ne0 → tie.After-survey_in-s
 first_of c = c.before.before.before
 
-source_passes : (c : tie.Else1) → (source_read_in (marks (first_of c)) (given (first_of c))).answer.number ≡ 0
-source_passes c = ap (λ (r : TraceRead). r.answer.number) (source_is (first_of c)) ∙ c.if1.false
+source_passes : (c : tie.Else-source_answer-ne0) → (source_read_in (marks (first_of c)) (given (first_of c))).answer.number ≡ 0
+source_passes c = ap (λ (r : TraceRead). r.answer.number) (source_is (first_of c)) ∙ c.if-source_answer-ne0.false
 
-target_is : (c : tie.After-survey-in2) → target_read_in (marks (first_of c.before)) (given (first_of c.before)) ≡ c.survey-in2.result
+target_is : (c : tie.After-survey_in-t) → target_read_in (marks (first_of c.before)) (given (first_of c.before)) ≡ c.survey_in-t.result
 unfolding read_in
-target_is c = sym c.survey-in2.ensures
+target_is c = sym c.survey_in-t.ensures
 
-abbrev second_of : tie.Else2 → tie.After-survey-in2
+abbrev second_of : tie.Else-target_answer-ne0 → tie.After-survey_in-t
 second_of c = c.before.before.before
 
-target_passes : (c : tie.Else2) → (target_read_in (marks (first_of (second_of c).before)) (given (first_of (second_of c).before))).answer.number ≡ 0
-target_passes c = ap (λ (r : TraceRead). r.answer.number) (target_is (second_of c)) ∙ c.if2.false
+target_passes : (c : tie.Else-target_answer-ne0) → (target_read_in (marks (first_of (second_of c).before)) (given (first_of (second_of c).before))).answer.number ≡ 0
+target_passes c = ap (λ (r : TraceRead). r.answer.number) (target_is (second_of c)) ∙ c.if-target_answer-ne0.false
 
-abbrev of-entries : tie.After-survey-in3 → tie.After-survey-in
+abbrev of-entries : tie.After-survey_in-m → tie.After-survey_in-s
 of-entries c = first_of (second_of c.before).before
 
-entries_are : (c : tie.After-survey-in3) → entries_read (given (of-entries c)) ≡ c.survey-in3.result
+entries_are : (c : tie.After-survey_in-m) → entries_read (given (of-entries c)) ≡ c.survey_in-m.result
 unfolding matching_read
-entries_are c = sym c.survey-in3.ensures
+entries_are c = sym c.survey_in-m.ensures
 
-abbrev third_of : tie.Else3 → tie.After-survey-in3
+abbrev third_of : tie.Else-matching_answer-ne0 → tie.After-survey_in-m
 third_of c = c.before.before.before
 
-abbrev all-given : tie.Else3 → Lent
+abbrev all-given : tie.Else-matching_answer-ne0 → Lent
 all-given c = given (of-entries (third_of c))
 
-abbrev all-marks : tie.Else3 → List Bool
+abbrev all-marks : tie.Else-matching_answer-ne0 → List Bool
 all-marks c = marks (of-entries (third_of c))
 
-source_passed : (c : tie.Else3) → (source_read_in (all-marks c) (all-given c)).answer.number ≡ 0
+source_passed : (c : tie.Else-matching_answer-ne0) → (source_read_in (all-marks c) (all-given c)).answer.number ≡ 0
 source_passed c = source_passes (second_of (third_of c).before).before
 
-target_passed : (c : tie.Else3) → (target_read_in (all-marks c) (all-given c)).answer.number ≡ 0
+target_passed : (c : tie.Else-matching_answer-ne0) → (target_read_in (all-marks c) (all-given c)).answer.number ≡ 0
 target_passed c = target_passes (third_of c).before
 
-entries_passed : (c : tie.Else3) → (entries_read (all-given c)).answer.number ≡ 0
-entries_passed c = ap (λ (r : MatchingRead). r.answer.number) (entries_are (third_of c)) ∙ c.if3.false
+entries_passed : (c : tie.Else-matching_answer-ne0) → (entries_read (all-given c)).answer.number ≡ 0
+entries_passed c = ap (λ (r : MatchingRead). r.answer.number) (entries_are (third_of c)) ∙ c.if-matching_answer-ne0.false
 
 -- the rooms, filled one after the other
-abbrev passed₁ : tie.After-store → tie.Else3
+abbrev passed₁ : tie.After-store → tie.Else-matching_answer-ne0
 passed₁ c = c.before.before
 
-source_stored : (c : tie.After-store) → let l = all-given (passed₁ c) in c.store.new.1.0 ≡ front (events_of l.source) l.source_room_of
+source_stored : (c : tie.After-store) → let l = all-given (passed₁ c) in c.store.new.room ≡ front (events_of l.source) l.source_room_of
 source_stored c = c.store.ensures ∙ read_stores _ 1 _ _ (source_passed (passed₁ c))
 
 source_filled : (c : tie.After-store)
-    → Filled (all-given (passed₁ c)).source (of-entries (third_of (passed₁ c))).survey-in.result c.store.new.1.0
+    → Filled (all-given (passed₁ c)).source (of-entries (third_of (passed₁ c))).survey_in-s.result c.store.new.room
 source_filled c = filled _ 1 _ _ (source_passed (passed₁ c)) _ (source_is (of-entries (third_of (passed₁ c)))) _ (source_stored c)
 
-abbrev passed₂ : tie.After-store2 → tie.Else3
+abbrev passed₂ : tie.After-store-2 → tie.Else-matching_answer-ne0
 passed₂ c = passed₁ c.before.before.before.before
 
-target_stored : (c : tie.After-store2) → let l = all-given (passed₂ c) in c.store2.new.1.0 ≡ front (events_of l.target) l.target_room_of
-target_stored c = c.store2.ensures ∙ read_stores _ 2 _ _ (target_passed (passed₂ c))
+target_stored : (c : tie.After-store-2) → let l = all-given (passed₂ c) in c.store-2.new.room ≡ front (events_of l.target) l.target_room_of
+target_stored c = c.store-2.ensures ∙ read_stores _ 2 _ _ (target_passed (passed₂ c))
 
-target_filled : (c : tie.After-store2)
-    → Filled (all-given (passed₂ c)).target (second_of (third_of (passed₂ c)).before).survey-in2.result c.store2.new.1.0
+target_filled : (c : tie.After-store-2)
+    → Filled (all-given (passed₂ c)).target (second_of (third_of (passed₂ c)).before).survey_in-t.result c.store-2.new.room
 target_filled c = filled _ 2 _ _ (target_passed (passed₂ c)) _ (target_is (second_of (third_of (passed₂ c)).before)) _ (target_stored c)
 
-abbrev passed₃ : tie.After-store3 → tie.Else3
+abbrev passed₃ : tie.After-store-3 → tie.Else-matching_answer-ne0
 passed₃ c = passed₂ c.before.before.before.before
 
-entries_stored : (c : tie.After-store3) → let l = all-given (passed₃ c) in c.store3.new.1.0 ≡ entry_front (entries_of l.matching) l.entry_room_of
-entries_stored c = c.store3.ensures ∙ matching_stores _ _ (entries_passed (passed₃ c))
+entries_stored : (c : tie.After-store-3) → let l = all-given (passed₃ c) in c.store-3.new.room ≡ entry_front (entries_of l.matching) l.entry_room_of
+entries_stored c = c.store-3.ensures ∙ matching_stores _ _ (entries_passed (passed₃ c))
 
-entries_filled : (c : tie.After-store3) → Entered (all-given (passed₃ c)).matching (third_of (passed₃ c)).survey-in3.result c.store3.new.1.0
+entries_filled : (c : tie.After-store-3) → Entered (all-given (passed₃ c)).matching (third_of (passed₃ c)).survey_in-m.result c.store-3.new.room
 entries_filled c = entered _ _ (entries_passed (passed₃ c)) _ (entries_are (third_of (passed₃ c))) _ (entries_stored c)
 
-returns : tie.Need-returns
+returns : tie.Need-returns-then-source_answer-ne0
 returns c =
     let v = c.before.before.before.before in
-    refuses (marks v) (given v) _ _ (by_source (marks v) (given v) (rw (source_is v) c.before.if1.true) ∙ ap (λ (r : TraceRead). r.answer) (source_is v))
-    c.before.if1.true c.refusal.ensures
+    refuses (marks v) (given v) _ _ (by_source (marks v) (given v) (rw (source_is v) c.if-source_answer-ne0.true) ∙ ap (λ (r : TraceRead). r.answer) (source_is v))
+    c.if-source_answer-ne0.true c.refusal.ensures
 
-returns-2 : tie.Need-returns-2
+returns-2 : tie.Need-returns-then-target_answer-ne0
 returns-2 c =
     let w = c.before.before.before.before in
     let l = given (first_of w.before) in
     let m = marks (first_of w.before) in
-    refuses m l _ _ (by_target m l (source_passes w.before) (rw (target_is w) c.before.if2.true) ∙ ap (λ (r : TraceRead). r.answer) (target_is w))
-    c.before.if2.true c.refusal2.ensures
+    refuses m l _ _ (by_target m l (source_passes w.before) (rw (target_is w) c.if-target_answer-ne0.true) ∙ ap (λ (r : TraceRead). r.answer) (target_is w))
+    c.if-target_answer-ne0.true c.refusal-then-target_answer-ne0.ensures
 
-returns-3 : tie.Need-returns-3
+returns-3 : tie.Need-returns-then-matching_answer-ne0
 returns-3 c =
     let x = c.before.before.before.before in
     let l = given (of-entries x) in
     let m = marks (of-entries x) in
     refuses m l _ _ (by_entries m l (source_passes (second_of x.before).before) (target_passes x.before)
     ∙ ap (λ (r : MatchingRead). r.answer) (entries_are x))
-    c.before.if3.true c.refusal3.ensures
+    c.if-matching_answer-ne0.true c.refusal-then-matching_answer-ne0.ensures
 
 judged-requires : tie.Need-judged-requires
 judged-requires c κs =
-    let e = c.before.before.before.before.before in
+    let e = c.before.before in
     let f = source_filled e.before.before.before.before.before.before.before.before in
     let g = target_filled e.before.before.before.before in
     (f.inside, (g.inside, ((entries_filled e).inside, ((f.few, g.few), (f.placed, g.placed)))))
 
-returns-4 : tie.Need-returns-4
+returns-4 : tie.Need-returns
 returns-4 c =
-    let e = c.before.before.before.before.before.before in
+    let e = c.before.before.before in
     let g = e.before.before.before.before in
     let f = g.before.before.before.before in
     let p = passed₁ f in
@@ -144,8 +144,8 @@ returns-4 c =
     (source_filled f) (target_filled g) (entries_filled e))
     (source_stored f) (target_stored g) (entries_stored e)
 
-pub check-in-spec : {M : Type 1} → statement M
-check-in-spec =
+pub check_in_spec : {M : Type 1} → statement M
+check_in_spec =
     tie.close
     (tie.spec
     (search rules)

@@ -18,20 +18,19 @@ whole n = omega arith
 few : (n : ℕ) (room : List ℕ) → n * event_words ≤ length room → n ≤ 800 → capacity (take (n * event_words) room) ≤ 800
 few n room h k = omega (arith, length-take-le (n * event_words) room h)
 
-judge-requires : tie.Need-judge-requires
+judge-requires : tie.Need-judge-answer-requires
 judge-requires c κs =
-    let b = c.before.before.before.before.before.before.before.before in
-    let a = b.args in
+    let a = c.args in
     let s = a.source.events * event_words in
     let t = a.target.events * event_words in
     rw (whole s, whole t) (
-      few a.source.events _ b.requires.0 b.requires.1.1.1.0.0,
+      few a.source.events _ c.requires.0 c.requires.1.1.1.0.0,
       (
-        b.requires.1.1.1.1.0,
+        c.requires.1.1.1.1.0,
         (
-          few a.target.events _ b.requires.1.0
-              b.requires.1.1.1.0.1,
-          b.requires.1.1.1.1.1,
+          few a.target.events _ c.requires.1.0
+              c.requires.1.1.1.0.1,
+          c.requires.1.1.1.1.1,
         ),
       ),
     )
@@ -39,19 +38,18 @@ judge-requires c κs =
 returns : tie.Need-returns
 unfolding judged_in
 returns c =
-    let j = c.before.before in
-    let a = j.before.before.before.before.before.before.before.before.before.args in
+    let a = c.args in
     rw (
-      c.before.hold.ensures,
-      c.hold2.ensures,
-      j.judge.ensures,
+      c.hold-held_source.ensures,
+      c.hold-held_target.ensures,
+      c.judge-answer.ensures,
       whole (a.source.events * event_words),
       whole (a.target.events * event_words),
       whole a.entries,
     )
 
-pub judged-spec : {M : Type 1} → statement M
-judged-spec =
+pub judged_spec : {M : Type 1} → statement M
+judged_spec =
     tie.close
     (tie.spec
     (search rules)

@@ -4,7 +4,7 @@ use Rattle.checker.proofs.refusal.Statement.{statement}
 use Rattle.checker.proofs.refusal.Tie as tie
 
 returns : tie.Need-returns
-returns c = rw c.empty.ensures
+returns c = rw c.empty-memory.ensures
 
-pub refusal-spec : {M : Type 1} → statement M
-refusal-spec = tie.close (tie.spec (search rules) returns)
+pub refusal_spec : {M : Type 1} → statement M
+refusal_spec = tie.close (tie.spec (search rules) returns)

@@ -15,43 +15,53 @@ record Found (number : ℕ) (later : List ℕ) (pairs i : ℕ) : Type 0 where
   few : pairs ≤ i
   so_far : many (is_reversed number) later ≡ pairs + many (is_reversed number) (drop i later)
 
-abbrev invariant-loop : tie.invariant-loop
+abbrev invariant-loop : tie.invariant-loop-i
 invariant-loop number later pairs₀ i₀ pairs i = Found number later pairs i
 
-abbrev decreases-loop : tie.decreases-loop
+abbrev decreases-loop : tie.decreases-loop-i
 decreases-loop number later pairs₀ i₀ pairs i = length later - i
 
-module _ (c : tie.After-pair invariant-loop decreases-loop) where
-  abbrev turn : tie.At-loop invariant-loop decreases-loop
+module _ (c : tie.After-pair-pairs invariant-loop decreases-loop) where
+  abbrev turn : tie.At-loop-i invariant-loop decreases-loop
   turn = c.before.before.before
 
-  few_pairs : c.pair.result ≤ 1
+  few_pairs : c.pair-pairs.result ≤ 1
   few_pairs =
-      let a = turn.before.before.args in
-      subst (λ n. n ≤ 1) (sym c.pair.ensures) (bit_le (is_reversed a.number (get_or a.later.now turn.loop.i 0)))
+      let a = turn.args in
+      subst (λ n. n ≤ 1) (sym c.pair-pairs.ensures) (bit_le (is_reversed a.number (get_or a.later.now turn.loop-i.i 0)))
 
-  one_more : Found turn.before.before.args.number turn.before.before.args.later.now (turn.loop.pairs + c.pair.result) (turn.loop.i + 1)
+  one_more : Found turn.args.number turn.args.later.now (turn.loop-i.pairs + c.pair-pairs.result) (turn.loop-i.i + 1)
   one_more =
-      let a = turn.before.before.args in
-      let l = turn.loop in
-      let h = c.before.before.loop-test.true in
+      let a = turn.args in
+      let l = turn.loop-i in
+      let h = c.loop-i-test.true in
       let b = few_pairs in
-      let f = l.inv.few in
-      let s = l.inv.so_far in
-      let p = c.pair.ensures in
+      let f = l.invariant.few in
+      let s = l.invariant.so_far in
+      let p = c.pair-pairs.ensures in
       let m = many_at (is_reversed a.number) a.later.now l.i h in
       rw (add-one l.i) (record { few = omega arith; so_far = omega arith })
 
 returns : tie.Need-returns invariant-loop decreases-loop
 returns c =
-    let l = c.before.loop in
-    let a = c.before.before.before.args in
+    let l = c.loop-i in
+    let a = c.args in
     let s = l.invariant.so_far in
-    let e = many_end (is_reversed a.number) a.later.now l.i c.loop-test.false in
+    let e = many_end (is_reversed a.number) a.later.now l.i c.loop-i-test.false in
     omega arith
 
-pub reversed-with-spec : {M : Type 1} → statement M
-reversed-with-spec =
+pub reversed_with_spec : {M : Type 1} → statement M
+reversed_with_spec =
     tie.close
-    (tie.spec invariant-loop decreases-loop (λ c. record { few = omega arith; so_far = omega arith }) (λ c. omega arith) (λ c. omega arith) (λ c κs. tt)
-    (λ c. omega (arith, few_pairs c, (turn c).loop.invariant.few)) (λ c. omega arith) (λ c. omega arith) one_more returns)
+    (tie.spec
+    invariant-loop
+    decreases-loop
+    (λ c. record { few = omega arith; so_far = omega arith })
+    (λ c. omega arith)
+    (λ c. omega arith)
+    (λ c κs. tt)
+    (λ c. omega (arith, few_pairs c, (turn c).loop-i.invariant.few))
+    (λ c. omega arith)
+    (λ c. omega arith)
+    one_more
+    returns)

@@ -16,10 +16,10 @@ record Filled (tags₀ tags : List ℕ) (events i : ℕ) : Type 0 where
   size : length tags ≡ length tags₀
   same : tags ≡ counted 0 i ++ drop i tags₀
 
-abbrev invariant-loop : tie.invariant-loop
+abbrev invariant-loop : tie.invariant-loop-i
 invariant-loop tags₀ events i₀ tags i = Filled tags₀ tags events i
 
-abbrev decreases-loop : tie.decreases-loop
+abbrev decreases-loop : tie.decreases-loop-i
 decreases-loop tags₀ events i₀ tags i = events - i
 
 -- one more
@@ -31,29 +31,35 @@ next i k A e h =
     rw e (ap (λ l. set (counted 0 i ++ l) i i) (drop-cons A i 0 (omega (arith, e)))
     ∙ (stored ∙ (sym (append_snoc (counted 0 i) i (drop (suc i) A)) ∙ ap (λ l. l ++ drop (suc i) A) (sym q))))
 
-loop-again : tie.Need-loop-preserved invariant-loop decreases-loop
+loop-again : tie.Need-loop-i-preserved invariant-loop decreases-loop
 loop-again c =
-    let l = c.before.loop in
-    let s = c.before.before in
-    let p = s.requires in
-    let t = c.loop-test.true in
+    let l = c.loop-i in
+    let p = c.requires in
+    let t = c.loop-i-test.true in
     record {
       bound = omega arith;
       size = simp length-set l.invariant.size;
-      same = ap (λ a. set a l.i l.i) l.invariant.same ∙ next l.i (l.i + 1) s.args.tags.now (add-one l.i) (omega arith);
+      same = ap (λ a. set a l.i l.i) l.invariant.same ∙ next l.i (l.i + 1) c.args.tags.now (add-one l.i) (omega arith);
     }
 
 returns : tie.Need-returns invariant-loop decreases-loop
 returns c =
-    let l = c.before.loop in
-    let s = c.before.before in
-    let e : l.i ≡ s.args.events = omega (arith, l.invariant.bound, c.loop-test.false) in
-    l.invariant.same ∙ (ap (λ n. counted 0 n ++ drop n s.args.tags.now) e
-    ∙ ap (λ n. counted 0 s.args.events ++ drop n s.args.tags.now) (sym (counted_length 0 s.args.events)))
+    let l = c.loop-i in
+    let e : l.i ≡ c.args.events = omega (arith, l.invariant.bound, c.loop-i-test.false) in
+    l.invariant.same ∙ (ap (λ n. counted 0 n ++ drop n c.args.tags.now) e
+    ∙ ap (λ n. counted 0 c.args.events ++ drop n c.args.tags.now) (sym (counted_length 0 c.args.events)))
 
 pub fill_spec : {M : Type 1} → statement M
 fill_spec =
     tie.close
-    (tie.spec invariant-loop decreases-loop (λ c. record { bound = omega arith; size = refl; same = refl })
-    (λ c. omega (arith, c.before.before.requires, c.before.loop.invariant.size)) (λ c. omega (arith, c.before.before.requires, c.before.loop.invariant.size))
-    (λ c. omega arith) (λ c. omega arith) loop-again (λ c. c.before.loop.invariant.size) returns)
+    (tie.spec
+    invariant-loop
+    decreases-loop
+    (λ c. record { bound = omega arith; size = refl; same = refl })
+    (λ c. omega (arith, c.requires, c.loop-i.invariant.size))
+    (λ c. omega (arith, c.requires, c.loop-i.invariant.size))
+    (λ c. omega arith)
+    (λ c. omega arith)
+    loop-again
+    (λ c. c.loop-i.invariant.size)
+    returns)

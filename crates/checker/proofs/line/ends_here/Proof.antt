@@ -3,8 +3,8 @@ use borrow.Author.Rules.{rules}
 use Rattle.checker.proofs.line.ends_here.Statement.{statement}
 use Rattle.checker.proofs.line.ends_here.Tie as tie
 
-returns : tie.Need-returns
-returns c = rw c.if1.true
+returns : tie.Need-returns-then-hit
+returns c = rw c.if-hit.true
 
-pub ends-here-spec : {M : Type 1} → statement M
-ends-here-spec = tie.close (tie.spec returns (λ c. search rules))
+pub ends_here_spec : {M : Type 1} → statement M
+ends_here_spec = tie.close (tie.spec returns (λ c. search rules))

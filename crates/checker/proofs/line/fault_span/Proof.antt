@@ -6,25 +6,23 @@ use borrow.Author.Rules.{rules}
 use Rattle.checker.proofs.line.fault_span.Statement.{statement}
 use Rattle.checker.proofs.line.fault_span.Tie as tie
 
-returns : tie.Need-returns
+returns : tie.Need-returns-then-is_at_a_line
 unfolding line_of
-returns c = rw (sym c.before.before.is-at-a-line.ensures ∙ c.before.if1.true) c.Span-of.ensures
+returns c = rw (sym c.is_at_a_line.ensures ∙ c.if-is_at_a_line.true) c.span_of.ensures
 
-returns-2 : tie.Need-returns-2
+returns-2 : tie.Need-returns-then-is_at_an_event
 unfolding line_of
 returns-2 c =
-    let e = c.before.before in
-    rw (sym e.before.before.is-at-a-line.ensures ∙ e.before.if1.false, sym e.is-at-an-event.ensures ∙ c.before.if2.true)
-    c.span-of2.ensures
+    rw (sym c.is_at_a_line.ensures ∙ c.if-is_at_a_line.false, sym c.is_at_an_event.ensures ∙ c.if-is_at_an_event.true)
+    c.span_of-then-is_at_an_event.ensures
 
-returns-3 : tie.Need-returns-3
+returns-3 : tie.Need-returns
 unfolding line_of
 returns-3 c =
-    let e = c.before in
-    rw (sym e.before.before.is-at-a-line.ensures ∙ e.before.if1.false, sym e.is-at-an-event.ensures ∙ c.if2.false)
+    rw (sym c.is_at_a_line.ensures ∙ c.if-is_at_a_line.false, sym c.is_at_an_event.ensures ∙ c.if-is_at_an_event.false)
     (record { rises = omega arith; within = omega arith; is = refl }, refl)
 
-pub fault-span-spec : {M : Type 1} → statement M
-fault-span-spec =
+pub fault_span_spec : {M : Type 1} → statement M
+fault_span_spec =
     tie.close
     (tie.spec (search rules) (search rules) returns (search rules) (search rules) returns-2 returns-3)

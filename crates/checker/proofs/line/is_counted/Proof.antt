@@ -5,13 +5,13 @@ use borrow.Author.Rules.{rules}
 use Rattle.checker.proofs.line.is_counted.Statement.{statement}
 use Rattle.checker.proofs.line.is_counted.Tie as tie
 
-returns : tie.Need-returns
+returns : tie.Need-returns-then-only
 unfolding counted
-returns c = rw c.before.before.if1.true (c.is-event.ensures ∙ ap is_event c.before.record_of.ensures)
+returns c = rw c.if-only.true (c.is_event.ensures ∙ ap is_event c.record_of.ensures)
 
-returns-2 : tie.Need-returns-2
+returns-2 : tie.Need-returns
 unfolding counted
-returns-2 c = rw c.if1.false
+returns-2 c = rw c.if-only.false
 
-pub is-counted-spec : {M : Type 1} → statement M
-is-counted-spec = tie.close (tie.spec (search rules) (search rules) returns returns-2)
+pub is_counted_spec : {M : Type 1} → statement M
+is_counted_spec = tie.close (tie.spec (search rules) (search rules) returns returns-2)
