@@ -15,7 +15,7 @@ use Rattle.record.specs.Layout.{event_line}
 use Rattle.text.specs.Cut.{glue}
 use Rattle.record.specs.declared.form.Form.{Form}
 use Rattle.trace.specs.Writing.{text_of}
-use Rattle.uses.specs.Way.{ways_of}
+use Rattle.uses.specs.Way.{ways_of, ways_with}
 use Rattle.writer.specs.Put.{Put}
 use Rattle.writer.proofs.Puts.{Left, all}
 use Rattle.writer.proofs.Texts.{text_append, text_cons}
@@ -51,7 +51,7 @@ numbers_next flags i k h = rw (drop-cons flags i false h, add-one i, add-one k) 
 pub ways_append : (ways : List ℕ) (xs ys : List Event) → ways_of ways (xs ++ ys) ≡ ways_of (ways_of ways xs) ys
 unfolding ways_of
 ways_append ways [] ys = refl
-ways_append ways (e ∷ xs) ys = ways_append _ xs ys
+ways_append ways (e ∷ xs) ys = ways_append (ways_with ways e) xs ys
 
 abbrev pub lines : Form → List Event → List ℕ
 lines f es = text_of (map (event_line f) es)

@@ -24,7 +24,7 @@ use Rattle.shorten.proofs.shorten_in.Statement.{statement}
 use Rattle.shorten.proofs.shorten_in.Tie as tie
 
 -- what is handed, and what is found of the text
-module _ (c : tie.After-survey-in) where
+module _ (c : tie.After-survey_in-surveyed) where
   abbrev start : tie.Start
   start = c.before.before.before.before
 
@@ -34,78 +34,78 @@ module _ (c : tie.After-survey-in) where
   abbrev text : List ℕ
   text = start.args.text.now
 
-  surveyed : c.survey-in.result ≡ survey_in regs 1 text
-  surveyed = c.survey-in.ensures ∙ survey_room regs text
+  surveyed : c.survey_in-surveyed.result ≡ survey_in regs 1 text
+  surveyed = c.survey_in-surveyed.ensures ∙ survey_room regs text
 
 -- no refusal
-module _ (c : tie.Else1) where
-  abbrev v : tie.After-survey-in
+module _ (c : tie.Else-found-ne0) where
+  abbrev v : tie.After-survey_in-surveyed
   v = c.before.before.before
 
   read : (survey_in (regs v) 1 (text v)).answer.number ≡ 0
-  read = ap (λ (r : TraceRead). r.answer.number) (sym (surveyed v)) ∙ c.if1.false
+  read = ap (λ (r : TraceRead). r.answer.number) (sym (surveyed v)) ∙ c.if-found-ne0.false
 
-  counted : v.survey-in.result.events ≡ length (events_of (text v))
+  counted : v.survey_in-surveyed.result.events ≡ length (events_of (text v))
   counted = ap (λ (r : TraceRead). r.events) (surveyed v) ∙ counts (regs v) 1 (text v) read
 
   few : length (events_of (text v)) ≤ event_limit
   few = omega (arith, (whole (regs v) (text v) read).fits.few)
 
-returns : tie.Need-returns
+returns : tie.Need-returns-then-found-ne0
 returns c =
     let s = c.before.before.before.before in
     let a = (start s).args in
-    read_refuses (regs s) (text s) a.out.now a.matching-out.now (surveyed s) c.before.if1.true c.refusal.ensures
+    read_refuses (regs s) (text s) a.out.now a.matching_out.now (surveyed s) c.if-found-ne0.true c.refusal.ensures
 
 -- the flags
-module _ (c : tie.After-stay-flags) where
-  abbrev e : tie.Else1
+module _ (c : tie.After-stay_flags-flags) where
+  abbrev e : tie.Else-found-ne0
   e = c.before
 
   abbrev flags : List Bool
-  flags = take (v e).survey-in.result.events c.stay-flags.result
+  flags = take (v e).survey_in-surveyed.result.events c.stay_flags-flags.result
 
   flags_are : flags ≡ marks (view_in (regs (v e))) (events_of (text (v e)))
   flags_are =
-      ap (λ (n : ℕ). take n c.stay-flags.result) (counted e) ∙ c.stay-flags.ensures
+      ap (λ (n : ℕ). take n c.stay_flags-flags.result) (counted e) ∙ c.stay_flags-flags.ensures
 
-  many : (v e).survey-in.result.events ≡ length flags
+  many : (v e).survey_in-surveyed.result.events ≡ length flags
   many = ap (λ (r : TraceRead). r.events) (surveyed (v e)) ∙ counts (regs (v e)) 1 (text (v e)) (read e)
       ∙ sym (ap length flags_are ∙ marks_length (view_in (regs (v e))) (events_of (text (v e))))
 
 -- so the two texts are those that are to be written
-module _ (c : tie.After-touch-kept) where
-  abbrev f : tie.After-stay-flags
+module _ (c : tie.After-touch_kept) where
+  abbrev f : tie.After-stay_flags-flags
   f = c.before.before.before
 
-  abbrev found : tie.After-survey-in
+  abbrev found : tie.After-survey_in-surveyed
   found = v (e f)
 
-  text_by_flags : text_by (form_of (text found)) (is_used c.touch-kept.new.0) found.survey-in.result.memory (pick (flags f) (events_of (text found)))
+  text_by_flags : text_by (form_of (text found)) (is_used c.touch_kept.new.ways) found.survey_in-surveyed.result.memory (pick (flags f) (events_of (text found)))
       ≡ short_text (regs found) (text found)
   text_by_flags =
-      text_is (regs found) (text found) (read (e f)) (flags_are f) c.touch-kept.ensures
+      text_is (regs found) (text found) (read (e f)) (flags_are f) c.touch_kept.ensures
       (ap (λ (r : TraceRead). r.memory) (surveyed found) ∙ memory_is (regs found) 1 (text found) (read (e f)))
 
   matching_by_flags : match_text (numbers 1 (flags f)) ≡ short_matching (regs found) (text found)
   matching_by_flags = matching_is (regs found) (text found) (read (e f)) (flags_are f)
 
-write-both-requires : tie.Need-write-both-requires
+write-both-requires : tie.Need-write_both-requires
 write-both-requires c κs =
-    let k = c.before.before.before in
+    let k = c.before.before.before.before in
     let s = found k in
     (rw (text_by_flags k) (short_small (regs s) (text s) (read (e (f k)))), rw (matching_by_flags k) (omega (arith, matching_short (regs s) (text s) (read (e (f k))))))
 
-returns-2 : tie.Need-returns-2
+returns-2 : tie.Need-returns
 returns-2 c =
     let w = c.before.before.before.before in
-    let k = w.before.before.before.before in
+    let k = w.before.before.before.before.before in
     let s = found k in
     let a = (start s).args in
-    read_writes (regs s) (text s) a.out.now a.matching-out.now (read (e (f k))) (text_by_flags k) (matching_by_flags k) w.write-both.ensures
+    read_writes (regs s) (text s) a.out.now a.matching_out.now (read (e (f k))) (text_by_flags k) (matching_by_flags k) w.write_both.ensures
 
-pub shorten-in-spec : {M : Type 1} → statement M
-shorten-in-spec =
+pub shorten_in_spec : {M : Type 1} → statement M
+shorten_in_spec =
     tie.close
     (tie.spec
     (search rules)

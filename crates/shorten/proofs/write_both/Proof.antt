@@ -26,26 +26,26 @@ module _ (s : tie.Start) where
   abbrev matching_out : List ℕ
   matching_out = s.args.matching_out.now
 
-abbrev begin : tie.After-short-size → tie.Start
+abbrev begin : tie.After-short_size-bytes → tie.Start
 begin c = c.before.before.before.before.before
 
-returns : tie.Need-returns
+returns : tie.Need-returns-then-out-bytes
 returns c =
     let n = c.before in
     let z = n.before.before in
     let s = begin z in
-    short (text s) (matching s) (out s) (matching_out s) z.short-size.ensures n.before.if1.true n.new.ensures c.refusal.ensures
+    short (text s) (matching s) (out s) (matching_out s) z.short_size-bytes.ensures n.if-out-bytes.true n.new.ensures c.refusal.ensures
 
-returns-2 : tie.Need-returns-2
+returns-2 : tie.Need-returns-then-matching_out-matching_bytes
 returns-2 c =
     let n = c.before in
     let y = n.before.before in
     let z = y.before.before in
     let s = begin z in
-    matching_short (text s) (matching s) (out s) (matching_out s) z.short-size.ensures y.matching-size.ensures y.before.if1.false
-    n.before.if2.true n.new2.ensures c.refusal2.ensures
+    matching_short (text s) (matching s) (out s) (matching_out s) z.short_size-bytes.ensures y.matching_size-matching_bytes.ensures y.if-out-bytes.false
+    n.if-matching_out-matching_bytes.true n.new-then-matching_out-matching_bytes.ensures c.refusal-then-matching_out-matching_bytes.ensures
 
-returns-3 : tie.Need-returns-3
+returns-3 : tie.Need-returns
 returns-3 c =
     let m = c.before.before.before in
     let p = m.before.before.before.before in
@@ -53,14 +53,14 @@ returns-3 c =
     let y = e.before in
     let z = y.before.before in
     let s = begin z in
-    both (text s) (matching s) (out s) (matching_out s) z.short-size.ensures y.matching-size.ensures y.before.if1.false e.if2.false
-    p.put-short.ensures m.put-matching.ensures c.new3.ensures
+    both (text s) (matching s) (out s) (matching_out s) z.short_size-bytes.ensures y.matching_size-matching_bytes.ensures y.if-out-bytes.false e.if-matching_out-matching_bytes.false
+    p.put_short.ensures m.put_matching.ensures c.new-2.ensures
 
-pub write-both-spec : {M : Type 1} → statement M
-write-both-spec =
+pub write_both_spec : {M : Type 1} → statement M
+write_both_spec =
     tie.close
     (tie.spec
-    (λ c κs. c.before.before.before.before.requires.0)
+    (λ c κs. c.requires.0)
     (search rules)
     (search rules)
     returns
@@ -71,6 +71,6 @@ write-both-spec =
     (λ c κs. (begin c.before.before.before.before).requires.0)
     (λ c κs. (begin c.before.before.before.before.before.before.before.before).requires.1)
     (search rules)
-    (λ c. put_length c.before.before.before.before.before.before.before.put-short.ensures)
-    (λ c. put_length c.before.before.before.put-matching.ensures)
+    (λ c. put_length c.put_short.ensures)
+    (λ c. put_length c.put_matching.ensures)
     returns-3)

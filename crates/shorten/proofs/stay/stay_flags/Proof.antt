@@ -32,14 +32,14 @@ record Inv (regs : List Bool) (text : List ℕ) (flags : List Bool) (begun value
   whole : marks (view_in regs) (events_of text) ≡ passed behind (rest regs text at) ++ flags_of behind (rest regs text at)
   counted : n + length (heard_from (form_of text) text at) ≡ length (events_of text)
 
-abbrev invariant-loop : tie.invariant-loop
+abbrev invariant-loop : tie.invariant-loop-event
 invariant-loop listed text form flags₀ begun₀ values₀ last₀ at₀ n₀ flags begun values last at n = Inv listed text flags begun values last at n
 
-abbrev decreases-loop : tie.decreases-loop
+abbrev decreases-loop : tie.decreases-loop-event
 decreases-loop listed text form flags₀ begun₀ values₀ last₀ at₀ n₀ flags begun values last at n = length text + 1 - at
 
 -- a turn
-module _ (c : tie.After-next-event invariant-loop decreases-loop) where
+module _ (c : tie.After-next_event invariant-loop decreases-loop) where
   abbrev begin : tie.Start invariant-loop decreases-loop
   begin = c.before.before.before.before.before
 
@@ -50,36 +50,36 @@ module _ (c : tie.After-next-event invariant-loop decreases-loop) where
   text = begin.args.text.now
 
   abbrev at : ℕ
-  at = c.before.loop.at
+  at = c.loop-event.at
 
   abbrev n : ℕ
-  n = c.before.loop.n
+  n = c.loop-event.n
 
-  inv : Inv regs text c.before.loop.flags c.before.loop.begun c.before.loop.values c.before.loop.last at n
-  inv = c.before.loop.invariant
+  inv : Inv regs text c.loop-event.flags c.loop-event.begun c.loop-event.values c.loop-event.last at n
+  inv = c.loop-event.invariant
 
-  told : {r : EventStep} → c.next-event.result ≡ r → Tells (form_of text) text at r
-  told e = subst (Tells (form_of text) text at) e (subst (λ (f : Form). Tells f text at c.next-event.result) c.before.before.before.form_of_lem.ensures c.next-event.ensures)
+  told : {r : EventStep} → c.next_event.result ≡ r → Tells (form_of text) text at r
+  told e = subst (Tells (form_of text) text at) e (subst (λ (f : Form). Tells f text at c.next_event.result) c.form_of-form.ensures c.next_event.ensures)
 
 -- its event
-module _ (c : tie.After-event invariant-loop decreases-loop) where
-  abbrev t : tie.After-next-event invariant-loop decreases-loop
-  t = c.before.before
+module _ (c : tie.In-Found invariant-loop decreases-loop) where
+  abbrev t : tie.After-next_event invariant-loop decreases-loop
+  t = c.before
 
   abbrev event : Event
-  event = c.event.given.0.0
+  event = c.in-Found.event
 
   abbrev next : ℕ
-  next = c.event.given.0.1.0
+  next = c.in-Found.next
 
   abbrev seen : View
   seen = view_in (regs t) event
 
   tells : Tells (form_of (text t)) (text t) (at t) (Found event next)
-  tells = told t c.event.given.1
+  tells = told t c.in-Found.is
 
   few : n t < event_limit
-  few = omega (arith, (inv t).counted, ap length tells.0, (begin t).pre)
+  few = omega (arith, (inv t).counted, ap length tells.0, (begin t).requires)
 
   passes : (flags : List Bool) (begun values last : List ℕ) → Walked (seen ∷ (inv t).behind) (n t + 1) flags begun values last
       → Inv (regs t) (text t) flags begun values last next (n t + 1)
@@ -95,28 +95,31 @@ module _ (c : tie.After-event invariant-loop decreases-loop) where
   less : length (text t) + 1 - next < length (text t) + 1 - at t
   less = omega (arith, tells.1)
 
-loop-holds : tie.Need-loop-init invariant-loop decreases-loop
+loop-holds : tie.Need-loop-event-init invariant-loop decreases-loop
 loop-holds c =
-    let s = c.before.before.before in
-    let e = events_start s.args.text.now in
-    rw c.line-two.ensures (record { behind = []; walked = walked_start; whole = ap (marks (view_in s.args.listed.now)) e; counted = omega (arith, ap length e) })
+    let e = events_start c.args.text.now in
+    rw c.line_two-at.ensures (record { behind = []; walked = walked_start; whole = ap (marks (view_in c.args.listed.now)) e; counted = omega (arith, ap length e) })
 
-loop-again : tie.Need-loop-preserved invariant-loop decreases-loop
+loop-again : tie.Need-loop-event-preserved-then-is_wall_in invariant-loop decreases-loop
 loop-again c =
-    let e = c.before.before.before in
-    passes e _ _ _ _ (walked_wall (inv (t e)).walked (few e) (seen e) (sym c.before.is-wall-in.ensures ∙ c.if1.true))
+    let e = c.before.before in
+    passes e _ _ _ _ (walked_wall (inv (t e)).walked (few e) (seen e) (sym c.is_wall_in.ensures ∙ c.if-is_wall_in.true))
 
 -- its location is a cell of the arrays
-abbrev index : tie.After-overwritten invariant-loop decreases-loop → tie.After-index-of invariant-loop decreases-loop
+abbrev index : tie.After-overwritten invariant-loop decreases-loop → tie.After-index_of-place invariant-loop decreases-loop
 index c = c.before.before
 
-abbrev its : tie.After-index-of invariant-loop decreases-loop → tie.After-event invariant-loop decreases-loop
-its c = c.before.before.before.before.before
+abbrev its : tie.After-index_of-place invariant-loop decreases-loop → tie.In-Found invariant-loop decreases-loop
+its c = c.before.before.before.before
 
-in_arrays : (c : tie.After-index-of invariant-loop decreases-loop) → c.index_of.result < places
-in_arrays c = omega (arith, c.index_of.ensures, (tells (its c)).1.1.1)
+in_arrays : (c : tie.After-index_of-place invariant-loop decreases-loop) → c.index_of-place.result < places
+in_arrays c = omega (arith, c.index_of-place.ensures, (tells (its c)).1.1.1)
 
-loop-again-2 : tie.Need-loop-preserved-2 invariant-loop decreases-loop
+-- so it is before what the arrays hold of it is read
+in_arrays_unread : (c : tie.After-index_of-place-unread invariant-loop decreases-loop) → c.index_of-place.result < places
+in_arrays_unread c = omega (arith, c.index_of-place.ensures, (tells c.before.before.before.before).1.1.1)
+
+loop-again-2 : tie.Need-loop-event-preserved invariant-loop decreases-loop
 loop-again-2 c =
     let y = c.before in
     let g = y.before in
@@ -125,23 +128,23 @@ loop-again-2 c =
     let o = u.before in
     let j = index o in
     let w = j.before.before.before in
-    let e = w.before.before in
+    let e = w.before in
     passes e _ _ _ _
-    (walked_by (inv (t e)).walked (few e) (sees_in (regs (t e)) (event e)) (sym w.is-wall-in.ensures ∙ j.before.before.if1.left) (tells e).1.1.1
-    j.index_of.ensures j.before.is-load-in.ensures o.overwritten.ensures u.unflag.ensures a.stays_at.ensures g.begun-after.ensures
-    y.value_after.ensures c.last-after.ensures)
+    (walked_by (inv (t e)).walked (few e) (sees_in (regs (t e)) (event e)) (sym w.is_wall_in.ensures ∙ j.if-is_wall_in.false) (tells e).1.1.1
+    j.index_of-place.ensures j.is_load_in-load.ensures o.overwritten.ensures u.unflag.ensures a.stays_at.ensures g.begun_after.ensures
+    y.value_after.ensures c.last_after.ensures)
 
 returns : tie.Need-returns invariant-loop decreases-loop
 returns c =
-    let o = c.before.before in
+    let o = c.before in
     let v = inv o in
-    let z = told o c.enum_told.given.1 in
+    let z = told o c.in_default.is in
     let k : n o ≡ length (events_of (text o)) = omega (arith, v.counted, ap length z) in
     rw (← k) (v.walked.flagged ∙ sym (v.whole
     ∙ ap (λ (es : List Event). passed v.behind (map (view_in (regs o)) es) ++ flags_of v.behind (map (view_in (regs o)) es)) z ∙ append-nil (passed v.behind [])))
 
-pub stay-flags-spec : {M : Type 1} → statement M
-stay-flags-spec =
+pub stay_flags_spec : {M : Type 1} → statement M
+stay_flags_spec =
     tie.close
     (tie.spec
     invariant-loop
@@ -153,17 +156,17 @@ stay-flags-spec =
     (search rules)
     (search rules)
     (search rules)
-    (λ c. few c.before.before.before)
-    (λ c. omega (arith, few c.before.before.before))
-    (λ c. less c.before.before.before)
+    (λ c. few c.before.before)
+    (λ c. omega (arith, few c.before.before))
+    (λ c. less c.before.before)
     loop-again
     (search rules)
     (search rules)
-    (λ c. omega (arith, in_arrays c))
-    (λ c. omega (arith, in_arrays c))
-    (λ c. omega (arith, in_arrays c))
-    (λ c. omega (arith, in_arrays c))
-    (λ c. omega (arith, in_arrays c))
+    (λ c. omega (arith, in_arrays_unread c))
+    (λ c. omega (arith, in_arrays_unread c))
+    (λ c. omega (arith, in_arrays_unread c))
+    (λ c. omega (arith, in_arrays_unread c))
+    (λ c. omega (arith, in_arrays_unread c))
     (λ c. sym (inv (t (its c.before))).walked.flags_size)
     (search rules)
     (search rules)

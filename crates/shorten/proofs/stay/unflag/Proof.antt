@@ -7,11 +7,11 @@ use lib.Seq.{set_out}
 use Rattle.shorten.proofs.stay.unflag.Statement.{statement}
 use Rattle.shorten.proofs.stay.unflag.Tie as tie
 
-returns-2 : tie.Need-returns-2
-returns-2 c = rw (ne_eqb _ _ c.before.if1.false)
+returns-2 : tie.Need-returns-then-i-flags
+returns-2 c = rw (ne_eqb _ _ c.if-number-eq0.false)
 
-returns-3 : tie.Need-returns-3
-returns-3 c = rw (ne_eqb _ _ c.before.if1.false) (sym (set_out _ _ false c.if2.false))
+returns-3 : tie.Need-returns-else-i-flags
+returns-3 c = rw (ne_eqb _ _ c.if-number-eq0.false) (sym (set_out _ _ false c.if-i-flags.false))
 
-pub unflag-spec : {M : Type 1} → statement M
-unflag-spec = tie.close (tie.spec (λ c. rw (eq-eqb _ _ c.if1.true)) (search rules) (search rules) (search rules) returns-2 returns-3)
+pub unflag_spec : {M : Type 1} → statement M
+unflag_spec = tie.close (tie.spec (λ c. rw (eq-eqb _ _ c.if-number-eq0.true)) (search rules) (search rules) (search rules) returns-2 returns-3)

@@ -6,8 +6,8 @@ use lib.ListN.{get_or-eq_default}
 use Rattle.shorten.proofs.write.is_kept.Statement.{statement}
 use Rattle.shorten.proofs.write.is_kept.Tie as tie
 
-returns-2 : tie.Need-returns-2
-returns-2 c = let a = c.before.args in sym (get_or-eq_default a.flags.now false {n = a.i} c.if1.false)
+returns-2 : tie.Need-returns
+returns-2 c = let a = c.args in sym (get_or-eq_default a.flags.now false {n = a.i} c.if-i-flags.false)
 
-pub is-kept-spec : {M : Type 1} → statement M
-is-kept-spec = tie.close (tie.spec (search rules) (search rules) returns-2)
+pub is_kept_spec : {M : Type 1} → statement M
+is_kept_spec = tie.close (tie.spec (search rules) (search rules) returns-2)

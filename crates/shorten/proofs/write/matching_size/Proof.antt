@@ -4,5 +4,5 @@ use native.Mathlib.Omega.{arith}
 use Rattle.shorten.proofs.write.matching_size.Statement.{statement}
 use Rattle.shorten.proofs.write.matching_size.Tie as tie
 
-pub matching-size-spec : {M : Type 1} → statement M
-matching-size-spec = tie.close (tie.spec (λ c. refl) (λ c κs. c.before.before.requires) (λ c. omega (arith, c.before.put-matching.ensures.counted)))
+pub matching_size_spec : {M : Type 1} → statement M
+matching_size_spec = tie.close (tie.spec (λ c. refl) (λ c κs. c.requires) (λ c. omega (arith, c.put_matching.ensures.counted)))

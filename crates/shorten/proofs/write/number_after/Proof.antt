@@ -3,5 +3,5 @@ use borrow.Author.Rules.{rules}
 use Rattle.shorten.proofs.write.number_after.Statement.{statement}
 use Rattle.shorten.proofs.write.number_after.Tie as tie
 
-pub number-after-spec : {M : Type 1} → statement M
-number-after-spec = tie.close (tie.spec (search rules) (λ c. rw c.if1.true) (λ c. rw c.if1.false))
+pub number_after_spec : {M : Type 1} → statement M
+number_after_spec = tie.close (tie.spec (search rules) (λ c. rw c.if-kept.true) (λ c. rw c.if-kept.false))

@@ -24,14 +24,14 @@ record Inv (flags : List Bool) (out₀ : List ℕ) (at : ℕ) (out : List ℕ) (
   named : number ≤ i + 1
   left : Left out₀ at (rest flags 1 0) out here (rest flags number i ∷ [])
 
-abbrev invariant-loop : tie.invariant-loop
+abbrev invariant-loop : tie.invariant-loop-i
 invariant-loop flags out₀ at here₀ number₀ i₀ out here number i = Inv flags out₀ at out here number i
 
-abbrev decreases-loop : tie.decreases-loop
+abbrev decreases-loop : tie.decreases-loop-i
 decreases-loop flags out₀ at here₀ number₀ i₀ out here number i = length flags - i
 
 -- a turn
-module _ (c : tie.In-loop invariant-loop decreases-loop) where
+module _ (c : tie.In-loop-i invariant-loop decreases-loop) where
   abbrev begin : tie.Start invariant-loop decreases-loop
   begin = c.before.before.before.before
 
@@ -39,16 +39,16 @@ module _ (c : tie.In-loop invariant-loop decreases-loop) where
   flags = begin.args.flags.now
 
   abbrev i : ℕ
-  i = c.before.loop.i
+  i = c.loop-i.i
 
   abbrev number : ℕ
-  number = c.before.loop.number
+  number = c.loop-i.number
 
   abbrev kept : Bool
   kept = get_or flags i false
 
-  inv : Inv flags begin.args.out.now begin.args.at c.before.loop.out c.before.loop.next_at number i
-  inv = c.before.loop.invariant
+  inv : Inv flags begin.args.out.now begin.args.at c.loop-i.out c.loop-i.next_at number i
+  inv = c.loop-i.invariant
 
   parted : {n m : ℕ} → n ≡ cond kept number 0 → m ≡ cond kept (number + 1) number
       → rest flags number i ≡ (entry_line n ++ 10 ∷ []) ++ rest flags m (i + 1)
@@ -56,7 +56,7 @@ module _ (c : tie.In-loop invariant-loop decreases-loop) where
       ap (λ (ns : List ℕ). text_of (map entry_line ns)) (numbers_next flags i number (omega arith))
       ∙ rw (p, q) (text_cons (entry_line (cond kept number 0)) (map entry_line (numbers (cond kept (number + 1) number) (drop (i + 1) flags))))
 
-abbrev its : tie.After-slice-known2 invariant-loop decreases-loop → tie.In-loop invariant-loop decreases-loop
+abbrev its : tie.After-slice_known-in-loop-i-1 invariant-loop decreases-loop → tie.In-loop-i invariant-loop decreases-loop
 its c = c.before.before.before.before.before.before
 
 after_le : (c : Bool) (n m : ℕ) → m ≡ cond c (n + 1) n → m ≤ n + 1
@@ -66,39 +66,37 @@ after_le c n m e = rw e (go c)
     go true = omega arith
     go false = omega arith
 
-loop-holds : tie.Need-loop-init invariant-loop decreases-loop
+loop-holds : tie.Need-loop-i-init invariant-loop decreases-loop
 loop-holds c =
-    let s = c.before.before in
     record {
       within = omega arith;
       named = omega arith;
-      left = left_all _ _ s.requires (sym (append-nil (rest s.args.flags.now 1 0)));
+      left = left_all _ _ c.requires (sym (append-nil (rest c.args.flags.now 1 0)));
     }
 
-put-entry-requires : tie.Need-put-entry-requires invariant-loop decreases-loop
+put-entry-requires : tie.Need-put_entry-next_at-requires invariant-loop decreases-loop
 put-entry-requires c κs =
     let t = c.before.before.before in
-    left_small {v = entry_line c.entry-for.result ++ 10 ∷ []} (left_parts (inv t).left (parted t c.entry-for.ensures refl))
+    left_small {v = entry_line c.entry_for.result ++ 10 ∷ []} (left_parts (inv t).left (parted t c.entry_for.ensures refl))
 
-loop-again : tie.Need-loop-preserved invariant-loop decreases-loop
+loop-again : tie.Need-loop-i-preserved invariant-loop decreases-loop
 loop-again c =
     let p = c.before.before.before in
     let t = p.before.before.before.before in
     record {
       within = omega arith;
-      named = omega (arith, (inv t).named, after_le (kept t) (number t) c.number-after.result c.number-after.ensures);
-      left = left_next (left_parts (inv t).left (parted t p.before.entry-for.ensures c.number-after.ensures)) p.put-entry.ensures;
+      named = omega (arith, (inv t).named, after_le (kept t) (number t) c.number_after-number.result c.number_after-number.ensures);
+      left = left_next (left_parts (inv t).left (parted t p.entry_for.ensures c.number_after-number.ensures)) p.put_entry-next_at.ensures;
     }
 
-all_put : (c : tie.After-loop invariant-loop decreases-loop) → let s = c.before.before.before.before in
-    Put s.args.out.now s.args.at (rest s.args.flags.now 1 0) c.before.loop.out c.before.loop.next_at
+all_put : (c : tie.After-loop-i invariant-loop decreases-loop) →
+    Put c.args.out.now c.args.at (rest c.args.flags.now 1 0) c.loop-i.out c.loop-i.next_at
 unfolding text_of
 all_put c =
-    let l = c.before in
-    left_end l.loop.invariant.left (rw (drop_of_length-le l.before.before.before.args.flags.now {i = l.loop.i} (omega arith)))
+    left_end c.loop-i.invariant.left (rw (drop_of_length-le c.args.flags.now {i = c.loop-i.i} (omega arith)))
 
-pub put-entries-spec : {M : Type 1} → statement M
-put-entries-spec =
+pub put_entries_spec : {M : Type 1} → statement M
+put_entries_spec =
     tie.close
     (tie.spec
     invariant-loop
@@ -107,8 +105,8 @@ put-entries-spec =
     (search rules)
     (search rules)
     put-entry-requires
-    (λ c κs. omega (arith, (inv (its c)).named, (begin (its c)).good))
-    (λ c. omega (arith, (begin (its c.before)).good))
+    (λ c κs. omega (arith, (inv (its c)).named, (begin (its c)).well_formed))
+    (λ c. omega (arith, (begin (its c.before)).well_formed))
     (λ c. omega arith)
     loop-again
     (λ c. put_length (all_put c))

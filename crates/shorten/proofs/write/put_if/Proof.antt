@@ -5,20 +5,18 @@ use Rattle.writer.proofs.Puts.{put_none, put_length}
 use Rattle.shorten.proofs.write.put_if.Statement.{statement}
 use Rattle.shorten.proofs.write.put_if.Tie as tie
 
-put-event-requires : tie.Need-put-event-requires
+put-event-requires : tie.Need-put_event-requires
 unfolding text_of
-put-event-requires c κs = let e = c.before in rw (not-false e.before.before.args.kept e.if1.false) at e.before.before.requires
+put-event-requires c κs = rw (not-false c.args.kept c.if-not-kept.false-raw) at c.requires
 
-returns : tie.Need-returns
+returns : tie.Need-returns-then-not-kept
 unfolding text_of
-returns c = rw (not-true c.before.before.args.kept c.if1.true) (put_none _ _)
+returns c = rw (not-true c.args.kept c.if-not-kept.true-raw) (put_none _ _)
 
-returns-2 : tie.Need-returns-2
+returns-2 : tie.Need-returns
 unfolding text_of
 returns-2 c =
-    let p = c.before.before in
-    let e = p.before.before in
-    rw (not-false e.before.before.args.kept e.if1.false) p.put-event.ensures
+    rw (not-false c.args.kept c.if-not-kept.false-raw) c.put_event.ensures
 
-pub put-if-spec : {M : Type 1} → statement M
-put-if-spec = tie.close (tie.spec returns put-event-requires (λ c. put_length c.before.before.put-event.ensures) returns-2)
+pub put_if_spec : {M : Type 1} → statement M
+put_if_spec = tie.close (tie.spec returns put-event-requires (λ c. put_length c.put_event.ensures) returns-2)

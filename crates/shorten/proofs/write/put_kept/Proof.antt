@@ -31,14 +31,14 @@ record Inv (flags : List Bool) (out₀ : List ℕ) (at : ℕ) (text out : List �
   index : i ≤ from
   left : Left out₀ at (lines (form_of text) (pick flags (events_of text))) out here (rest flags text from i ∷ [])
 
-abbrev invariant-loop : tie.invariant-loop
+abbrev invariant-loop : tie.invariant-loop-event
 invariant-loop flags out₀ at text form here₀ from₀ i₀ out here from i = Inv flags out₀ at text out here from i
 
-abbrev decreases-loop : tie.decreases-loop
+abbrev decreases-loop : tie.decreases-loop-event
 decreases-loop flags out₀ at text form here₀ from₀ i₀ out here from i = length text + 1 - from
 
 -- a turn
-module _ (c : tie.After-next-event invariant-loop decreases-loop) where
+module _ (c : tie.After-next_event invariant-loop decreases-loop) where
   abbrev begin : tie.Start invariant-loop decreases-loop
   begin = c.before.before.before.before.before.before.before
 
@@ -49,71 +49,70 @@ module _ (c : tie.After-next-event invariant-loop decreases-loop) where
   text = begin.args.text.now
 
   abbrev from : ℕ
-  from = c.before.loop.from
+  from = c.loop-event.from
 
   abbrev i : ℕ
-  i = c.before.loop.i
+  i = c.loop-event.i
 
-  inv : Inv flags begin.args.out.now begin.args.at text c.before.loop.out c.before.loop.next_at from i
-  inv = c.before.loop.invariant
+  inv : Inv flags begin.args.out.now begin.args.at text c.loop-event.out c.loop-event.next_at from i
+  inv = c.loop-event.invariant
 
-  form_is : c.before.before.before.form_of_lem.result ≡ form_of text
-  form_is = c.before.before.before.form_of_lem.ensures
+  form_is : c.form_of-form.result ≡ form_of text
+  form_is = c.form_of-form.ensures
 
-  told : {r : EventStep} → c.next-event.result ≡ r → Tells (form_of text) text from r
-  told e = subst (Tells (form_of text) text from) e (subst (λ (f : Form). Tells f text from c.next-event.result) form_is c.next-event.ensures)
+  told : {r : EventStep} → c.next_event.result ≡ r → Tells (form_of text) text from r
+  told e = subst (Tells (form_of text) text from) e (subst (λ (f : Form). Tells f text from c.next_event.result) form_is c.next_event.ensures)
 
 -- its event
-module _ (c : tie.After-event invariant-loop decreases-loop) where
-  abbrev t : tie.After-next-event invariant-loop decreases-loop
-  t = c.before.before
+module _ (c : tie.In-Found invariant-loop decreases-loop) where
+  abbrev t : tie.After-next_event invariant-loop decreases-loop
+  t = c.before
 
   abbrev event : Event
-  event = c.event.given.0.0
+  event = c.in-Found.event
 
   abbrev next : ℕ
-  next = c.event.given.0.1.0
+  next = c.in-Found.next
 
   tells : Tells (form_of (text t)) (text t) (from t) (Found event next)
-  tells = told t c.event.given.1
+  tells = told t c.in-Found.is
 
 -- its line, if it stays, and the others
-module _ (c : tie.After-is-kept invariant-loop decreases-loop) where
-  abbrev e : tie.After-event invariant-loop decreases-loop
-  e = c.before.before
+module _ (c : tie.After-is_kept invariant-loop decreases-loop) where
+  abbrev e : tie.In-Found invariant-loop decreases-loop
+  e = c.before
 
   abbrev form : Form
-  form = (t e).before.before.before.form_of_lem.result
+  form = (t e).form_of-form.result
 
   parted : rest (flags (t e)) (text (t e)) (from (t e)) (i (t e))
-      ≡ lines form (only c.is-kept.result (event e)) ++ rest (flags (t e)) (text (t e)) (next e) (i (t e) + 1)
+      ≡ lines form (only c.is_kept.result (event e)) ++ rest (flags (t e)) (text (t e)) (next e) (i (t e) + 1)
   parted =
       ap (λ (es : List Event). lines (form_of (text (t e))) (pick (drop (i (t e)) (flags (t e))) es)) (tells e).0
       ∙ ap (lines (form_of (text (t e)))) (pick_next (flags (t e)) (i (t e)) (event e) (heard_from (form_of (text (t e))) (text (t e)) (next e)))
       ∙ lines_append (form_of (text (t e))) (only (get_or (flags (t e)) (i (t e)) false) (event e))
       (pick (drop (i (t e) + 1) (flags (t e))) (heard_from (form_of (text (t e))) (text (t e)) (next e)))
-      ∙ ap (λ (b : Bool). lines (form_of (text (t e))) (only b (event e)) ++ rest (flags (t e)) (text (t e)) (next e) (i (t e) + 1)) (sym c.is-kept.ensures)
-      ∙ ap (λ (f : Form). lines f (only c.is-kept.result (event e)) ++ rest (flags (t e)) (text (t e)) (next e) (i (t e) + 1)) (sym (form_is (t e)))
+      ∙ ap (λ (b : Bool). lines (form_of (text (t e))) (only b (event e)) ++ rest (flags (t e)) (text (t e)) (next e) (i (t e) + 1)) (sym c.is_kept.ensures)
+      ∙ ap (λ (f : Form). lines f (only c.is_kept.result (event e)) ++ rest (flags (t e)) (text (t e)) (next e) (i (t e) + 1)) (sym (form_is (t e)))
 
-abbrev its : tie.After-slice-known2 invariant-loop decreases-loop → tie.After-event invariant-loop decreases-loop
-its c = c.before.before.before.before.before.before
+abbrev its : tie.After-slice_known-in-loop-event-1 invariant-loop decreases-loop → tie.In-Found invariant-loop decreases-loop
+its c = c.before.before.before.before.before
 
-loop-holds : tie.Need-loop-init invariant-loop decreases-loop
+loop-holds : tie.Need-loop-event-init invariant-loop decreases-loop
 loop-holds c =
-    let s = c.before.before.before.before.before in
     record {
-      within = omega (arith, c.line-two.ensures, until_le 10 s.args.text.now);
+      within = omega (arith, c.line_two-from.ensures, until_le 10 c.args.text.now);
       index = omega arith;
       left =
-          left_all _ _ s.requires
-          (rw c.line-two.ensures
-          (ap (λ (es : List Event). lines (form_of s.args.text.now) (pick s.args.flags.now es)) (events_start s.args.text.now) ∙ sym (append-nil _)));
+          left_all _ _ c.requires
+          (rw c.line_two-from.ensures
+          (ap (λ (es : List Event). lines (form_of c.args.text.now) (pick c.args.flags.now es)) (events_start c.args.text.now) ∙ sym (append-nil _)));
     }
 
-put-if-requires : tie.Need-put-if-requires invariant-loop decreases-loop
-put-if-requires c κs = let k = c.before in left_small {v = lines (form k) (only k.is-kept.result (event (e k)))} (left_parts (inv (t (e k))).left (parted k))
+put-if-requires : tie.Need-put_if-next_at-requires invariant-loop decreases-loop
+put-if-requires c κs = let k = c.before in left_small {v = lines (form k) (only k.is_kept.result (event (e k)))} (left_parts (inv (t (e k))).left (parted k))
 
-loop-again : tie.Need-loop-preserved invariant-loop decreases-loop
+loop-again : tie.Need-loop-event-preserved invariant-loop decreases-loop
 loop-again c =
     let p = c.before.before in
     let k = p.before.before in
@@ -121,19 +120,19 @@ loop-again c =
     record {
       within = omega (arith, (tells (e k)).1);
       index = omega (arith, v.index, (tells (e k)).1);
-      left = left_next (left_parts v.left (parted k)) p.put_if.ensures;
+      left = left_next (left_parts v.left (parted k)) p.put_if-next_at.ensures;
     }
 
-all_put : (c : tie.After-enum-told invariant-loop decreases-loop) → let o = c.before.before in
-    Put (begin o).args.out.now (begin o).args.at (lines (form_of (text o)) (pick (flags o) (events_of (text o)))) o.before.loop.out o.before.loop.next_at
+all_put : (c : tie.In_default invariant-loop decreases-loop) → let o = c.before in
+    Put (begin o).args.out.now (begin o).args.at (lines (form_of (text o)) (pick (flags o) (events_of (text o)))) o.loop-event.out o.loop-event.next_at
 unfolding text_of
 all_put c =
-    let o = c.before.before in
+    let o = c.before in
     left_end (inv o).left
-    (ap (λ (es : List Event). lines (form_of (text o)) (pick (drop (i o) (flags o)) es)) (told o c.enum_told.given.1) ∙ rw (pick_none (drop (i o) (flags o))))
+    (ap (λ (es : List Event). lines (form_of (text o)) (pick (drop (i o) (flags o)) es)) (told o c.in_default.is) ∙ rw (pick_none (drop (i o) (flags o))))
 
-pub put-kept-spec : {M : Type 1} → statement M
-put-kept-spec =
+pub put_kept_spec : {M : Type 1} → statement M
+put_kept_spec =
     tie.close
     (tie.spec
     invariant-loop
@@ -146,7 +145,7 @@ put-kept-spec =
     (search rules)
     (search rules)
     put-if-requires
-    (λ c. omega (arith, (inv (t (its c))).index, (tells (its c)).1, (begin (t (its c))).good))
+    (λ c. omega (arith, (inv (t (its c))).index, (tells (its c)).1, (begin (t (its c))).well_formed))
     (λ c. omega (arith, (tells (its c)).1))
     loop-again
     (λ c. put_length (all_put c))

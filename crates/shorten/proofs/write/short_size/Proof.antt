@@ -4,5 +4,5 @@ use native.Mathlib.Omega.{arith}
 use Rattle.shorten.proofs.write.short_size.Statement.{statement}
 use Rattle.shorten.proofs.write.short_size.Tie as tie
 
-pub short-size-spec : {M : Type 1} → statement M
-short-size-spec = tie.close (tie.spec (λ c. refl) (λ c κs. c.before.before.before.requires) (λ c. omega (arith, c.before.put-short.ensures.counted)))
+pub short_size_spec : {M : Type 1} → statement M
+short_size_spec = tie.close (tie.spec (λ c. refl) (λ c κs. c.requires) (λ c. omega (arith, c.put_short.ensures.counted)))

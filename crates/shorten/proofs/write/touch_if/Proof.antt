@@ -4,13 +4,13 @@ use Rattle.uses.specs.Way.{ways_of}
 use Rattle.shorten.proofs.write.touch_if.Statement.{statement}
 use Rattle.shorten.proofs.write.touch_if.Tie as tie
 
-returns : tie.Need-returns
+returns : tie.Need-returns-then-kept
 unfolding ways_of
-returns c = rw c.before.before.if1.true c.touch.ensures
+returns c = rw c.if-kept.true c.touch.ensures
 
-returns-2 : tie.Need-returns-2
+returns-2 : tie.Need-returns-else-kept
 unfolding ways_of
-returns-2 c = rw c.if1.false
+returns-2 c = rw c.if-kept.false
 
-pub touch-if-spec : {M : Type 1} → statement M
-touch-if-spec = tie.close (tie.spec (search rules) returns returns-2)
+pub touch_if_spec : {M : Type 1} → statement M
+touch_if_spec = tie.close (tie.spec (search rules) returns returns-2)

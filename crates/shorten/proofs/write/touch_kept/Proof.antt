@@ -29,14 +29,14 @@ record Inv (ways₀ : List ℕ) (flags : List Bool) (text ways : List ℕ) (at i
   index : i ≤ at
   same : ways_of ways₀ (pick flags (events_of text)) ≡ ways_of ways (rest flags text at i)
 
-abbrev invariant-loop : tie.invariant-loop
+abbrev invariant-loop : tie.invariant-loop-event
 invariant-loop ways₀ flags text form at₀ i₀ ways at i = Inv ways₀ flags text ways at i
 
-abbrev decreases-loop : tie.decreases-loop
+abbrev decreases-loop : tie.decreases-loop-event
 decreases-loop ways₀ flags text form at₀ i₀ ways at i = length text + 1 - at
 
 -- a turn
-module _ (c : tie.After-next-event invariant-loop decreases-loop) where
+module _ (c : tie.After-next_event invariant-loop decreases-loop) where
   abbrev begin : tie.Start invariant-loop decreases-loop
   begin = c.before.before.before.before.before.before
 
@@ -47,51 +47,49 @@ module _ (c : tie.After-next-event invariant-loop decreases-loop) where
   text = begin.args.text.now
 
   abbrev at : ℕ
-  at = c.before.loop.at
+  at = c.loop-event.at
 
   abbrev i : ℕ
-  i = c.before.loop.i
+  i = c.loop-event.i
 
   abbrev ways : List ℕ
-  ways = c.before.loop.ways
+  ways = c.loop-event.ways
 
   inv : Inv begin.args.ways.now flags text ways at i
-  inv = c.before.loop.invariant
+  inv = c.loop-event.invariant
 
-  told : {r : EventStep} → c.next-event.result ≡ r → Tells (form_of text) text at r
-  told e = subst (Tells (form_of text) text at) e (subst (λ (f : Form). Tells f text at c.next-event.result) c.before.before.before.form_of_lem.ensures c.next-event.ensures)
+  told : {r : EventStep} → c.next_event.result ≡ r → Tells (form_of text) text at r
+  told e = subst (Tells (form_of text) text at) e (subst (λ (f : Form). Tells f text at c.next_event.result) c.form_of-form.ensures c.next_event.ensures)
 
 -- its event
-module _ (c : tie.After-event invariant-loop decreases-loop) where
-  abbrev t : tie.After-next-event invariant-loop decreases-loop
-  t = c.before.before
+module _ (c : tie.In-Found invariant-loop decreases-loop) where
+  abbrev t : tie.After-next_event invariant-loop decreases-loop
+  t = c.before
 
   abbrev event : Event
-  event = c.event.given.0.0
+  event = c.in-Found.event
 
   abbrev next : ℕ
-  next = c.event.given.0.1.0
+  next = c.in-Found.next
 
   tells : Tells (form_of (text t)) (text t) (at t) (Found event next)
-  tells = told t c.event.given.1
+  tells = told t c.in-Found.is
 
-abbrev its : tie.After-touch-if invariant-loop decreases-loop → tie.After-event invariant-loop decreases-loop
-its c = c.before.before.before.before
+abbrev its : tie.After-touch_if invariant-loop decreases-loop → tie.In-Found invariant-loop decreases-loop
+its c = c.before.before.before
 
-loop-holds : tie.Need-loop-init invariant-loop decreases-loop
+loop-holds : tie.Need-loop-event-init invariant-loop decreases-loop
 loop-holds c = record {
-  within = omega (arith, c.line-two.ensures, until_le 10 c.before.before.before.before.args.text.now);
+  within = omega (arith, c.line_two-at.ensures, until_le 10 c.args.text.now);
   index = omega arith;
   same =
-      let s = c.before.before.before.before in
-      rw c.line-two.ensures (ap (λ (es : List Event). ways_of s.args.ways.now (pick s.args.flags.now es)) (events_start s.args.text.now));
+      rw c.line_two-at.ensures (ap (λ (es : List Event). ways_of c.args.ways.now (pick c.args.flags.now es)) (events_start c.args.text.now));
 }
 
-loop-again : tie.Need-loop-preserved invariant-loop decreases-loop
+loop-again : tie.Need-loop-event-preserved invariant-loop decreases-loop
 loop-again c =
     let e = its c in
     let v = inv (t e) in
-    let k = c.before.before in
     record {
       within = omega (arith, (tells e).1);
       index = omega (arith, v.index, (tells e).1);
@@ -100,17 +98,17 @@ loop-again c =
           ∙ ap (ways_of (ways (t e))) (pick_next (flags (t e)) (i (t e)) (event e) (heard_from (form_of (text (t e))) (text (t e)) (next e)))
           ∙ ways_append (ways (t e)) (only (get_or (flags (t e)) (i (t e)) false) (event e)) (rest (flags (t e)) (text (t e)) (next e) (i (t e) + 1))
           ∙ ap (λ (w : List ℕ). ways_of w (rest (flags (t e)) (text (t e)) (next e) (i (t e) + 1)))
-          (sym (c.touch-if.ensures ∙ ap (λ (b : Bool). ways_of (ways (t e)) (only b (event e))) k.is-kept.ensures));
+          (sym (c.touch_if.ensures ∙ ap (λ (b : Bool). ways_of (ways (t e)) (only b (event e))) c.is_kept.ensures));
     }
 
 returns : tie.Need-returns invariant-loop decreases-loop
 unfolding ways_of
 returns c =
-    let o = c.before.before in
-    sym ((inv o).same ∙ ap (λ (es : List Event). ways_of (ways o) (pick (drop (i o) (flags o)) es)) (told o c.enum_told.given.1) ∙ rw (pick_none (drop (i o) (flags o))))
+    let o = c.before in
+    sym ((inv o).same ∙ ap (λ (es : List Event). ways_of (ways o) (pick (drop (i o) (flags o)) es)) (told o c.in_default.is) ∙ rw (pick_none (drop (i o) (flags o))))
 
-pub touch-kept-spec : {M : Type 1} → statement M
-touch-kept-spec =
+pub touch_kept_spec : {M : Type 1} → statement M
+touch_kept_spec =
     tie.close
     (tie.spec
     invariant-loop
@@ -123,7 +121,7 @@ touch-kept-spec =
     (search rules)
     (search rules)
     (search rules)
-    (λ c. omega (arith, (inv (t (its c))).index, (tells (its c)).1, (begin (t (its c))).good))
+    (λ c. omega (arith, (inv (t (its c))).index, (tells (its c)).1, (begin (t (its c))).well_formed))
     (λ c. omega (arith, (tells (its c)).1))
     loop-again
     returns)
