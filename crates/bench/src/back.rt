@@ -8,7 +8,7 @@ use text::word::same_bytes;
 use trace::form::form_of;
 
 // Whether there is a text to come back, and whether it comes back as it was.
-#[derive(Drop)]
+#[derive(Clone, Copy)]
 pub(crate) struct Back {
     pub there: bool,
     pub right: bool,

@@ -19,14 +19,14 @@ const ENTRY_MARK: Entry = 3735928559;
 const MOST_EVENTS: usize = 800;
 
 // What a check in rooms gives, and whether the rooms hold nothing but what they should.
-#[derive(Drop)]
+#[derive(Clone, Copy)]
 struct InRooms {
     answer: Answer,
     rooms_right: bool,
 }
 
 // What a vector gives, and which of it is what the vector says.
-#[derive(Drop)]
+#[derive(Clone, Copy)]
 struct Outcome {
     answer: Answer,
     answer_right: bool,
@@ -183,16 +183,22 @@ fn is_right(outcome: Outcome) -> bool {
 }
 
 // A check that differs.
-fn print_outcome(ordinal: usize, header: &[u8], outcome: Outcome) {
-    print_differing(ordinal, header, outcome.answer);
-    print_unless(outcome.line_right, b"another line\n");
-    print_unless(outcome.rooms_right, b"a room changed\n");
-    print_unless(outcome.source_back.right, b"another source written\n");
-    print_unless(outcome.target_back.right, b"another target written\n");
+fn print_outcome(rt: &impl Print, ordinal: usize, header: &[u8], outcome: Outcome) {
+    print_differing(rt, ordinal, header, outcome.answer);
+    print_unless(rt, outcome.line_right, b"another line\n");
+    print_unless(rt, outcome.rooms_right, b"a room changed\n");
+    print_unless(rt, outcome.source_back.right, b"another source written\n");
+    print_unless(rt, outcome.target_back.right, b"another target written\n");
 }
 
 // The check of the data that begins at a place, with a list or without.
-pub(crate) fn run_check(group: Word, data: &[u8], at: usize, ordinal: usize) -> Ran {
+pub(crate) fn run_check(
+    rt: &impl Print,
+    group: Word,
+    data: &[u8],
+    at: usize,
+    ordinal: usize,
+) -> Ran {
     let vector = check_vector(group != 0, data, at);
     let header = between(data, at, vector.header_end);
     let outcome = outcome_of(
@@ -209,7 +215,7 @@ pub(crate) fn run_check(group: Word, data: &[u8], at: usize, ordinal: usize) -> 
     let target_back = outcome.target_back;
     let right = is_right(outcome);
     if !right {
-        print_outcome(ordinal, header, outcome);
+        print_outcome(rt, ordinal, header, outcome);
     }
     Ran {
         answer,

@@ -1,5 +1,5 @@
 // How much of a room or of bytes is lent: what a vector says, of what there is.
-ghost use Rattle.io.specs.Counts.{IsPrefixLen};
+ghost use Rattle.files.specs.Counts.{IsPrefixLen};
 
 use event::{Entry, Word};
 

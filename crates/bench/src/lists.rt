@@ -40,7 +40,13 @@ fn is_right(header: &[u8], answer: Answer, back: Back) -> bool {
 }
 
 // The list of the data that begins at a place, read for a group.
-pub(crate) fn run_list(group: Word, data: &[u8], at: usize, ordinal: usize) -> Ran {
+pub(crate) fn run_list(
+    rt: &impl Print,
+    group: Word,
+    data: &[u8],
+    at: usize,
+    ordinal: usize,
+) -> Ran {
     let vector = text_vector(false, data, at);
     let header = between(data, at, vector.header_end);
     let marks = between(data, vector.written, vector.list);
@@ -53,8 +59,8 @@ pub(crate) fn run_list(group: Word, data: &[u8], at: usize, ordinal: usize) -> R
     };
     let right = is_right(header, answer, back);
     if !right {
-        print_differing(ordinal, header, answer);
-        print_unless(back.right, b"other registers\n");
+        print_differing(rt, ordinal, header, answer);
+        print_unless(rt, back.right, b"other registers\n");
     }
     Ran {
         answer,

@@ -26,6 +26,7 @@ use lists::run_list;
 use moves::run_move;
 use runs::run_steps;
 use shorts::run_short;
+use std::rt::Files;
 use tell::{Ran, and_more};
 use vector::forth;
 use writes::run_write;
@@ -34,7 +35,7 @@ use writes::run_write;
 const ANSWERS: usize = 23;
 
 // What the vectors of a file are.
-#[derive(Drop)]
+#[derive(Clone, Copy)]
 enum Task {
     Check,
     Move,
@@ -45,7 +46,7 @@ enum Task {
 }
 
 // How many vectors were run, how many differ, and how many texts came back as they were or steps were followed.
-#[derive(Drop)]
+#[derive(Clone, Copy)]
 struct Totals {
     vectors: usize,
     differing: usize,
@@ -60,8 +61,9 @@ fn vectors_buffer() -> [u8; 2400000]
 }
 
 // The examples, as the program checks them.
-fn print_examples() {
+fn print_examples(rt: &(impl Files + Print)) {
     judge_files(
+        rt,
         Wanted::Answer,
         no_list(),
         b"examples/lock/source",
@@ -69,6 +71,7 @@ fn print_examples() {
         b"examples/lock/matching",
     );
     judge_files(
+        rt,
         Wanted::Answer,
         no_list(),
         b"examples/task/source",
@@ -76,6 +79,7 @@ fn print_examples() {
         b"examples/task/matching",
     );
     judge_files(
+        rt,
         Wanted::Answer,
         no_list(),
         b"examples/code/source",
@@ -83,6 +87,7 @@ fn print_examples() {
         b"examples/code/matching",
     );
     judge_files(
+        rt,
         Wanted::Answer,
         no_list(),
         b"examples/count/source",
@@ -90,6 +95,7 @@ fn print_examples() {
         b"examples/count/matching",
     );
     judge_files(
+        rt,
         Wanted::Answer,
         no_list(),
         b"examples/start/source",
@@ -97,6 +103,7 @@ fn print_examples() {
         b"examples/start/matching",
     );
     judge_files(
+        rt,
         Wanted::Answer,
         no_list(),
         b"examples/claim/source",
@@ -104,6 +111,7 @@ fn print_examples() {
         b"examples/claim/matching",
     );
     judge_files(
+        rt,
         Wanted::Answer,
         no_list(),
         b"examples/shelf/source",
@@ -111,22 +119,25 @@ fn print_examples() {
         b"examples/shelf/matching",
     );
     judge_files(
+        rt,
         Wanted::Answer,
-        list_of(b"examples/sensor/list", 1),
+        list_of(rt, b"examples/sensor/list", 1),
         b"examples/sensor/source",
         b"examples/sensor/target",
         b"examples/sensor/matching",
     );
     judge_files(
+        rt,
         Wanted::Answer,
-        list_of(b"examples/poll/list", 1),
+        list_of(rt, b"examples/poll/list", 1),
         b"examples/poll/source",
         b"examples/poll/target",
         b"examples/poll/matching",
     );
     judge_files(
+        rt,
         Wanted::Answer,
-        list_of(b"examples/gateway/list", 2),
+        list_of(rt, b"examples/gateway/list", 2),
         b"examples/gateway/source",
         b"examples/gateway/target",
         b"examples/gateway/matching",
@@ -141,14 +152,14 @@ fn count(counts: &mut [usize; ANSWERS], number: usize) {
 }
 
 // The vector of the data that begins at a place, run; its list is for a group, and there is none for group 0.
-fn run_at(task: Task, group: Word, data: &[u8], at: usize, ordinal: usize) -> Ran {
+fn run_at(rt: &impl Print, task: Task, group: Word, data: &[u8], at: usize, ordinal: usize) -> Ran {
     match task {
-        Task::Check => run_check(group, data, at, ordinal),
-        Task::Move => run_move(group, data, at, ordinal),
-        Task::Write => run_write(group, data, at, ordinal),
-        Task::Run => run_steps(group, data, at, ordinal),
-        Task::List => run_list(group, data, at, ordinal),
-        Task::Short => run_short(group, data, at, ordinal),
+        Task::Check => run_check(rt, group, data, at, ordinal),
+        Task::Move => run_move(rt, group, data, at, ordinal),
+        Task::Write => run_write(rt, group, data, at, ordinal),
+        Task::Run => run_steps(rt, group, data, at, ordinal),
+        Task::List => run_list(rt, group, data, at, ordinal),
+        Task::Short => run_short(rt, group, data, at, ordinal),
     }
 }
 
@@ -171,7 +182,13 @@ fn after(totals: Totals, ran: Ran) -> Totals {
 }
 
 // All vectors of the data, one after the other.
-fn run_all(task: Task, group: Word, data: &[u8], counts: &mut [usize; ANSWERS]) -> Totals {
+fn run_all(
+    rt: &impl Print,
+    task: Task,
+    group: Word,
+    data: &[u8],
+    counts: &mut [usize; ANSWERS],
+) -> Totals {
     let mut totals = Totals {
         vectors: 0,
         differing: 0,
@@ -179,7 +196,7 @@ fn run_all(task: Task, group: Word, data: &[u8], counts: &mut [usize; ANSWERS]) 
     };
     let mut at: usize = 0;
     while at < data.len() {
-        let ran = run_at(task, group, data, at, and_more(totals.vectors, 1));
+        let ran = run_at(rt, task, group, data, at, and_more(totals.vectors, 1));
         totals = after(totals, ran);
         count(counts, number_index(ran.answer.number));
         let next = forth(data, ran.end, 1);
@@ -192,62 +209,62 @@ fn run_all(task: Task, group: Word, data: &[u8], counts: &mut [usize; ANSWERS]) 
 }
 
 // How many vectors have an answer, if any has it.
-fn print_count(number: usize, vectors: usize) {
+fn print_count(rt: &impl Print, number: usize, vectors: usize) {
     if vectors != 0 {
-        print(b"answer");
-        print_number(number as u64);
-        print_number(vectors as u64);
-        print(b"\n");
+        print(rt, b"answer");
+        print_number(rt, number as u64);
+        print_number(rt, vectors as u64);
+        print(rt, b"\n");
     }
 }
 
 // How many vectors have each answer.
-fn print_counts(counts: &[usize; ANSWERS]) {
+fn print_counts(rt: &impl Print, counts: &[usize; ANSWERS]) {
     let mut number: usize = 0;
     while number < ANSWERS {
-        print_count(number, counts[number]);
+        print_count(rt, number, counts[number]);
         number += 1;
     }
 }
 
 // Every vector of a file run, and the totals printed; `back` says what it is for a text to come back, or that steps were followed.
-fn run_file(task: Task, group: Word, name: &[u8], back: &[u8]) {
+fn run_file(rt: &(impl Files + Print), task: Task, group: Word, name: &[u8], back: &[u8]) {
     let mut counts: [usize; ANSWERS] = [0; ANSWERS];
     let mut data = vectors_buffer();
-    let bytes = read_file(name, &mut data);
-    let totals = run_all(task, group, &data[..bytes], &mut counts);
-    print(name);
-    print_number(totals.vectors as u64);
-    print(b"\ndiffering");
-    print_number(totals.differing as u64);
-    print(b"\n");
-    print(back);
-    print_number(totals.back as u64);
-    print(b"\n");
-    print_counts(&counts);
+    let bytes = read_file(rt, name, &mut data);
+    let totals = run_all(rt, task, group, &data[..bytes], &mut counts);
+    print(rt, name);
+    print_number(rt, totals.vectors as u64);
+    print(rt, b"\ndiffering");
+    print_number(rt, totals.differing as u64);
+    print(rt, b"\n");
+    print(rt, back);
+    print_number(rt, totals.back as u64);
+    print(rt, b"\n");
+    print_counts(rt, &counts);
 }
 
-fn main() {
-    print_examples();
-    run_file(Task::Check, 0, b"vectors", b"written back");
-    run_file(Task::Check, 0, b"forms", b"written back");
-    run_file(Task::Check, 0, b"counters", b"written back");
-    run_file(Task::Check, 0, b"zeros", b"written back");
-    run_file(Task::Check, 0, b"exchanges", b"written back");
-    run_file(Task::Move, 0, b"moves", b"moved back");
-    run_file(Task::Write, 0, b"writes", b"written back");
-    run_file(Task::Run, 0, b"runs", b"steps");
-    run_file(Task::Check, 1, b"lists", b"written back");
-    run_file(Task::List, 1, b"list_texts", b"listed");
-    run_file(Task::Move, 1, b"list_moves", b"moved back");
-    run_file(Task::Write, 1, b"list_writes", b"written back");
-    run_file(Task::Run, 1, b"list_runs", b"steps");
-    run_file(Task::Short, 0, b"shorts", b"accepted");
-    run_file(Task::Short, 1, b"list_shorts", b"accepted");
-    run_file(Task::Check, 2, b"groups", b"written back");
-    run_file(Task::List, 2, b"group_texts", b"listed");
-    run_file(Task::Move, 2, b"group_moves", b"moved back");
-    run_file(Task::Write, 2, b"group_writes", b"written back");
-    run_file(Task::Run, 2, b"group_runs", b"steps");
-    run_file(Task::Short, 2, b"group_shorts", b"accepted");
+fn main(rt: HostRuntime) {
+    print_examples(&rt);
+    run_file(&rt, Task::Check, 0, b"vectors", b"written back");
+    run_file(&rt, Task::Check, 0, b"forms", b"written back");
+    run_file(&rt, Task::Check, 0, b"counters", b"written back");
+    run_file(&rt, Task::Check, 0, b"zeros", b"written back");
+    run_file(&rt, Task::Check, 0, b"exchanges", b"written back");
+    run_file(&rt, Task::Move, 0, b"moves", b"moved back");
+    run_file(&rt, Task::Write, 0, b"writes", b"written back");
+    run_file(&rt, Task::Run, 0, b"runs", b"steps");
+    run_file(&rt, Task::Check, 1, b"lists", b"written back");
+    run_file(&rt, Task::List, 1, b"list_texts", b"listed");
+    run_file(&rt, Task::Move, 1, b"list_moves", b"moved back");
+    run_file(&rt, Task::Write, 1, b"list_writes", b"written back");
+    run_file(&rt, Task::Run, 1, b"list_runs", b"steps");
+    run_file(&rt, Task::Short, 0, b"shorts", b"accepted");
+    run_file(&rt, Task::Short, 1, b"list_shorts", b"accepted");
+    run_file(&rt, Task::Check, 2, b"groups", b"written back");
+    run_file(&rt, Task::List, 2, b"group_texts", b"listed");
+    run_file(&rt, Task::Move, 2, b"group_moves", b"moved back");
+    run_file(&rt, Task::Write, 2, b"group_writes", b"written back");
+    run_file(&rt, Task::Run, 2, b"group_runs", b"steps");
+    run_file(&rt, Task::Short, 2, b"group_shorts", b"accepted");
 }

@@ -21,7 +21,13 @@ fn back_of(group: Word, list: &[u8], answer: Answer, moved: &[u8], text: &[u8]) 
 }
 
 // The move of the data that begins at a place, with a list or without.
-pub(crate) fn run_move(group: Word, data: &[u8], at: usize, ordinal: usize) -> Ran {
+pub(crate) fn run_move(
+    rt: &impl Print,
+    group: Word,
+    data: &[u8],
+    at: usize,
+    ordinal: usize,
+) -> Ran {
     let vector = text_vector(group != 0, data, at);
     let header = between(data, at, vector.header_end);
     let text = between(data, vector.text, vector.written);
@@ -30,5 +36,5 @@ pub(crate) fn run_move(group: Word, data: &[u8], at: usize, ordinal: usize) -> R
     let mut out: [u8; 57300] = [MARK; 57300];
     let answer = move_in(group, list, header, text, &mut out);
     let back = back_of(group, list, answer, moved, text);
-    ran_with(ordinal, header, answer, &out, moved, back, vector.end)
+    ran_with(rt, ordinal, header, answer, &out, moved, back, vector.end)
 }

@@ -12,14 +12,14 @@ use steps::{next_listed, swap_place};
 use text::word::same_bytes;
 
 // How many steps were applied whose lines stand in the text in turn, and whether these are all, of the text and of the run.
-#[derive(Drop)]
+#[derive(Clone, Copy)]
 struct Followed {
     steps: usize,
     whole: bool,
 }
 
 // What a vector gives: `counted` says that the text begins with the number of the steps, or that there are none where it is refused.
-#[derive(Drop)]
+#[derive(Clone, Copy)]
 struct Outcome {
     answer: Answer,
     counted: bool,
@@ -185,7 +185,13 @@ fn is_right(header: &[u8], outcome: Outcome) -> bool {
 }
 
 // The run of the data that begins at a place, with a list or without.
-pub(crate) fn run_steps(group: Word, data: &[u8], at: usize, ordinal: usize) -> Ran {
+pub(crate) fn run_steps(
+    rt: &impl Print,
+    group: Word,
+    data: &[u8],
+    at: usize,
+    ordinal: usize,
+) -> Ran {
     let vector = check_vector(group != 0, data, at);
     let header = between(data, at, vector.header_end);
     let outcome = outcome_of(
@@ -199,9 +205,9 @@ pub(crate) fn run_steps(group: Word, data: &[u8], at: usize, ordinal: usize) -> 
     let followed = outcome.followed;
     let right = is_right(header, outcome);
     if !right {
-        print_differing(ordinal, header, answer);
-        print_unless(outcome.counted, b"another number of steps\n");
-        print_unless(followed.whole, b"another run\n");
+        print_differing(rt, ordinal, header, answer);
+        print_unless(rt, outcome.counted, b"another number of steps\n");
+        print_unless(rt, followed.whole, b"another run\n");
     }
     Ran {
         answer,

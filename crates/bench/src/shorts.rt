@@ -10,7 +10,7 @@ use event::{Answer, Entry, Word};
 use shorten::Shortened;
 
 // Which of it is what the vector says: the answer and the bytes counted, the shortened text, its matching, and what the check says.
-#[derive(Drop)]
+#[derive(Clone, Copy)]
 struct Outcome {
     answer: bool,
     text: bool,
@@ -95,15 +95,25 @@ fn is_right(outcome: Outcome) -> bool {
 }
 
 // A shortening that differs.
-fn print_outcome(ordinal: usize, header: &[u8], answer: Answer, outcome: Outcome) {
-    print_differing(ordinal, header, answer);
-    print_unless(outcome.text, b"another text, or a byte changed\n");
-    print_unless(outcome.matching, b"another matching, or a byte changed\n");
-    print_unless(outcome.check, b"not accepted\n");
+fn print_outcome(rt: &impl Print, ordinal: usize, header: &[u8], answer: Answer, outcome: Outcome) {
+    print_differing(rt, ordinal, header, answer);
+    print_unless(rt, outcome.text, b"another text, or a byte changed\n");
+    print_unless(
+        rt,
+        outcome.matching,
+        b"another matching, or a byte changed\n",
+    );
+    print_unless(rt, outcome.check, b"not accepted\n");
 }
 
 // The shortening of the data that begins at a place, with a list or without.
-pub(crate) fn run_short(group: Word, data: &[u8], at: usize, ordinal: usize) -> Ran {
+pub(crate) fn run_short(
+    rt: &impl Print,
+    group: Word,
+    data: &[u8],
+    at: usize,
+    ordinal: usize,
+) -> Ran {
     let vector = check_vector(group != 0, data, at);
     let header = between(data, at, vector.header_end);
     let text = between(data, vector.source, vector.target);
@@ -123,7 +133,7 @@ pub(crate) fn run_short(group: Word, data: &[u8], at: usize, ordinal: usize) -> 
     };
     let right = is_right(outcome);
     if !right {
-        print_outcome(ordinal, header, answer, outcome);
+        print_outcome(rt, ordinal, header, answer, outcome);
     }
     Ran {
         answer,

@@ -4,7 +4,7 @@ use event::{Answer, number_index};
 use files::print::{print, print_answer, print_number};
 
 // What a vector gives: its answer, whether all is as the vector says, how many texts came back or steps were followed, and where the vector ends.
-#[derive(Drop)]
+#[derive(Clone, Copy)]
 pub(crate) struct Ran {
     pub answer: Answer,
     pub right: bool,
@@ -32,22 +32,22 @@ pub(crate) fn is_said(header: &[u8], answer: Answer) -> bool {
 }
 
 // A vector that differs: its ordinal and name, the answer that it says and the one given.
-pub(crate) fn print_differing(ordinal: usize, header: &[u8], answer: Answer) {
-    print(b"vector");
-    print_number(ordinal as u64);
-    print(b"\t");
-    print(name_of(header));
-    print(b"\nexpected");
-    print_number(number_at(header, NUMBER) as u64);
-    print_number(number_at(header, SIDE) as u64);
-    print_number(number_at(header, PLACE) as u64);
-    print(b"\ngiven");
-    print_answer(answer);
+pub(crate) fn print_differing(rt: &impl Print, ordinal: usize, header: &[u8], answer: Answer) {
+    print(rt, b"vector");
+    print_number(rt, ordinal as u64);
+    print(rt, b"\t");
+    print(rt, name_of(header));
+    print(rt, b"\nexpected");
+    print_number(rt, number_at(header, NUMBER) as u64);
+    print_number(rt, number_at(header, SIDE) as u64);
+    print_number(rt, number_at(header, PLACE) as u64);
+    print(rt, b"\ngiven");
+    print_answer(rt, answer);
 }
 
 // What else of it differs.
-pub(crate) fn print_unless(right: bool, line: &[u8]) {
+pub(crate) fn print_unless(rt: &impl Print, right: bool, line: &[u8]) {
     if !right {
-        print(line);
+        print(rt, line);
     }
 }

@@ -50,7 +50,7 @@ const LIST_BYTES: usize = 10;
 const NAME: usize = 10;
 
 // Where the parts of a check or a run begin; each ends where the next begins. What comes back is the offending line, or the lines of the steps; the list is empty if there is none.
-#[derive(Drop)]
+#[derive(Clone, Copy)]
 pub(crate) struct CheckVector {
     pub header_end: usize,
     pub source: usize,
@@ -62,7 +62,7 @@ pub(crate) struct CheckVector {
 }
 
 // Where the parts of a move or a writing begin. The text that is written is what comes back.
-#[derive(Drop)]
+#[derive(Clone, Copy)]
 pub(crate) struct TextVector {
     pub header_end: usize,
     pub text: usize,

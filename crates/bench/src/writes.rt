@@ -48,7 +48,13 @@ fn back_of(group: Word, list: &[u8], answer: Answer, text: &[u8]) -> Back {
 }
 
 // The writing of the data that begins at a place, with a list or without; its trace is read without.
-pub(crate) fn run_write(group: Word, data: &[u8], at: usize, ordinal: usize) -> Ran {
+pub(crate) fn run_write(
+    rt: &impl Print,
+    group: Word,
+    data: &[u8],
+    at: usize,
+    ordinal: usize,
+) -> Ran {
     let vector = text_vector(group != 0, data, at);
     let header = between(data, at, vector.header_end);
     let written = between(data, vector.written, vector.list);
@@ -59,5 +65,5 @@ pub(crate) fn run_write(group: Word, data: &[u8], at: usize, ordinal: usize) -> 
     change(&mut room, header);
     let answer = write_in(group, list, header, got.memory, &room, &mut out);
     let back = back_of(group, list, answer, written);
-    ran_with(ordinal, header, answer, &out, written, back, vector.end)
+    ran_with(rt, ordinal, header, answer, &out, written, back, vector.end)
 }

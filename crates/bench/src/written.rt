@@ -10,7 +10,7 @@ use text::word::same_bytes;
 pub(crate) const MARK: u8 = 170;
 
 // Which of it is what the vector says: the answer, the text at the front, the bytes behind it, and what comes back.
-#[derive(Drop)]
+#[derive(Clone, Copy)]
 struct Written {
     answer: bool,
     text: bool,
@@ -57,15 +57,16 @@ fn is_right(written: Written) -> bool {
 }
 
 // A move or a writing that differs.
-fn print_written(ordinal: usize, header: &[u8], answer: Answer, written: Written) {
-    print_differing(ordinal, header, answer);
-    print_unless(written.text, b"another text\n");
-    print_unless(written.rest, b"a byte changed\n");
-    print_unless(written.back, b"another text comes back\n");
+fn print_written(rt: &impl Print, ordinal: usize, header: &[u8], answer: Answer, written: Written) {
+    print_differing(rt, ordinal, header, answer);
+    print_unless(rt, written.text, b"another text\n");
+    print_unless(rt, written.rest, b"a byte changed\n");
+    print_unless(rt, written.back, b"another text comes back\n");
 }
 
 // All of it compared with what the vector says.
 pub(crate) fn ran_with(
+    rt: &impl Print,
     ordinal: usize,
     header: &[u8],
     answer: Answer,
@@ -82,7 +83,7 @@ pub(crate) fn ran_with(
     };
     let right = is_right(written);
     if !right {
-        print_written(ordinal, header, answer, written);
+        print_written(rt, ordinal, header, answer, written);
     }
     Ran {
         answer,

@@ -6,12 +6,13 @@ use event::{Answer, EVENT_LIMIT, Entry, Word};
 use memory::listed::Listed;
 
 // What the check of a source and a target found.
-pub(crate) fn print_found<'a>(source: &'a [u8], target: &'a [u8], answer: Answer) {
-    print_answer_line(b"accepted", answer);
-    print_line(offending_line(source, target, answer));
+pub(crate) fn print_found<'a>(rt: &impl Print, source: &'a [u8], target: &'a [u8], answer: Answer) {
+    print_answer_line(rt, b"accepted", answer);
+    print_line(rt, offending_line(source, target, answer));
 }
 
 pub(crate) fn print_check<'a>(
+    rt: &impl Print,
     listed: &Listed,
     source: &'a [u8],
     target: &'a [u8],
@@ -29,5 +30,5 @@ pub(crate) fn print_check<'a>(
         &mut target_room,
         &mut entry_room,
     );
-    print_found(source, target, checked.answer);
+    print_found(rt, source, target, checked.answer);
 }

@@ -5,6 +5,7 @@ use crate::write::write_file;
 use event::Answer;
 use record::form::Form;
 use registers::ListRead;
+use std::rt::Files;
 use writer::moving::move_in;
 
 // A text moved under a list, whose answer comes first.
@@ -18,15 +19,22 @@ fn moved(list: ListRead, to: Form, text: &[u8], out: &mut [u8]) -> Answer {
 }
 
 // The file of this name, moved. The other file is written only if the move is done, and `done` is printed only if it is written.
-pub fn move_file(list: ListRead, to: Form, name: &[u8], out_name: &[u8]) {
+pub fn move_file(
+    rt: &(impl Files + Print),
+    err: &impl Print,
+    list: ListRead,
+    to: Form,
+    name: &[u8],
+    out_name: &[u8],
+) {
     let mut text = text_buffer();
     let mut out = text_buffer();
-    let bytes = read_file(name, &mut text);
+    let bytes = read_file(rt, name, &mut text);
     let answer = moved(list, to, &text[..bytes], &mut out);
     if answer.number == 0 {
-        if !write_file(out_name, front(&out, answer.place)) {
+        if !write_file(rt, err, out_name, front(&out, answer.place)) {
             return;
         }
     }
-    print_answer_line(b"done", answer);
+    print_answer_line(rt, b"done", answer);
 }

@@ -1,6 +1,11 @@
 // Named files, read into buffers. A file that can't be opened counts as an empty text.
 ghost use Rattle.std.specs.Prelude.{◌≡◌, length};
-ghost use Rattle.io.specs.Counts.{IsPrefixLen};
+ghost use Rattle.files.specs.Counts.{IsPrefixLen};
+
+use std::fs::File;
+use std::io;
+use std::io::Read;
+use std::rt::Files;
 
 // One byte more than the longest text, a trace of form 2: a longer file is answer 1 whatever its size.
 pub fn text_buffer() -> [u8; 57301]
@@ -9,15 +14,49 @@ pub fn text_buffer() -> [u8; 57301]
     [0; 57301]
 }
 
-// The bytes of a file.
-pub fn read_file(name: &[u8], buf: &mut [u8]) -> usize
+// The name of a file as the system takes it: no file that can be opened has a name that is not UTF-8.
+pub(crate) fn path_of(name: &[u8]) -> io::Result<&str> {
+    match str::from_utf8(name) {
+        Ok(path) => Ok(path),
+        Err(_) => Err(io::Error::from(io::ErrorKind::InvalidFilename)),
+    }
+}
+
+fn opened<R: Files>(rt: &R, name: &[u8]) -> io::Result<R::File> {
+    File::open(rt, path_of(name)?)
+}
+
+// How many bytes one more read has put at the front of the lent ones: none at the end of the file, and none where the read fails.
+fn read_once(file: &mut impl Read, buf: &mut [u8]) -> usize
     ensures { IsPrefixLen result buf.new }
 {
-    let fd = os::open_read(name);
-    if fd < 0 {
-        return 0;
+    match file.read(buf) {
+        Ok(bytes) => bytes,
+        Err(_) => 0,
     }
-    let got = io::read_full(fd, buf);
-    libc::close(fd);
-    got
+}
+
+// Reads until the lent bytes are full or a read puts none there.
+fn read_full(file: &mut impl Read, buf: &mut [u8]) -> usize
+    ensures { IsPrefixLen result buf.new }
+{
+    let mut done: usize = 0;
+    while done < buf.len() {
+        let bytes = read_once(file, &mut buf[done..]);
+        if bytes == 0 {
+            return done;
+        }
+        done += bytes;
+    }
+    done
+}
+
+// The bytes of a file.
+pub fn read_file(rt: &impl Files, name: &[u8], buf: &mut [u8]) -> usize
+    ensures { IsPrefixLen result buf.new }
+{
+    match opened(rt, name) {
+        Ok(mut file) => read_full(&mut file, buf),
+        Err(_) => 0,
+    }
 }

@@ -7,6 +7,7 @@ use changes::{Run, Step, apply_listed};
 use event::{EVENT_LIMIT, Entry, WORDS, Word};
 use memory::listed::Listed;
 use steps::{next_listed, swap_place};
+use text::write::{DIGITS, put_number};
 use writer::put::write_event;
 
 // The most bytes of a step's line.
@@ -29,8 +30,8 @@ fn put(out: &mut [u8], at: usize, bytes: &[u8]) -> usize {
 
 // A tab and a number.
 fn put_field(out: &mut [u8], at: usize, n: usize) -> usize {
-    let mut digits: [u8; 20] = [0; 20];
-    let size = io::decimal(n as u64, &mut digits);
+    let mut digits: [u8; DIGITS] = [0; DIGITS];
+    let size = put_number(&mut digits, n as u64);
     let after = put(out, at, b"\t");
     put(out, after, &digits[..size])
 }
@@ -78,18 +79,19 @@ pub fn put_step(out: &mut [u8], at: usize, step: Step, source: &[Word], target: 
 }
 
 // The place for another line: what was gathered is written first where too little room is left for it.
-fn with_room(out: &[u8], at: usize) -> usize {
+fn with_room(rt: &impl Print, out: &[u8], at: usize) -> usize {
     if at < out.len() {
         if LINE <= out.len() - at {
             return at;
         }
     }
-    print(front(out, at));
+    print(rt, front(out, at));
     0
 }
 
 // How many steps there are, and every step, as it is applied: none of so many is refused.
 fn print_steps(
+    rt: &impl Print,
     listed: &Listed,
     begun: Run,
     steps: usize,
@@ -115,10 +117,10 @@ fn print_steps(
         let after = applied.run;
         run = after;
         swapped = swap_place(step);
-        let free = with_room(out, at);
+        let free = with_room(rt, out, at);
         at = put_step(out, free, step, source, target);
     }
-    print(front(out, at));
+    print(rt, front(out, at));
 }
 
 // The front of a room that holds so many events.
@@ -131,7 +133,7 @@ fn events_of(room: &[Word], events: usize) -> &[Word] {
 }
 
 // A run in rooms that hold the most: how it begins, what the check stored, and which events stand.
-#[derive(Drop)]
+#[derive(Clone, Copy)]
 pub struct Begun {
     pub started: Started,
     pub source: [Word; 4800],
@@ -190,6 +192,7 @@ pub fn entries_of(started: Started, room: &[Entry]) -> &[Entry] {
 
 // The steps of a run that has begun, with the rooms that the check filled.
 fn print_begun<'a>(
+    rt: &impl Print,
     listed: &Listed,
     started: Started,
     tags: [usize; EVENT_LIMIT],
@@ -197,8 +200,9 @@ fn print_begun<'a>(
     target_room: &'a [Word],
     entry_room: &'a [Entry],
 ) {
-    let mut out = io::large_buffer();
+    let mut out: [u8; 65536] = [0; 65536];
     print_steps(
+        rt,
         listed,
         started.run,
         started.cost,
@@ -210,14 +214,21 @@ fn print_begun<'a>(
     );
 }
 
-pub(crate) fn print_run<'a>(listed: &Listed, source: &'a [u8], target: &'a [u8], matching: &[u8]) {
+pub(crate) fn print_run<'a>(
+    rt: &impl Print,
+    listed: &Listed,
+    source: &'a [u8],
+    target: &'a [u8],
+    matching: &[u8],
+) {
     let begun = begin(listed, source, target, matching);
     let started = begun.started;
     let checked = started.checked;
     let answer = checked.answer;
-    print_found(source, target, answer);
+    print_found(rt, source, target, answer);
     if answer.number == 0 {
         print_begun(
+            rt,
             listed,
             started,
             begun.tags,

@@ -4,6 +4,7 @@ use crate::read::{read_file, text_buffer};
 use crate::write::write_file;
 use registers::ListRead;
 use shorten::{Shortened, shorten_in};
+use std::rt::Files;
 
 // A text shortened under a list, whose answer comes first.
 fn shortened(list: ListRead, text: &[u8], out: &mut [u8], matching_out: &mut [u8]) -> Shortened {
@@ -20,20 +21,32 @@ fn shortened(list: ListRead, text: &[u8], out: &mut [u8], matching_out: &mut [u8
 }
 
 // The file of this name, shortened. The two others are written only if the shortening is done, and `done` is printed only if they are.
-pub fn shorten_file(list: ListRead, name: &[u8], out_name: &[u8], matching_name: &[u8]) {
+pub fn shorten_file(
+    rt: &(impl Files + Print),
+    err: &impl Print,
+    list: ListRead,
+    name: &[u8],
+    out_name: &[u8],
+    matching_name: &[u8],
+) {
     let mut text = text_buffer();
     let mut out = text_buffer();
     let mut matching_out = text_buffer();
-    let bytes = read_file(name, &mut text);
+    let bytes = read_file(rt, name, &mut text);
     let made = shortened(list, &text[..bytes], &mut out, &mut matching_out);
     let answer = made.answer;
     if answer.number == 0 {
-        if !write_file(out_name, front(&out, made.bytes)) {
+        if !write_file(rt, err, out_name, front(&out, made.bytes)) {
             return;
         }
-        if !write_file(matching_name, front(&matching_out, made.matching_bytes)) {
+        if !write_file(
+            rt,
+            err,
+            matching_name,
+            front(&matching_out, made.matching_bytes),
+        ) {
             return;
         }
     }
-    print_answer_line(b"done", answer);
+    print_answer_line(rt, b"done", answer);
 }

@@ -4,8 +4,10 @@
 
 use files::program::{Wanted, judge_named};
 
-fn main() {
+fn main(rt: HostRuntime) {
     judge_named(
+        &rt,
+        &rt.stderr(),
         Wanted::Run,
         b"usage: laprunto_run SOURCE TARGET MATCHING [--list FILE] [--group N] (N is 1 or 2)\n",
     );

@@ -2,29 +2,34 @@
 // writes the shortened text and the matching from the long one to it, and prints the answer.
 #![tactic(auto)]
 
-use files::args::{is_short, options_of};
+use files::args::{is_short, options_of, word_at, word_buffer};
 use files::list::list_given;
 use files::shortening::shorten_file;
 
 // A word too few or too many is no shortening.
-fn main() {
+fn main(rt: HostRuntime) {
+    let err = rt.stderr();
     let options = options_of(
+        &rt,
+        &err,
         b"usage: laprunto_shorten TRACE OUT MATCHING [--list FILE] [--group N] (N is 1 or 2)\n",
     );
     if !options.right {
         return;
     }
-    if is_short() {
+    if is_short(&rt) {
         return;
     }
-    let mut name = io::buffer();
-    let mut out_name = io::buffer();
-    let mut matching_name = io::buffer();
-    let name_bytes = os::arg(1, &mut name);
-    let out_bytes = os::arg(2, &mut out_name);
-    let matching_bytes = os::arg(3, &mut matching_name);
+    let mut name = word_buffer();
+    let mut out_name = word_buffer();
+    let mut matching_name = word_buffer();
+    let name_bytes = word_at(&rt, 1, &mut name);
+    let out_bytes = word_at(&rt, 2, &mut out_name);
+    let matching_bytes = word_at(&rt, 3, &mut matching_name);
     shorten_file(
-        list_given(options),
+        &rt,
+        &err,
+        list_given(&rt, options),
         &name[..name_bytes],
         &out_name[..out_bytes],
         &matching_name[..matching_bytes],

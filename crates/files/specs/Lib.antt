@@ -1,0 +1,2 @@
+-- What the contracts of the shared program parts cite. Assumes nothing.
+pub mod Counts
