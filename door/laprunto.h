@@ -1,7 +1,7 @@
 /* Laprunto for C: reading, writing, moving, shortening and checking of traces, with a list of device registers or without, the line at fault, and the
  * run of an accepted matching.
  *
- * Link target/staticlib/libexport.a (`rt staticlib export`). Each function is proved against its contract in
+ * Link crates/export/out/libexport.a (`rt lib` in crates/export). Each function is proved against its contract in
  * crates/export/src and wants no other library than C's own memcpy, memmove and memset.
  *
  * Slices. A text or a room is a pointer and the number of its elements: bytes of a text, words or entries of a room. Any number is fine, 0 too,
