@@ -33,7 +33,7 @@ fn put_field(out: &mut [u8], at: usize, n: usize) -> usize {
     let mut digits: [u8; DIGITS] = [0; DIGITS];
     let size = put_number(&mut digits, n as u64);
     let after = put(out, at, b"\t");
-    put(out, after, &digits[..size])
+    put(out, after, front(&digits, size))
 }
 
 // A tab and the line of the event of a number, with its LF.

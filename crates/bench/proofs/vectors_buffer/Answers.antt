@@ -2,14 +2,10 @@
 use Prim.Native.Nat.{ℕ}
 use mathlib.Core.Path.{◌≡◌, sym}
 use lib.ListN.{length, replicate, length-replicate}
-use Rattle.bench.proofs.vectors_buffer.Statement.{statement}
-use Rattle.bench.proofs.vectors_buffer.Tie as tie
+use Rattle.bench.proofs.vectors_buffer.Goals as goal
 
 counted : (n : ℕ) → n ≡ length (replicate {0} {A = ℕ} n 0)
 counted n = sym (length-replicate {0} {A = ℕ} n 0)
 
-returns : tie.Need-returns
+pub returns : goal.returns
 returns c = counted 2400000
-
-pub vectors-buffer-spec : {M : Type 1} → statement M
-vectors-buffer-spec = tie.close (tie.spec returns)
