@@ -17,7 +17,7 @@ use memory::listed::Listed;
 use tag::fill;
 
 // What comes of a beginning: the check's result, the run, which has begun if the matching is accepted, and how many steps it has to its end.
-#[derive(Drop)]
+#[derive(Clone, Copy)]
 pub struct Started {
     pub checked: Checked,
     pub run: Run,
