@@ -6,10 +6,10 @@ use Rattle.export.proofs.laprunto_check.Tie as tie
 
 returns : tie.Need-returns
 returns c =
-    let k = c.before.before.before.before.before.before.before.before.before.before.check_in_lem in
+    let k = c.check_in-checked in
     let e = k.ensures in
-    check_laid _ k.result _ _ _ _ _ _ _ _ _ e.result e.source e.target e.entries c.lay-check.ensures
+    check_laid _ k.result _ _ _ _ _ _ _ _ _ e.result e.source e.target e.entries c.lay_check.ensures
 
-pub laprunto-check-spec : {M : Type 1} → statement M
-laprunto-check-spec =
+pub laprunto_check_spec : {M : Type 1} → statement M
+laprunto_check_spec =
     tie.close (tie.spec (search rules) (search rules) (search rules) (search rules) (search rules) returns)

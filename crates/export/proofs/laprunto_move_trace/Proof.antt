@@ -8,14 +8,12 @@ use Rattle.export.proofs.laprunto_move_trace.Tie as tie
 
 returns : tie.Need-returns
 returns c =
-    let m = c.before.before.before in
-    let n = m.before.before in
-    let a = n.before.before.before.args in
+    let a = c.args in
     written_laid (λ (f : Form). move_of f a.text.now a.out.now) (λ (f : Form). moved_out f a.text.now a.out.now) _ _
-    m.move-to.result _ _ m.move-to.ensures n.form-numbered.ensures c.answer-numbers.ensures
+    c.move_to-moved.result _ _ c.move_to-moved.ensures c.form_numbered.ensures c.answer_numbers.ensures
 
-pub laprunto-move-trace-spec : {M : Type 1} → statement M
-laprunto-move-trace-spec =
+pub laprunto_move_trace_spec : {M : Type 1} → statement M
+laprunto_move_trace_spec =
     tie.close
     (tie.spec
     (search rules)

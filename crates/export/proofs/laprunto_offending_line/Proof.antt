@@ -6,11 +6,9 @@ use Rattle.export.proofs.laprunto_offending_line.Tie as tie
 
 returns : tie.Need-returns
 returns c =
-    let k = c.before.before.before in
-    let n = k.before in
-    let a = n.before.before.before.args in
-    span_laid a.source.now a.target.now n.new.result _ k.offending-span.result _ _ k.offending-span.ensures n.new.ensures
-    c.lay-span.ensures
+    let a = c.args in
+    span_laid a.source.now a.target.now c.new.result _ c.offending_span-part.result _ _ c.offending_span-part.ensures c.new.ensures
+    c.lay_span.ensures
 
-pub laprunto-offending-line-spec : {M : Type 1} → statement M
-laprunto-offending-line-spec = tie.close (tie.spec (search rules) (search rules) (search rules) returns)
+pub laprunto_offending_line_spec : {M : Type 1} → statement M
+laprunto_offending_line_spec = tie.close (tie.spec (search rules) (search rules) (search rules) returns)

@@ -7,8 +7,8 @@ use Rattle.export.proofs.laprunto_read_matching.Tie as tie
 
 returns : tie.Need-returns
 returns c =
-    let r = c.before.before.before.read in
-    (c.matching-numbers.ensures ∙ ap matching_numbers r.ensures.0, r.ensures.1)
+    let r = c.read-read in
+    (c.matching_numbers.ensures ∙ ap matching_numbers r.ensures.0, r.ensures.1)
 
-pub laprunto-read-matching-spec : {M : Type 1} → statement M
-laprunto-read-matching-spec = tie.close (tie.spec (search rules) (search rules) (search rules) returns)
+pub laprunto_read_matching_spec : {M : Type 1} → statement M
+laprunto_read_matching_spec = tie.close (tie.spec (search rules) (search rules) (search rules) returns)

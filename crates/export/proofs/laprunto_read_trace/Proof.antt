@@ -6,9 +6,9 @@ use Rattle.export.proofs.laprunto_read_trace.Tie as tie
 
 returns : tie.Need-returns
 returns c =
-    let r = c.before.before.before.before.before.read in
-    let h = read_laid _ r.result _ _ r.ensures.0 c.lay-trace.ensures in
+    let r = c.read-read in
+    let h = read_laid _ r.result _ _ r.ensures.0 c.lay_trace.ensures in
     (h.0, (h.1, r.ensures.1))
 
-pub laprunto-read-trace-spec : {M : Type 1} → statement M
-laprunto-read-trace-spec = tie.close (tie.spec (search rules) (search rules) (search rules) returns)
+pub laprunto_read_trace_spec : {M : Type 1} → statement M
+laprunto_read_trace_spec = tie.close (tie.spec (search rules) (search rules) (search rules) returns)

@@ -6,7 +6,7 @@ use Rattle.export.proofs.laprunto_trace_form.Statement.{statement}
 use Rattle.export.proofs.laprunto_trace_form.Tie as tie
 
 returns : tie.Need-returns
-returns c = c.form-number.ensures ∙ ap form_number c.before.form_of_lem.ensures
+returns c = c.form_number.ensures ∙ ap form_number c.form_of.ensures
 
-pub laprunto-trace-form-spec : {M : Type 1} → statement M
-laprunto-trace-form-spec = tie.close (tie.spec (search rules) (search rules) returns)
+pub laprunto_trace_form_spec : {M : Type 1} → statement M
+laprunto_trace_form_spec = tie.close (tie.spec (search rules) (search rules) returns)

@@ -9,14 +9,13 @@ use Rattle.export.proofs.laprunto_write_trace.Tie as tie
 
 returns : tie.Need-returns
 returns c =
-    let w = c.before.before.before in
-    let a = w.before.before.before.before.before.before.args in
+    let a = c.args in
     let m = starting a.memory.now in
     written_laid (λ (f : Form). write_of f m a.room.now a.out.now) (λ (f : Form). out_after f m a.room.now a.out.now) _ _
-    w.write.result _ _ w.write.ensures w.before.before.form-numbered.ensures c.answer-numbers.ensures
+    c.write-written.result _ _ c.write-written.ensures c.form_numbered.ensures c.answer_numbers.ensures
 
-pub laprunto-write-trace-spec : {M : Type 1} → statement M
-laprunto-write-trace-spec =
+pub laprunto_write_trace_spec : {M : Type 1} → statement M
+laprunto_write_trace_spec =
     tie.close
     (tie.spec
     (search rules)

@@ -9,15 +9,11 @@ use Rattle.export.proofs.listed.laprunto_apply_listed.Tie as tie
 
 returns : tie.Need-returns
 returns c =
-    let k = c.before.before in
-    let r = k.before.before in
-    let n = r.before.before.before.before in
-    let m = n.before in
-    let a = m.before.before.before.before.args in
-    applied_laid (view_in m.Listed-of.result) _ (whole_events a.source.now) (whole_events a.target.now) r.run-numbered.result _ a.tags.now _
-    n.step-numbered.result _ k.apply-listed.result _ c.lay-applied.result k.apply-listed.ensures
-    (ap view_in m.Listed-of.ensures) r.run-numbered.ensures n.step-numbered.ensures c.lay-applied.ensures
+    let a = c.args in
+    applied_laid (view_in c.listed_of-named.result) _ (whole_events a.source.now) (whole_events a.target.now) c.run_numbered.result _ a.tags.now _
+    c.step_numbered-step.result _ c.apply_listed-applied.result _ c.lay_applied.result c.apply_listed-applied.ensures
+    (ap view_in c.listed_of-named.ensures) c.run_numbered.ensures c.step_numbered-step.ensures c.lay_applied.ensures
 
-pub laprunto-apply-listed-spec : {M : Type 1} → statement M
-laprunto-apply-listed-spec =
+pub laprunto_apply_listed_spec : {M : Type 1} → statement M
+laprunto_apply_listed_spec =
     tie.close (tie.spec (search rules) (search rules) (search rules) (search rules) (search rules) (search rules) (search rules) returns)

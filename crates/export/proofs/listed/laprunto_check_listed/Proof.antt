@@ -6,10 +6,10 @@ use Rattle.export.proofs.listed.laprunto_check_listed.Tie as tie
 
 returns : tie.Need-returns
 returns c =
-    let k = c.before.before.before.before.before.before.before.before.before.before.check-listed in
+    let k = c.check_listed-checked in
     let e = k.ensures in
-    check_laid _ k.result _ _ _ _ _ _ _ _ _ e.result e.source e.target e.entries c.lay-check.ensures
+    check_laid _ k.result _ _ _ _ _ _ _ _ _ e.result e.source e.target e.entries c.lay_check.ensures
 
-pub laprunto-check-listed-spec : {M : Type 1} → statement M
-laprunto-check-listed-spec =
+pub laprunto_check_listed_spec : {M : Type 1} → statement M
+laprunto_check_listed_spec =
     tie.close (tie.spec (search rules) (search rules) (search rules) (search rules) (search rules) returns)

@@ -9,15 +9,13 @@ use Rattle.export.proofs.listed.laprunto_move_trace_listed.Tie as tie
 
 returns : tie.Need-returns
 returns c =
-    let m = c.before.before.before in
-    let n = m.before.before in
-    let a = n.before.before.before.before.args in
+    let a = c.args in
     written_laid (λ (f : Form). move_listed (list_of a.group a.list.now) f a.text.now a.out.now)
-    (λ (f : Form). moved_listed (list_of a.group a.list.now) f a.text.now a.out.now) _ _ m.move-listed.result _ _ m.move-listed.ensures n.form-numbered.ensures
-    c.answer-numbers.ensures
+    (λ (f : Form). moved_listed (list_of a.group a.list.now) f a.text.now a.out.now) _ _ c.move_listed-moved.result _ _ c.move_listed-moved.ensures c.form_numbered.ensures
+    c.answer_numbers.ensures
 
-pub laprunto-move-trace-listed-spec : {M : Type 1} → statement M
-laprunto-move-trace-listed-spec =
+pub laprunto_move_trace_listed_spec : {M : Type 1} → statement M
+laprunto_move_trace_listed_spec =
     tie.close
     (tie.spec
     (search rules)

@@ -9,12 +9,10 @@ use Rattle.export.proofs.listed.laprunto_next_listed.Tie as tie
 
 returns : tie.Need-returns
 returns c =
-    let r = c.before.before in
-    let m = r.before.before.before.before in
-    let a = m.before.before.before.before.before.args in
-    step_laid (view_in m.Listed-of.result) _ (whole_events a.source.now) (whole_events a.target.now) a.entries.now a.swapped
-    r.run-numbered.result _ a.tags.now c.before.next-listed.result c.step-numbers.result c.step-numbers.ensures
-    c.before.next-listed.ensures (ap view_in m.Listed-of.ensures) r.run-numbered.ensures
+    let a = c.args in
+    step_laid (view_in c.listed_of-named.result) _ (whole_events a.source.now) (whole_events a.target.now) a.entries.now a.swapped
+    c.run_numbered.result _ a.tags.now c.next_listed-wanted.result c.step_numbers.result c.step_numbers.ensures
+    c.next_listed-wanted.ensures (ap view_in c.listed_of-named.ensures) c.run_numbered.ensures
 
-pub laprunto-next-listed-spec : {M : Type 1} → statement M
-laprunto-next-listed-spec = tie.close (tie.spec (search rules) (search rules) (search rules) (search rules) (search rules) (search rules) returns)
+pub laprunto_next_listed_spec : {M : Type 1} → statement M
+laprunto_next_listed_spec = tie.close (tie.spec (search rules) (search rules) (search rules) (search rules) (search rules) (search rules) returns)

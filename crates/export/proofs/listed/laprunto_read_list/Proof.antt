@@ -8,11 +8,10 @@ use Rattle.export.proofs.listed.laprunto_read_list.Tie as tie
 
 returns : tie.Need-returns
 returns c =
-    let m = c.before in
-    let r = m.before.before.read in (
-      c.answer-numbers.ensures ∙ ap (λ (x : ListRead). answer_numbers x.answer) r.ensures,
-      m.marks-of.ensures ∙ ap (λ (x : ListRead). marks x.listed) r.ensures,
+    let r = c.read-read in (
+      c.answer_numbers.ensures ∙ ap (λ (x : ListRead). answer_numbers x.answer) r.ensures,
+      c.marks_of.ensures ∙ ap (λ (x : ListRead). marks x.listed) r.ensures,
     )
 
-pub laprunto-read-list-spec : {M : Type 1} → statement M
-laprunto-read-list-spec = tie.close (tie.spec (search rules) (search rules) (search rules) returns)
+pub laprunto_read_list_spec : {M : Type 1} → statement M
+laprunto_read_list_spec = tie.close (tie.spec (search rules) (search rules) (search rules) returns)

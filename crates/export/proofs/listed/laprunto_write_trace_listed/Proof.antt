@@ -10,16 +10,15 @@ use Rattle.export.proofs.listed.laprunto_write_trace_listed.Tie as tie
 
 returns : tie.Need-returns
 returns c =
-    let w = c.before.before.before in
-    let a = w.before.before.before.before.before.before.before.args in
+    let a = c.args in
     let m = starting a.memory.now in
-    let form = w.before.before.form-numbered in
+    let form = c.form_numbered in
     written_laid (λ (f : Form). write_listed (list_of a.group a.list.now) f m a.room.now a.out.now)
-    (λ (f : Form). out_listed (list_of a.group a.list.now) f m a.room.now a.out.now) _ _ w.write-listed.result _ _ w.write-listed.ensures form.ensures
-    c.answer-numbers.ensures
+    (λ (f : Form). out_listed (list_of a.group a.list.now) f m a.room.now a.out.now) _ _ c.write_listed-written.result _ _ c.write_listed-written.ensures form.ensures
+    c.answer_numbers.ensures
 
-pub laprunto-write-trace-listed-spec : {M : Type 1} → statement M
-laprunto-write-trace-listed-spec =
+pub laprunto_write_trace_listed_spec : {M : Type 1} → statement M
+laprunto_write_trace_listed_spec =
     tie.close
     (tie.spec
     (search rules)

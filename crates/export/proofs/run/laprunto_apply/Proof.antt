@@ -9,14 +9,11 @@ use Rattle.export.proofs.run.laprunto_apply.Tie as tie
 
 returns : tie.Need-returns
 returns c =
-    let k = c.before.before in
-    let r = k.before.before in
-    let n = r.before.before.before in
-    let a = n.before.before.before.args in
-    applied_laid view view (whole_events a.source.now) (whole_events a.target.now) r.run-numbered.result _ a.tags.now _ n.step-numbered.result _
-    k.apply.result _ c.lay-applied.result k.apply.ensures refl r.run-numbered.ensures n.step-numbered.ensures
-    c.lay-applied.ensures
+    let a = c.args in
+    applied_laid view view (whole_events a.source.now) (whole_events a.target.now) c.run_numbered.result _ a.tags.now _ c.step_numbered-step.result _
+    c.apply-applied.result _ c.lay_applied.result c.apply-applied.ensures refl c.run_numbered.ensures c.step_numbered-step.ensures
+    c.lay_applied.ensures
 
-pub laprunto-apply-spec : {M : Type 1} → statement M
-laprunto-apply-spec =
+pub laprunto_apply_spec : {M : Type 1} → statement M
+laprunto_apply_spec =
     tie.close (tie.spec (search rules) (search rules) (search rules) (search rules) (search rules) (search rules) returns)

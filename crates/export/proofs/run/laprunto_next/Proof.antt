@@ -9,10 +9,9 @@ use Rattle.export.proofs.run.laprunto_next.Tie as tie
 
 returns : tie.Need-returns
 returns c =
-    let r = c.before.before in
-    let a = r.before.before.before.before.before.before.args in
-    step_laid view view (whole_events a.source.now) (whole_events a.target.now) a.entries.now a.swapped r.run-numbered.result _ a.tags.now
-    c.before.next.result c.step-numbers.result c.step-numbers.ensures c.before.next.ensures refl r.run-numbered.ensures
+    let a = c.args in
+    step_laid view view (whole_events a.source.now) (whole_events a.target.now) a.entries.now a.swapped c.run_numbered.result _ a.tags.now
+    c.next-wanted.result c.step_numbers.result c.step_numbers.ensures c.next-wanted.ensures refl c.run_numbered.ensures
 
-pub laprunto-next-spec : {M : Type 1} → statement M
-laprunto-next-spec = tie.close (tie.spec (search rules) (search rules) (search rules) (search rules) (search rules) returns)
+pub laprunto_next_spec : {M : Type 1} → statement M
+laprunto_next_spec = tie.close (tie.spec (search rules) (search rules) (search rules) (search rules) (search rules) returns)

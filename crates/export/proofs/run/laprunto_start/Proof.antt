@@ -6,11 +6,11 @@ use Rattle.export.proofs.run.laprunto_start.Tie as tie
 
 returns : tie.Need-returns
 returns c =
-    let k = c.before.before.before.before.before.before.before.before.before.start in
+    let k = c.start-started in
     let e = k.ensures in
     started_laid _ k.result _ _ _ _ _ _ _ _ _ _ e.result e.source e.target e.entries e.left
-    c.lay-start.ensures
+    c.lay_start.ensures
 
-pub laprunto-start-spec : {M : Type 1} → statement M
-laprunto-start-spec =
+pub laprunto_start_spec : {M : Type 1} → statement M
+laprunto_start_spec =
     tie.close (tie.spec (search rules) (search rules) (search rules) (search rules) (search rules) returns)

@@ -7,8 +7,8 @@ use Rattle.export.proofs.short.laprunto_shorten_listed.Tie as tie
 
 returns : tie.Need-returns
 returns c =
-    let s = c.before.before.before.before.before.shorten-listed in
-    record { numbers = c.shortened-numbers.ensures ∙ ap shortened_numbers s.ensures.result; shortened = s.ensures.text; matched = s.ensures.matching }
+    let s = c.shorten_listed-shortened in
+    record { numbers = c.shortened_numbers.ensures ∙ ap shortened_numbers s.ensures.result; shortened = s.ensures.text; matched = s.ensures.matching }
 
-pub laprunto-shorten-listed-spec : {M : Type 1} → statement M
-laprunto-shorten-listed-spec = tie.close (tie.spec (search rules) (search rules) (search rules) (search rules) returns)
+pub laprunto_shorten_listed_spec : {M : Type 1} → statement M
+laprunto_shorten_listed_spec = tie.close (tie.spec (search rules) (search rules) (search rules) (search rules) returns)
