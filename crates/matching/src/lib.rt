@@ -19,7 +19,7 @@ use text::line::{LineStep, line_two, next_line};
 const MATCHING_LIMIT: usize = 32400;
 
 // What a reading hands back: its answer and the number of entries, 0 under a refusal.
-#[derive(Drop)]
+#[derive(Clone, Copy)]
 pub struct MatchingRead {
     pub answer: Answer,
     pub entries: usize,

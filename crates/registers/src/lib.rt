@@ -29,7 +29,7 @@ const GROUPS: usize = 3;
 const RANKS: Word = 256;
 
 // What a reading hands back: its answer, and which locations are listed, none under a refusal.
-#[derive(Drop)]
+#[derive(Clone, Copy)]
 pub struct ListRead {
     pub answer: Answer,
     pub listed: [bool; PLACES],

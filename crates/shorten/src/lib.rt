@@ -25,7 +25,7 @@ use uses::{UNTOUCHED, Ways};
 use write::{matching_size, put_matching, put_short, short_size, touch_kept};
 
 // What comes back: the answer, and how many bytes the shortened text and its matching have, 0 under a refusal.
-#[derive(Drop)]
+#[derive(Clone, Copy)]
 pub struct Shortened {
     pub answer: Answer,
     pub bytes: usize,

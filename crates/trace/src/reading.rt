@@ -21,7 +21,7 @@ use uses::cover::{idle_fault, lacks_line};
 use uses::{UNTOUCHED, Ways, use_listed};
 
 // What a reading hands back: its answer, the number of events and the starting memory, both 0 under a refusal.
-#[derive(Drop)]
+#[derive(Clone, Copy)]
 pub struct TraceRead {
     pub answer: Answer,
     pub events: usize,
