@@ -49,6 +49,7 @@ fn digits_of(s: &[u8], max: u64) -> NumberRead
 }
 
 // The number that a word is, if it is one and at most `max`.
+#[tactic(auto, unfolding(crate::specs::Number::number_of))]
 pub fn number_of(s: &[u8], max: u64) -> NumberRead
     ensures { result ≡ number_of max s.now }
 {

@@ -2,6 +2,7 @@
 use mathlib.Core.Bool.{Bool}
 use mathlib.Core.List.{List}
 use mathlib.Core.Path.{◌≡◌, sym, ◌∙◌, ap}
+use native.Mathlib.Omega.{arith}
 use borrow.Author.Rules.{rules}
 use Rattle.event.specs.declared.Answer.{Answer}
 use Rattle.trace.specs.Reading.{events_of, front, read_in}
@@ -10,7 +11,8 @@ use Rattle.trace.proofs.Readings.{read_stores}
 use Rattle.matching.specs.Reading.{entries_of, front as entry_front, read_of as matching_read}
 use Rattle.matching.specs.declared.MatchingRead.{MatchingRead}
 use Rattle.matching.proofs.Readings.{read_stores as matching_stores}
-use Rattle.checker.specs.Check.{Lent, lent, source_read_in, target_read_in, entries_read}
+use Rattle.checker.specs.Check.{Lent, lent, source_read_in, target_read_in, entries_read, refused, ChecksIn}
+use Rattle.checker.specs.declared.Checked.{Checked}
 use Rattle.checker.proofs.Answers.{by_source, by_target, by_entries, refuses, checks_judged}
 use Rattle.checker.proofs.Filled.{Filled, Entered, filled, entered, judged_is}
 use Rattle.checker.proofs.check_in.Statement.{statement}
@@ -39,14 +41,17 @@ target_is : (c : tie.After-survey_in-t) → target_read_in (marks (first_of c.be
 unfolding read_in
 target_is c = sym c.survey_in-t.ensures
 
-abbrev second_of : tie.Else-target_answer-ne0 → tie.After-survey_in-t
-second_of c = c.before.before.before
+-- what the second test found is left to `omega`, so that no name of the test stands here
+abbrev second_of : tie.After-survey_in-m → tie.After-survey_in-t
+second_of c = c.before.before.before.before
 
-target_passes : (c : tie.Else-target_answer-ne0) → (target_read_in (marks (first_of (second_of c).before)) (given (first_of (second_of c).before))).answer.number ≡ 0
-target_passes c = ap (λ (r : TraceRead). r.answer.number) (target_is (second_of c)) ∙ c.if-target_answer-ne0.false
+target_passes : (c : tie.After-survey_in-m) → (target_read_in (marks (first_of (second_of c).before)) (given (first_of (second_of c).before))).answer.number ≡ 0
+target_passes c =
+    let passes : c.survey_in-t.result.answer.number ≡ 0 = omega arith in
+    ap (λ (r : TraceRead). r.answer.number) (target_is (second_of c)) ∙ passes
 
 abbrev of-entries : tie.After-survey_in-m → tie.After-survey_in-s
-of-entries c = first_of (second_of c.before).before
+of-entries c = first_of (second_of c).before
 
 entries_are : (c : tie.After-survey_in-m) → entries_read (given (of-entries c)) ≡ c.survey_in-m.result
 unfolding matching_read
@@ -62,10 +67,10 @@ abbrev all-marks : tie.Else-matching_answer-ne0 → List Bool
 all-marks c = marks (of-entries (third_of c))
 
 source_passed : (c : tie.Else-matching_answer-ne0) → (source_read_in (all-marks c) (all-given c)).answer.number ≡ 0
-source_passed c = source_passes (second_of (third_of c).before).before
+source_passed c = source_passes (second_of (third_of c)).before
 
 target_passed : (c : tie.Else-matching_answer-ne0) → (target_read_in (all-marks c) (all-given c)).answer.number ≡ 0
-target_passed c = target_passes (third_of c).before
+target_passed c = target_passes (third_of c)
 
 entries_passed : (c : tie.Else-matching_answer-ne0) → (entries_read (all-given c)).answer.number ≡ 0
 entries_passed c = ap (λ (r : MatchingRead). r.answer.number) (entries_are (third_of c)) ∙ c.if-matching_answer-ne0.false
@@ -88,8 +93,8 @@ target_stored : (c : tie.After-store-2) → let l = all-given (passed₂ c) in c
 target_stored c = c.store-2.ensures ∙ read_stores _ 2 _ _ (target_passed (passed₂ c))
 
 target_filled : (c : tie.After-store-2)
-    → Filled (all-given (passed₂ c)).target (second_of (third_of (passed₂ c)).before).survey_in-t.result c.store-2.new.room
-target_filled c = filled _ 2 _ _ (target_passed (passed₂ c)) _ (target_is (second_of (third_of (passed₂ c)).before)) _ (target_stored c)
+    → Filled (all-given (passed₂ c)).target (second_of (third_of (passed₂ c))).survey_in-t.result c.store-2.new.room
+target_filled c = filled _ 2 _ _ (target_passed (passed₂ c)) _ (target_is (second_of (third_of (passed₂ c)))) _ (target_stored c)
 
 abbrev passed₃ : tie.After-store-3 → tie.Else-matching_answer-ne0
 passed₃ c = passed₂ c.before.before.before.before
@@ -106,20 +111,19 @@ returns c =
     refuses (marks v) (given v) _ _ (by_source (marks v) (given v) (rw (source_is v) c.if-source_answer-ne0.true) ∙ ap (λ (r : TraceRead). r.answer) (source_is v))
     c.if-source_answer-ne0.true c.refusal.ensures
 
-returns-2 : tie.Need-returns-then-target_answer-ne0
-returns-2 c =
-    let w = c.before.before.before.before in
-    let l = given (first_of w.before) in
-    let m = marks (first_of w.before) in
-    refuses m l _ _ (by_target m l (source_passes w.before) (rw (target_is w) c.if-target_answer-ne0.true) ∙ ap (λ (r : TraceRead). r.answer) (target_is w))
-    c.if-target_answer-ne0.true c.refusal-then-target_answer-ne0.ensures
+-- the target refuses
+refused_by_target : (m : List Bool) (l : Lent) (s t : TraceRead) (r : Checked) → source_read_in m l ≡ s → s.answer.number ≡ 0 → target_read_in m l ≡ t
+    → (t.answer.number ≡ 0 → ⊥) → r ≡ refused t.answer → ChecksIn m l r l.source_room_of l.target_room_of l.entry_room_of
+refused_by_target m l s t r is passes it stops q =
+    refuses m l r t.answer
+    (by_target m l (ap (λ (a : TraceRead). a.answer.number) is ∙ passes) (rw it stops) ∙ ap (λ (a : TraceRead). a.answer) it) stops q
 
 returns-3 : tie.Need-returns-then-matching_answer-ne0
 returns-3 c =
     let x = c.before.before.before.before in
     let l = given (of-entries x) in
     let m = marks (of-entries x) in
-    refuses m l _ _ (by_entries m l (source_passes (second_of x.before).before) (target_passes x.before)
+    refuses m l _ _ (by_entries m l (source_passes (second_of x).before) (target_passes x)
     ∙ ap (λ (r : MatchingRead). r.answer) (entries_are x))
     c.if-matching_answer-ne0.true c.refusal-then-matching_answer-ne0.ensures
 
@@ -139,12 +143,13 @@ returns-4 c =
     let l = all-given p in
     let m = all-marks p in
     checks_judged m l _ _ _ _ (ap (λ (a : Answer). a.number) (by_entries m l (source_passed p) (target_passed p)) ∙ entries_passed p)
-    (c.judged.ensures ∙ judged_is m l _ _ _ _ _ _ (source_is (of-entries (third_of p))) (target_is (second_of (third_of p).before))
+    (c.judged.ensures ∙ judged_is m l _ _ _ _ _ _ (source_is (of-entries (third_of p))) (target_is (second_of (third_of p)))
     (entries_are (third_of p))
     (source_filled f) (target_filled g) (entries_filled e))
     (source_stored f) (target_stored g) (entries_stored e)
 
 pub check_in_spec : {M : Type 1} → statement M
+unfolding read_in
 check_in_spec =
     tie.close
     (tie.spec
@@ -153,7 +158,11 @@ check_in_spec =
     returns
     (search rules)
     (search rules)
-    returns-2
+    (λ c.
+    let a = c.args in
+    refused_by_target a.listed.now
+    (lent a.source.now a.target.now a.matching.now a.source_room.now a.target_room.now a.entry_room.now) c.survey_in-s.result
+    c.survey_in-t.result _ (sym c.survey_in-s.ensures) (omega arith) (sym c.survey_in-t.ensures) (omega arith) (search rules))
     (search rules)
     (search rules)
     returns-3
