@@ -14,7 +14,7 @@ pub fn text_buffer() -> [u8; 57301]
     [0; 57301]
 }
 
-// The name of a file as the system takes it: no file that can be opened has a name that is not UTF-8.
+// The name of a file as std takes it: one that is not UTF-8 counts as that of a file that can't be opened.
 pub(crate) fn path_of(name: &[u8]) -> io::Result<&str> {
     match str::from_utf8(name) {
         Ok(path) => Ok(path),

@@ -1,6 +1,6 @@
 // The locations that a list names: a device's registers, of which a load returns what the device holds.
 ghost use Rattle.std.specs.Prelude.{◌≡◌};
-ghost use Rattle.memory.specs.Listed.{listed as is_listed_lem, is_register};
+ghost use Rattle.memory.specs.Listed.{listed as is_in_list, is_register};
 
 use event::{Event, PLACES, Word, index_of};
 use kinds::{LAST_PLACE, is_plain};
@@ -10,7 +10,7 @@ pub type Listed = [bool; PLACES];
 
 // Whether a location is listed; a number beyond the last location is not.
 pub fn is_listed(listed: &Listed, place: Word) -> bool
-    ensures { result ≡ is_listed_lem listed.now place }
+    ensures { result ≡ is_in_list listed.now place }
 {
     if LAST_PLACE < place {
         return false;

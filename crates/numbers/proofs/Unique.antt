@@ -13,7 +13,7 @@ use Rattle.numbers.proofs.step_numbered.Reads as step_numbered
 use Rattle.numbers.proofs.form_number.Reads as form_number
 use Rattle.numbers.proofs.form_numbered.Reads as form_numbered
 use Rattle.numbers.proofs.marks_of.Reads as marks_of
-use Rattle.numbers.proofs.listed_of.Reads as Listed-of
+use Rattle.numbers.proofs.listed_of.Reads as ListedOf
 
 answer_numbers_one : OneAnswer answer_numbers.Post
 answer_numbers_one κ a x y s t h k = h ∙ sym k
@@ -51,5 +51,5 @@ form_numbered_one κ a x y s t h k = h ∙ sym k
 marks_of_one : OneAnswer marks_of.Post
 marks_of_one κ a x y s t h k = h ∙ sym k
 
-listed_of_one : OneAnswer Listed-of.Post
+listed_of_one : OneAnswer ListedOf.Post
 listed_of_one κ a x y s t h k = h ∙ sym k

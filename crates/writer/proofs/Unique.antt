@@ -5,7 +5,7 @@ use Rattle.writer.proofs.write.Reads as write
 use Rattle.writer.proofs.write_in.Reads as write_in
 use Rattle.writer.proofs.write_listed.Reads as write_listed
 use Rattle.writer.proofs.moving.move_to.Reads as move_to
-use Rattle.writer.proofs.moving.move_in.Reads as Move-in
+use Rattle.writer.proofs.moving.move_in.Reads as MoveIn
 use Rattle.writer.proofs.moving.move_listed.Reads as move_listed
 use Rattle.writer.proofs.put.write_event.Reads as write_event
 use Rattle.writer.proofs.put.put.Reads as put
@@ -43,10 +43,10 @@ write_listed_one κ a x y s t h k = h.0 ∙ sym k.0
 write_listed_room : OneOf write_listed.Post (λ κ r s. s.1.1.1.1.1.0.now)
 write_listed_room κ a x y s t h k = h.1 ∙ sym k.1
 
-move_in_one : OneAnswer Move-in.Post
+move_in_one : OneAnswer MoveIn.Post
 move_in_one κ a x y s t h k = h.0 ∙ sym k.0
 
-move_in_room : OneOf Move-in.Post (λ κ r s. s.1.1.1.0.now)
+move_in_room : OneOf MoveIn.Post (λ κ r s. s.1.1.1.0.now)
 move_in_room κ a x y s t h k = h.1 ∙ sym k.1
 
 move_listed_one : OneAnswer move_listed.Post
