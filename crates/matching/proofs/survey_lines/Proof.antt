@@ -7,6 +7,8 @@ use native.Mathlib.Omega.{arith}
 use borrow.Author.Rules.{rules}
 use borrow.Author.Tests.{le-leb, lt-leb}
 use lib.ListN.{length}
+use Rattle.event.specs.Answer.{answer}
+use Rattle.event.specs.Limit.{event_limit}
 use Rattle.text.specs.Line.{line_at, split_from, said_in}
 use Rattle.text.specs.declared.line.LineStep.TheVariants.{Line}
 use Rattle.text.proofs.Walk.{part, Next, next}
@@ -58,18 +60,12 @@ returns c =
     let e = c.before.before.before in
     tried_stop (l (t e)).loop-to.invariant c.refusal.ensures (here (t e)) c.new.ensures refl (rw (is e c.in_default-entry_of.is))
 
-returns-2 : tie.Need-returns-then-n-ge-EVENT_LIMIT invariant-loop decreases-loop
-returns-2 c =
-    let e = c.before.before.before.before in
-    tried_stop (l (t e)).loop-to.invariant c.refusal-then-n-ge-EVENT_LIMIT.ensures (here (t e)) c.new-then-n-ge-EVENT_LIMIT.ensures refl
-    (rw (is e c.in-Entry.is, le-leb _ _ c.if-n-ge-EVENT_LIMIT.true))
-
 loop-again : tie.Need-loop-to-preserved invariant-loop decreases-loop
 unfolding said_in
 loop-again c =
     let e = c.before.before in
     let i = is e c.in-Entry.is in
-    tried_go (l (t e)).loop-to.invariant (here (t e)) (omega arith) (rw (i, lt-leb _ _ c.if-n-ge-EVENT_LIMIT.false)) refl
+    tried_go (l (t e)).loop-to.invariant (here (t e)) (omega arith) (rw (i, lt-leb event_limit (l (t e)).loop-to.n (omega arith))) refl
     (λ m ls. let z : (l (t e)).loop-to.n + suc (length (entries_in (m ∷ ls))) ≡ (l (t e)).loop-to.n + 1 + length (entries_in (m ∷ ls)) = omega arith in rw (i, z))
 
 returns-3 : tie.Need-returns-then-at-text invariant-loop decreases-loop
@@ -105,7 +101,10 @@ survey_lines_spec =
     (λ c. omega (arith, line (t c.before.before)))
     (search rules)
     (search rules)
-    returns-2
+    (λ c.
+    let e = c.before.before.before.before in
+    tried_stop (l (t e)).loop-to.invariant {b = answer 3 3 ((l (t e)).loop-to.n + 2)} (search rules) (here (t e)) refl refl
+    (rw (is e c.in-Entry.is, le-leb event_limit (l (t e)).loop-to.n (omega arith))))
     (λ c. omega (arith, line (t c.before.before)))
     (λ c. omega (arith, line (t c.before.before)))
     (λ c. omega (arith, line (t c.before.before)))

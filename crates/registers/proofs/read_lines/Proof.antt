@@ -1,7 +1,7 @@
 -- The reading from each line on is that from the next line on, until a line is refused or no LF is left; nothing may stand after the last one. A
 -- location that is read is below 256, and so has its mark, and a group that is read has its count. Assumes nothing.
 use Prim.Native.Nat.{ℕ, ◌+◌, ◌-◌, ◌≤◌, ◌<◌}
-use mathlib.Core.Bool.{Bool, ◌||◌}
+use mathlib.Core.Bool.{Bool, false, ◌||◌}
 use mathlib.Core.List.{List, ◌∷◌}
 use mathlib.Core.Path.{◌≡◌, refl, sym, ◌∙◌, ap}
 use native.Mathlib.Omega.{arith}
@@ -25,7 +25,6 @@ use Rattle.registers.proofs.Marks.{length_marked, marking_line}
 use Rattle.registers.proofs.Prints.{reg_back}
 use Rattle.registers.proofs.OneText.{group_in, neither}
 use Rattle.registers.proofs.read_lines.Statement.{statement}
-use Rattle.registers.proofs.read_lines.Lts.{then-register-group, else-register-group}
 use Rattle.registers.proofs.read_lines.Tie as tie
 
 record Inv (grouped : Bool) (text : List ℕ) (g from : ℕ) (listed : List Bool) (counts : List ℕ) (at low n : ℕ) : Type 0 where
@@ -113,25 +112,13 @@ module _ (c : tie.After-is_refused invariant-loop decreases-loop) where
       → (ltb (rank (it r)) q.loop-to.low || leb reg_limit (get_or q.loop-to.counts (it r).group 0)) ≡ b
   told e = sym (rw own at c.is_refused.ensures) ∙ e
 
--- it is marked if it is the group's
-module _ (c : tie.Joined-register-group invariant-loop decreases-loop) where
-  abbrev f : tie.After-is_refused invariant-loop decreases-loop
-  f = c.before.before.before
-
-  marks_are : c.if-register-group.listed ≡ marked_for (begin (q f)).args.group (q f).loop-to.listed (it (r f))
-  unfolding marked_for
-  marks_are =
-      elim c.if-register-group.branch [
-        | then-register-group w ↦ w.listed-is ∙ rw (w.index_of.ensures, eq-eqb _ _ w.if-register-group.true)
-        | else-register-group w ↦ w.listed-is ∙ rw (ne_eqb _ _ w.if-register-group.false)
-      ]
-
-  -- it is not one too many of its group
-  few : get_or (q f).loop-to.counts f.index_of-own.result 0 < reg_limit
+-- it is not refused, so it is not one too many of its group
+module _ (c : tie.After-is_refused invariant-loop decreases-loop) (fine : c.is_refused.result ≡ false) where
+  few : get_or (q c).loop-to.counts c.index_of-own.result 0 < reg_limit
   few =
-      let counts = (q f).loop-to.counts in
-      let n = (neither (ltb (rank (it (r f))) (q f).loop-to.low) _ (told f c.if-is_refused.false)).1 in
-      omega (arith, ap (λ (i : ℕ). get_or counts i 0) (own f), leb-false reg_limit (get_or counts (it (r f)).group 0) n)
+      let counts = (q c).loop-to.counts in
+      let n = (neither (ltb (rank (it (r c))) (q c).loop-to.low) _ (told c fine)).1 in
+      omega (arith, ap (λ (i : ℕ). get_or counts i 0) (own c), leb-false reg_limit (get_or counts (it (r c)).group 0) n)
 
 -- what is known after it
 counted : (counts : List ℕ) (low : ℕ) (r : Register) (i : ℕ) → i ≡ r.group
@@ -152,16 +139,23 @@ returns-2 c =
     tried_stop (inv (q i)).walk c.refusal-then-is_refused.ensures (here (p (r i))) c.new-then-is_refused.ensures refl
     (rw (reg (r i), told i c.if-is_refused.true))
 
-loop-again : tie.Need-loop-to-preserved invariant-loop decreases-loop
-loop-again c =
-    let i = f c in
+-- what a turn leaves, where it marks the register if it is the group's
+turn : (c : tie.After-is_refused invariant-loop decreases-loop) (fine : c.is_refused.result ≡ false) {marks : List Bool}
+    → marks ≡ marked_for (begin (q c)).args.group (q c).loop-to.listed (it (r c))
+    → Inv (grouped (q c)) (text (q c)) (begin (q c)).args.group (begin (q c)).args.from marks
+    (set (q c).loop-to.counts c.index_of-own.result (get_or (q c).loop-to.counts c.index_of-own.result 0 + 1)) (to (p (r c)) + 1) (rank (it (r c)) + 1) ((q c).loop-to.n + 1)
+turn c fine are =
     record {
-      sizes = (ap length (marks_are c) ∙ (length_marked _ _ _ ∙ (inv (q i)).sizes.0), simp length-set (inv (q i)).sizes.1);
+      sizes = (ap length are ∙ (length_marked _ _ _ ∙ (inv (q c)).sizes.0), simp length-set (inv (q c)).sizes.1);
       walk =
-          tried_go (inv (q i)).walk (here (p (r i))) (omega arith) (rw (reg (r i), told i c.if-is_refused.false))
-          (ap (after_reg _) (reg (r i)) ∙ counted (q i).loop-to.counts (q i).loop-to.low (it (r i)) _ (own i))
-          (λ m ls. marking_line _ _ _ _ m ls _ (reg (r i)) ∙ ap (λ (b : List Bool). marking (grouped (q i)) (begin (q i)).args.group b (m ∷ ls)) (sym (marks_are c)));
+          tried_go (inv (q c)).walk (here (p (r c))) (omega arith) (rw (reg (r c), told c fine))
+          (ap (after_reg _) (reg (r c)) ∙ counted (q c).loop-to.counts (q c).loop-to.low (it (r c)) _ (own c))
+          (λ m ls. marking_line _ _ _ _ m ls _ (reg (r c)) ∙ ap (λ (b : List Bool). marking (grouped (q c)) (begin (q c)).args.group b (m ∷ ls)) (sym are));
     }
+
+loop-again : tie.Need-loop-to-preserved invariant-loop decreases-loop
+unfolding marked_for
+loop-again c = turn c.before.before.before c.if-is_refused.false (grind (rules, arith, eq-eqb, ne_eqb))
 
 returns-3 : tie.Need-returns-then-at-text invariant-loop decreases-loop
 returns-3 c =
@@ -209,12 +203,12 @@ read_lines_spec =
     (λ c. omega (arith, bounds (r c.before.before.before.before), c.index_of.ensures, (inv (q c.before.before.before.before)).sizes))
     (λ c. omega (arith, bounds (r c.before.before.before), own c.before.before.before))
     (λ c. omega (arith, bounds (r c.before.before.before), own c.before.before.before, (inv (q c.before.before.before)).sizes))
-    (λ c. omega (arith, few c))
-    (λ c. omega (arith, bounds (r (f c)), own (f c), (inv (q (f c))).sizes))
-    (λ c. omega (arith, bounds (r (f c))))
-    (λ c. omega (arith, line (p (r (f c)))))
-    (λ c. omega (arith, line (p (r (f c)))))
-    (λ c. omega (arith, line (p (r (f c)))))
+    (λ c. omega (arith, few c.before.before.before c.if-is_refused.false))
+    (λ c. omega (arith, bounds (r c.before.before.before), own c.before.before.before, (inv (q c.before.before.before)).sizes))
+    (λ c. omega (arith, bounds (r c.before.before.before)))
+    (λ c. omega (arith, line (p (r c.before.before.before))))
+    (λ c. omega (arith, line (p (r c.before.before.before))))
+    (λ c. omega (arith, line (p (r c.before.before.before))))
     loop-again
     (λ c. omega (arith, (inv c.before.before).walk.lined))
     (search rules)

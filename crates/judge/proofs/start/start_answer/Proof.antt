@@ -1,12 +1,13 @@
 -- From each cell on the answer is that from the next cell on, until two cells differ at a location that is not listed or none is left. Assumes nothing.
 use Prim.Native.Nat.{ℕ, ◌+◌, ◌-◌, ◌≤◌, ◌<◌}
-use mathlib.Core.Bool.{Bool, false}
+use mathlib.Core.Bool.{Bool, true, false}
 use mathlib.Core.List.{List, ◌∷◌}
 use mathlib.Core.Path.{◌≡◌, refl, sym, ◌∙◌}
 use native.Mathlib.Numerals.{add-one}
 use native.Mathlib.Omega.{arith}
 use lib.ListN.{length, drop, get_or}
 use lib.Seq.{drop-cons, drop-length}
+use borrow.Author.Rules.{rules}
 use borrow.Author.Tests.{le-leb}
 use Rattle.event.specs.Answer.{done}
 use Rattle.event.specs.Limit.{last_place, places}
@@ -66,12 +67,12 @@ loop-again c = (omega arith, from_here c.before ∙ (start_goes _ _ _ _ _ _ c.if
 loop-again-2 : tie.Need-loop-i-preserved invariant-loop decreases-loop
 loop-again-2 c =
     let i = c.before.before.before.before in
-    (omega arith, from_here i ∙ (start_skips _ _ _ _ _ _ (marked i c.if-listed-at.true) ∙ rw (add-one (index i))))
+    (omega arith, from_here i ∙ (start_skips _ _ _ _ _ _ (marked i {b = true} (search rules)) ∙ rw (add-one (index i))))
 
 returns : tie.Need-returns-in-loop-i invariant-loop decreases-loop
 returns c =
     let i = c.before.before.before.before.before in
-    c.new.ensures ∙ sym (from_here i ∙ start_stops _ _ _ _ _ _ c.if-cells-at.false (marked i c.if-listed-at.false))
+    c.new.ensures ∙ sym (from_here i ∙ start_stops _ _ _ _ _ _ c.if-cells-at.false (marked i {b = false} (search rules)))
 
 returns-2 : tie.Need-returns invariant-loop decreases-loop
 returns-2 c =

@@ -1,5 +1,5 @@
 -- A number field, the end, and not 0. Assumes nothing.
-use mathlib.Core.Path.{sym, ◌∙◌}
+use mathlib.Core.Path.{◌≡◌, sym, ◌∙◌}
 use native.Mathlib.Omega.{arith}
 use borrow.Author.Tests.{not-true, not-false, ne_eqb}
 use Rattle.matching.specs.Entry.{keep_rest}
@@ -18,12 +18,6 @@ returns-2 c =
     sym (took _ _ _ _ _ (sym c.take_number.ensures ∙ c.in-Number.is) _ _
     ∙ not_ended _ _ _ _ (sym c.ends_at.ensures ∙ not-true _ c.if-not-ends_at.true-raw))
 
-returns-3 : tie.Need-returns-then-value-eq0
-unfolding keep_rest
-returns-3 c =
-    sym (took _ _ _ _ _ (sym c.take_number.ensures ∙ c.in-Number.is) _ _
-    ∙ (ended _ _ _ _ (sym c.ends_at.ensures ∙ not-false _ c.if-not-ends_at.false-raw) ∙ rw c.if-value-eq0.true))
-
 cast-t8 : tie.Need-overflow_cast-result
 cast-t8 c =
     omega (arith, taken_le _ _ _ _ _ (sym c.take_number.ensures ∙ c.in-Number.is))
@@ -32,9 +26,10 @@ returns-4 : tie.Need-returns
 unfolding keep_rest
 returns-4 c =
     sym (took _ _ _ _ _ (sym c.take_number.ensures ∙ c.in-Number.is) _ _
-    ∙ (ended _ _ _ _ (sym c.ends_at.ensures ∙ not-false _ c.if-not-ends_at.false-raw) ∙ rw (ne_eqb _ _ c.if-value-eq0.false)))
+    ∙ (ended _ _ _ _ (sym c.ends_at.ensures ∙ not-false _ c.if-not-ends_at.false-raw) ∙ rw (ne_eqb c.in-Number.value 0 (omega arith))))
 
 pub keep_rest_spec : {M : Type 1} → statement M
+unfolding keep_rest
 keep_rest_spec =
     tie.close
     (tie.spec
@@ -44,6 +39,9 @@ keep_rest_spec =
     returns
     (search rules)
     returns-2
-    returns-3
+    (λ c.
+    let zero : c.in-Number.value ≡ 0 = omega arith in
+    sym (took _ _ _ _ _ (sym c.take_number.ensures ∙ c.in-Number.is) _ _
+    ∙ (ended _ _ _ _ (sym c.ends_at.ensures ∙ not-false _ c.if-not-ends_at.false-raw) ∙ rw zero)))
     cast-t8
     returns-4)
