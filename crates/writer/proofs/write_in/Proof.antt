@@ -3,6 +3,7 @@ use Prim.Native.Nat.{ℕ}
 use mathlib.Core.Bool.{Bool}
 use mathlib.Core.List.{List}
 use mathlib.Core.Path.{◌≡◌, refl, sym, ◌∙◌, ap}
+use native.Mathlib.Omega.{arith}
 use lib.ListN.{length}
 use Rattle.event.specs.Room.{onward}
 use Rattle.event.specs.declared.Answer.{Answer}
@@ -37,8 +38,8 @@ abbrev start : tie.After-count_of-n → tie.Start
 start c = c.before.before.before.before.before.before
 
 -- no refusal so far
-none : (c : tie.Else-fault-ne0) → (fault c.before.before.before.before.before).number ≡ 0
-none c = ap (λ (a : Answer). a.number) (sym c.write_fault-fault.ensures) ∙ c.if-fault-ne0.false
+none : (c : tie.After-count_of-n) → (fault (start c)).number ≡ 0
+none c = let z : c.write_fault-fault.result.number ≡ 0 = omega arith in ap (λ (a : Answer). a.number) (sym c.write_fault-fault.ensures) ∙ z
 
 -- so the events have a text
 fit : (c : tie.After-count_of-n) → let a = (start c).args in Fits a.form a.memory (onward a.room.now 0 c.count_of-n.result)
@@ -47,7 +48,7 @@ fit c =
     let s = start c in
     let a = s.args in
     let n = c.count_of-n.ensures in
-    let d = first_done (room_fault_in a.listed.now a.memory a.room.now) (lost a.form 0 1 (room_events a.room.now)) (none c.before) in
+    let d = first_done (room_fault_in a.listed.now a.memory a.room.now) (lost a.form 0 1 (room_events a.room.now)) (none c) in
     let f = room_sound a.listed.now a.memory a.room.now n d.0 in
     let g = s.well_formed.1.1.0.1.1.0 in
     room_fits a.room.now a.form a.memory c.count_of-n.result
@@ -84,19 +85,12 @@ touched-all c = c.before.before
 size_is : (c : tie.After-size_of-size) → c.size_of-size.result ≡ length (text (start (e (touched-all c))))
 size_is c = c.size_of-size.ensures ∙ ap length (by_ways_is (touched-all c))
 
-returns : tie.Need-returns-then-fault-ne0
-unfolding write_in out_after_in
-returns c =
-    let f = c.before.before in
-    let s = f.before.before.before in
-    refused (fault s) (text s) (out s) f.write_fault-fault.ensures c.if-fault-ne0.true
-
 returns-2 : tie.Need-returns-then-out-size
 unfolding write_in out_after_in
 returns-2 c =
     let z = c.before.before in
     let s = start (e (touched-all z)) in
-    short (fault s) (text s) (out s) (none (e (touched-all z)).before) (size_is z) c.if-out-size.true c.new.ensures
+    short (fault s) (text s) (out s) (none (e (touched-all z))) (size_is z) c.if-out-size.true c.new.ensures
 
 returns-3 : tie.Need-returns
 unfolding write_in out_after_in
@@ -104,15 +98,19 @@ returns-3 c =
     let p = c.before.before.before in
     let z = p.before.before.before.before in
     let s = start (e (touched-all z)) in
-    written (fault s) (text s) (out s) (none (e (touched-all z)).before) (size_is z) {next = p.put_text.result} p.if-out-size.false c.new-2.ensures
+    written (fault s) (text s) (out s) (none (e (touched-all z))) (size_is z) {next = p.put_text.result} p.if-out-size.false c.new-2.ensures
     (rw (← by_ways_is (touched-all z)) p.put_text.ensures)
 
 pub write_in_spec : {M : Type 1} → statement M
+unfolding write_in out_after_in
 write_in_spec =
     tie.close
     (tie.spec
     (λ c κs. tt)
-    returns
+    (λ c.
+    let f = c.before.before in
+    let s = f.before.before.before in
+    refused (fault s) (text s) (out s) f.write_fault-fault.ensures (omega arith))
     (λ c κs. tt)
     (λ c κs. tt)
     (λ c κs. below c.before)

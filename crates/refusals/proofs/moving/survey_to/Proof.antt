@@ -1,6 +1,7 @@
 -- Line 1, then the reading's answers, then 19. Assumes nothing.
 use mathlib.Core.Path.{◌≡◌, sym, ◌∙◌, ap}
 use borrow.Author.Rules.{rules}
+use native.Mathlib.Omega.{arith}
 use Rattle.event.specs.declared.Answer.{Answer}
 use Rattle.trace.specs.Moving.{move_head}
 use Rattle.trace.specs.Reading.{survey_in}
@@ -29,18 +30,17 @@ returns c = c.refusal.ensures ∙ by_head _ _ _ c.move_head-head.ensures c.if-he
 returns-2 : tie.Need-returns-then-found-ne0
 returns-2 c = let s = c.before.before.before in by_reading _ _ _ (head s.before) s.survey-surveyed.ensures c.if-found-ne0.true
 
-returns-3 : tie.Need-returns-then-loss-ne0
-returns-3 c =
-    let l = c.before.before.before in
-    c.refusal-then-loss-ne0.ensures ∙ by_loss _ _ _ (head (surveyed l.before).before) (reading l.before) l.loss_in-loss.ensures c.if-loss-ne0.true
-
 returns-4 : tie.Need-returns
 returns-4 c =
     let l = c.before.before in
     let s = surveyed l.before in
-    s.survey-surveyed.ensures ∙ by_none _ _ _ (head s.before) (reading l.before) (none l.loss_in-loss.ensures c.if-loss-ne0.false)
+    s.survey-surveyed.ensures ∙ by_none _ _ _ (head s.before) (reading l.before) (none l.loss_in-loss.ensures (omega arith))
 
 pub survey_to_spec : {M : Type 1} → statement M
 survey_to_spec =
     tie.close
-    (tie.spec (search rules) (search rules) returns (search rules) returns-2 (search rules) (search rules) returns-3 returns-4)
+    (tie.spec (search rules) (search rules) returns (search rules) returns-2 (search rules) (search rules)
+    (λ c.
+    let l = c.before.before.before in
+    (search rules) ∙ by_loss _ _ _ (head (surveyed l.before).before) (reading l.before) l.loss_in-loss.ensures (omega arith))
+    returns-4)

@@ -9,7 +9,7 @@ use borrow.Author.Rules.{rules}
 use borrow.Author.Tests.{ne_eqb, le-leb, lt-leb, lt-ltb}
 use lib.ListN.{length, length-set}
 use Rattle.event.specs.Answer.{answer, done, first}
-use Rattle.event.specs.Limit.{last_place}
+use Rattle.event.specs.Limit.{last_place, event_limit}
 use Rattle.event.specs.declared.Answer.{Answer}
 use Rattle.event.specs.declared.Event.{Event}
 use Rattle.memory.specs.declared.Memory.{Memory}
@@ -256,11 +256,6 @@ returns-2 c =
     tried_stop (inv (l (t q))).walk c.refusal-in-Init.ensures (here (t q)) c.new-in-Init.ensures refl
     (rw (i, lt-ltb c.in-Init.place 256 (omega (arith, init_place _ _ _ _ i))))
 
-returns-3 : tie.Need-returns-then-n-ge-EVENT_LIMIT invariant-loop decreases-loop
-returns-3 c =
-    let q = c.before.before.before in
-    tried_stop (inv (l (t (r q)))).walk c.refusal-then-n-ge-EVENT_LIMIT.ensures (here (t (r q))) c.new-then-n-ge-EVENT_LIMIT.ensures refl (rw (its q, le-leb _ _ c.if-n-ge-EVENT_LIMIT.true))
-
 loop-again : tie.Need-loop-to-preserved invariant-loop decreases-loop
 unfolding said_in
 loop-again c = record {
@@ -271,7 +266,7 @@ loop-again c = record {
   marks = marks_after c;
   touch = touch_after c;
   walk =
-      tried_go (inv (p c)).walk (here (t (r (v c)))) (omega arith) (rw (its (v c), lt-leb _ _ (asked (b c)).if-n-ge-EVENT_LIMIT.false)) (rw (its (v c)))
+      tried_go (inv (p c)).walk (here (t (r (v c)))) (omega arith) (rw (its (v c), lt-leb event_limit (p c).loop-to.n (omega arith))) (rw (its (v c)))
       (λ m ls. rw (its (v c)) (goes_on c (events_in _ (m ∷ ls))));
 }
 
@@ -366,7 +361,11 @@ survey_events_spec =
     (search rules)
     (search rules)
     (search rules)
-    returns-3
+    (λ c.
+    let q = c.before.before.before in
+    let w = l (t (r q)) in
+    tried_stop (inv w).walk {b = answer 3 (begin w).args.side w.loop-to.k} (search rules) (here (t (r q))) refl refl
+    (rw (its q, le-leb event_limit w.loop-to.n (omega arith))))
     (λ c. omega arith)
     (search rules)
     (search rules)

@@ -2,6 +2,7 @@
 use Prim.Native.Nat.{ℕ}
 use mathlib.Core.Bool.{Bool}
 use mathlib.Core.List.{List}
+use native.Mathlib.Omega.{arith}
 use mathlib.Core.Path.{◌≡◌, refl, sym, ◌∙◌, ap}
 use borrow.Author.Rules.{rules}
 use lib.ListN.{length}
@@ -90,13 +91,6 @@ returns c =
     let s = c.before.before.before.before.before.before in
     refused (move_fault_in (regs s) (to s) (text s)) (moved_text (to s) (text s)) (out s) (refusal_is c) c.if-fault-ne0.true
 
-returns-2 : tie.Need-returns-then-out-size
-unfolding move_in moved_out_in
-returns-2 c =
-    let z = c.before.before in
-    let s = begin (touched-all z) in
-    short (move_fault_in (regs s) (to s) (text s)) (moved_text (to s) (text s)) (out s) (found (e (touched-all z))).0 (size_is z) c.if-out-size.true c.new.ensures
-
 returns-3 : tie.Need-returns
 unfolding move_in moved_out_in
 returns-3 c =
@@ -104,9 +98,10 @@ returns-3 c =
     let z = p.before.before.before.before in
     let s = begin (touched-all z) in
     written (move_fault_in (regs s) (to s) (text s)) (moved_text (to s) (text s)) (out s) (found (e (touched-all z))).0 (size_is z) {next = p.put_moved.result}
-    p.if-out-size.false c.new-2.ensures (rw (← moved_is (touched-all z)) p.put_moved.ensures)
+    (omega arith) c.new-2.ensures (rw (← moved_is (touched-all z)) p.put_moved.ensures)
 
 pub move_in_spec : {M : Type 1} → statement M
+unfolding move_in moved_out_in
 move_in_spec =
     tie.close
     (tie.spec
@@ -115,7 +110,10 @@ move_in_spec =
     (search rules)
     (λ c κs. small c.before)
     (search rules)
-    returns-2
+    (λ c.
+    let z = c.before.before in
+    let s = begin (touched-all z) in
+    short (move_fault_in (regs s) (to s) (text s)) (moved_text (to s) (text s)) (out s) (found (e (touched-all z))).0 (size_is z) (omega arith) c.new.ensures)
     (λ c κs. small (touched-all c.before.before.before))
     (search rules)
     (λ c. put_length c.put_moved.ensures)
