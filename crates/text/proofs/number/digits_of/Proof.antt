@@ -34,11 +34,6 @@ returns-3 c =
     let a = c.args in
     sym (c.loop-i.invariant.0 ∙ on_big a.max c.loop-i.n a.s.now c.loop-i.i (omega arith) (omega arith))
 
-returns-4 : tie.Need-returns-then-max-d-2 invariant-loop decreases-loop
-returns-4 c =
-    let a = c.args in
-    sym (c.loop-i.invariant.0 ∙ on_big a.max c.loop-i.n a.s.now c.loop-i.i (omega arith) (omega arith))
-
 loop-again : tie.Need-loop-i-preserved invariant-loop decreases-loop
 loop-again c =
     let a = c.args in
@@ -62,7 +57,9 @@ digits_of_spec =
     returns-2
     (search rules)
     returns-3
-    returns-4
+    (λ c.
+    let a = c.args in
+    sym (c.loop-i.invariant.0 ∙ on_big a.max c.loop-i.n a.s.now c.loop-i.i (omega arith) (omega arith)))
     (λ c. omega arith)
     (λ c. omega arith)
     (λ c. omega arith)
