@@ -118,6 +118,10 @@ fn print_examples(rt: &(impl Files + Print)) {
         b"examples/shelf/target",
         b"examples/shelf/matching",
     );
+}
+
+// Those with a list of registers.
+fn print_listed_examples(rt: &(impl Files + Print)) {
     judge_files(
         rt,
         Wanted::Answer,
@@ -246,6 +250,7 @@ fn run_file(rt: &(impl Files + Print), task: Task, group: Word, name: &[u8], bac
 
 fn main(rt: HostRuntime) {
     print_examples(&rt);
+    print_listed_examples(&rt);
     run_file(&rt, Task::Check, 0, b"vectors", b"written back");
     run_file(&rt, Task::Check, 0, b"forms", b"written back");
     run_file(&rt, Task::Check, 0, b"counters", b"written back");
