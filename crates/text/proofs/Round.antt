@@ -13,9 +13,9 @@ use Rattle.laws.proofs.Bools.{and_left, and_right}
 use Rattle.laws.proofs.Cases.{cases, side}
 use Rattle.laws.proofs.Lists.{Free}
 use Rattle.text.specs.Number.{is_digit, all_digits, value_on, digits_on, bad_start, number_of, dec, decimal}
-use Rattle.text.specs.declared.number.NumberRead.TheVariants.{Value}
+use Rattle.std.specs.Prelude.{Some}
 use Rattle.text.proofs.Decimals.{decimal_one, decimal_more}
-use Rattle.text.proofs.Numbers.{digit, read, on_value}
+use Rattle.text.proofs.Numbers.{read, on_value}
 
 joined : (x y z : Bool) → (y ≡ true → z ≡ true) → (x && y) ≡ true → (x && z) ≡ true
 joined true y z f e = f e
@@ -33,7 +33,7 @@ value_snoc n (a ∷ l) b = value_snoc (n * 10 + (a - 48)) l b
 
 one_digit : (d : ℕ) → d < 10 → all_digits ((48 + d) ∷ []) ≡ true
 unfolding all_digits
-one_digit d h = rw (digit (48 + d) (omega arith) (omega arith))
+one_digit d h = rw (le-leb 48 (48 + d) (omega arith), le-leb (48 + d) 57 (omega arith))
 
 all_dec : (k n : ℕ) → all_digits (dec k n) ≡ true
 unfolding dec all_digits
@@ -74,7 +74,7 @@ start n =
     good_start (dec (suc n) n) r.0 r.1)
 
 -- a number written is read
-pub round : (max n : ℕ) → n ≤ max → number_of max (decimal n) ≡ Value n
+pub round : (max n : ℕ) → n ≤ max → number_of max (decimal n) ≡ Some n
 unfolding number_of digits_on decimal
 round max n h = rw (start n, all_dec (suc n) n, value_dec (suc n) n (omega arith), le-leb n max h)
 
@@ -145,7 +145,7 @@ back (b ∷ l) s h =
     (λ p. let e : b ≡ 48 = omega arith in rw e (back_zero l (rw e at s)))
 
 -- a word that is read as a number is what is written of it
-pub read_back : (max : ℕ) (p : List ℕ) (n : ℕ) → number_of max p ≡ Value n → (p ≡ decimal n) × (n ≤ max)
+pub read_back : (max : ℕ) (p : List ℕ) (n : ℕ) → number_of max p ≡ Some n → (p ≡ decimal n) × (n ≤ max)
 read_back max p n e =
     let r = read max p n e in
     let v = on_value max 0 p n r.1 in

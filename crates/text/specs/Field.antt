@@ -1,17 +1,19 @@
 -- Document 01, "Trace text": "fields are parted by one tab", which is 9. Lines are cut first, so LF plays no part here. A place is where the next field
 -- starts; after a field that ends at `to` it is `to + 1`, and beyond the line's length no field starts. Assumes nothing.
-use Rattle.std.specs.Prelude.{ℕ, ◌+◌, cond, List, [], ◌∷◌, ltb, length, drop}
+use Rattle.std.specs.Prelude.{ℕ, ◌+◌, cond, Option, Some, None, List, [], ◌∷◌, ltb, length, drop}
 use Rattle.text.specs.Cut.{until, cut, cut_from, glue}
-use Rattle.text.specs.declared.field.FieldStep.{FieldStep}
-use Rattle.text.specs.declared.field.FieldStep.TheVariants.{Field, LineEnd}
+use Rattle.text.specs.declared.field.Field.{Field}
 
 -- How many bytes come before the first TAB, or the end.
 abbrev pub field_len : List ℕ → ℕ
 field_len l = until 9 l
 
+abbrev pub field : ℕ → ℕ → Field
+field a b = record { from = a; to = b }
+
 -- The field that starts at a place of a line, or that none does.
-unfoldable pub field_at : List ℕ → ℕ → FieldStep
-field_at l at = cond (ltb (length l) at) LineEnd (Field at (at + field_len (drop at l)))
+unfoldable pub field_at : List ℕ → ℕ → Option Field
+field_at l at = cond (ltb (length l) at) None (Some (field at (at + field_len (drop at l))))
 
 -- A line split at its TABs.
 abbrev pub fields : List ℕ → List (List ℕ)

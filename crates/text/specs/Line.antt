@@ -1,16 +1,14 @@
 -- Document 01, "Trace text": "Lines end in LF", which is 10. Assumes nothing.
-use Rattle.std.specs.Prelude.{ℕ, ◌+◌, cond, List, [], ◌∷◌, ◌++◌, ltb, length, drop}
+use Rattle.std.specs.Prelude.{ℕ, ◌+◌, cond, Option, Some, None, List, [], ◌∷◌, ◌++◌, ltb, length, drop}
 use Rattle.text.specs.Cut.{until, cut, cut_from, glue}
-use Rattle.text.specs.declared.line.LineStep.{LineStep}
-use Rattle.text.specs.declared.line.LineStep.TheVariants.{Line, TextEnd}
 
 -- How many bytes come before the first LF, or the end.
 abbrev pub line_len : List ℕ → ℕ
 line_len t = until 10 t
 
--- The line that starts at a place of a text, up to its LF, or that no LF is left.
-unfoldable pub line_at : List ℕ → ℕ → LineStep
-line_at t at = cond (ltb (at + line_len (drop at t)) (length t)) (Line (at + line_len (drop at t))) TextEnd
+-- Where the line that starts at a place of a text ends, at its LF, or that no LF is left.
+unfoldable pub line_at : List ℕ → ℕ → Option ℕ
+line_at t at = cond (ltb (at + line_len (drop at t)) (length t)) (Some (at + line_len (drop at t))) None
 
 -- A text split at its LFs; the last part is what stands after the last LF.
 abbrev pub split : List ℕ → List (List ℕ)

@@ -8,10 +8,11 @@ use super::scan::find;
 // The byte between two fields.
 pub const TAB: u8 = 9;
 
+// Where a field starts and ends in its line.
 #[derive(Clone, Copy)]
-pub enum FieldStep {
-    Field { from: usize, to: usize },
-    LineEnd,
+pub struct Field {
+    pub from: usize,
+    pub to: usize,
 }
 
 // Where the field that starts at `from` ends: at the next TAB, or at the end of the line.
@@ -21,13 +22,14 @@ fn field_end(line: &[u8], from: usize) -> usize
     find(line, from, TAB)
 }
 
-// The field that starts at a place of a line, or that the line has ended.
-pub(crate) fn field_at(line: &[u8], at: usize) -> FieldStep
+// The field that starts at a place of a line; none where the line has ended.
+#[tactic(auto, unfolding(crate::specs::Field::field_at))]
+pub(crate) fn field_at(line: &[u8], at: usize) -> Option<Field>
     ensures { result ≡ field_at line.now at }
 {
     if line.len() < at {
-        return FieldStep::LineEnd;
+        return None;
     }
     let to = field_end(line, at);
-    FieldStep::Field { from: at, to }
+    Some(Field { from: at, to })
 }

@@ -7,21 +7,16 @@ use super::scan::find;
 // The byte that ends a line.
 pub const LF: u8 = 10;
 
-#[derive(Clone, Copy)]
-pub enum LineStep {
-    Line { to: usize },
-    TextEnd,
-}
-
-// The line that starts at a place, up to its LF, or that no LF is left.
-pub fn next_line(text: &[u8], at: usize) -> LineStep
+// Where the line that starts at a place ends, which is at its LF; none where no LF is left.
+#[tactic(auto, unfolding(crate::specs::Line::line_at))]
+pub fn next_line(text: &[u8], at: usize) -> Option<usize>
     ensures { result ≡ line_at text.now at }
 {
     let to = find(text, at, LF);
     if text.len() <= to {
-        return LineStep::TextEnd;
+        return None;
     }
-    LineStep::Line { to }
+    Some(to)
 }
 
 // Where line 2 starts; beyond the end of a text that has no LF.

@@ -9,57 +9,35 @@ pub const NINE: u8 = 57;
 
 pub const BASE: u64 = 10;
 
-#[derive(Clone, Copy)]
-pub enum NumberRead {
-    Value(u64),
-    Malformed,
-}
-
-fn wide(b: u8) -> u64
-    ensures { result ≡ b }
-{
-    b as u64
-}
-
 // Digits alone, at most `max`: it stops at the first digit that goes past it, so nothing overflows.
-fn digits_of(s: &[u8], max: u64) -> NumberRead
+#[tactic(auto, using(crate::proofs::Numbers::on_low, crate::proofs::Numbers::on_high, crate::proofs::Numbers::on_big, crate::proofs::Numbers::on_go, crate::proofs::Numbers::on_end_lem))]
+fn digits_of(s: &[u8], max: u64) -> Option<u64>
     ensures { result ≡ digits_on max 0 s.now }
 {
     let mut n: u64 = 0;
-    let mut i: usize = 0;
-    while i < s.len() {
-        let b = s[i];
-        if b < ZERO {
-            return NumberRead::Malformed;
+    for b in s {
+        if *b < ZERO || NINE < *b {
+            return None;
         }
-        if NINE < b {
-            return NumberRead::Malformed;
-        }
-        let d = wide(b - ZERO);
-        if max < d {
-            return NumberRead::Malformed;
-        }
-        if (max - d) / BASE < n {
-            return NumberRead::Malformed;
+        let d = u64::from(*b - ZERO);
+        if max < d || (max - d) / BASE < n {
+            return None;
         }
         n = n * BASE + d;
-        i += 1;
     }
-    NumberRead::Value(n)
+    Some(n)
 }
 
 // The number that a word is, if it is one and at most `max`.
 #[tactic(auto, unfolding(crate::specs::Number::number_of))]
-pub fn number_of(s: &[u8], max: u64) -> NumberRead
+pub fn number_of(s: &[u8], max: u64) -> Option<u64>
     ensures { result ≡ number_of max s.now }
 {
     if s.len() == 0 {
-        return NumberRead::Malformed;
+        return None;
     }
-    if 1 < s.len() {
-        if s[0] == ZERO {
-            return NumberRead::Malformed;
-        }
+    if 1 < s.len() && s[0] == ZERO {
+        return None;
     }
     digits_of(s, max)
 }

@@ -2,7 +2,7 @@
 ghost use Rattle.std.specs.Prelude.{◌≡◌};
 ghost use Rattle.text.specs.Field.{field_at};
 
-use super::field::{FieldStep, field_at};
+use super::field::{Field, field_at};
 
 #[derive(Clone, Copy)]
 pub struct Reader<'a> {
@@ -16,8 +16,8 @@ pub fn new<'a>(text: &'a [u8], at: usize) -> Reader<'a>
     Reader { text, at }
 }
 
-// The next field, or that the line has ended.
-pub fn next<'a>(r: Reader<'a>) -> FieldStep
+// The next field; none where the line has ended.
+pub fn next<'a>(r: Reader<'a>) -> Option<Field>
     ensures { result ≡ field_at r.entry.text.now r.entry.at }
 {
     field_at(r.text, r.at)
@@ -31,7 +31,7 @@ pub fn moved<'a>(r: Reader<'a>, at: usize) -> Reader<'a>
 }
 
 // The next field with plain parameters: a reader is made and asked.
-pub fn field_of(text: &[u8], at: usize) -> FieldStep
+pub fn field_of(text: &[u8], at: usize) -> Option<Field>
     ensures { result ≡ field_at text.now at }
 {
     next(new(text, at))

@@ -3,17 +3,16 @@ ghost use Rattle.std.specs.Prelude.{◌≡◌, ◌+◌, drop};
 ghost use Rattle.text.specs.Cut.{until};
 
 // Where the first byte `stop` at `from` or after it stands, or the end of the text (`from` itself, if it lies beyond the end).
+#[tactic(auto, using(crate::proofs::Cuts::until_stop, crate::proofs::Cuts::until_go, crate::proofs::Cuts::until_out))]
 fn find_singly(text: &[u8], from: usize, stop: u8) -> usize
     ensures { result ≡ from + until stop (drop from text.now) }
 {
-    let mut i = from;
-    while i < text.len() {
+    for i in from..text.len() {
         if text[i] == stop {
             return i;
         }
-        i += 1;
     }
-    i
+    from.max(text.len())
 }
 
 // The same, four bytes a turn as long as there are four.
