@@ -2,3 +2,4 @@
 pub mod Rooms
 pub mod Unique
 pub mod Answers
+pub mod Told

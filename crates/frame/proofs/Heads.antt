@@ -5,36 +5,37 @@ use mathlib.Core.Bool.{true, false, false≢true}
 use mathlib.Core.List.{List, [], ◌∷◌}
 use native.Mathlib.Omega.{arith}
 use lib.Dec.{ltb}
-use lib.ListN.{length, take, drop}
+use lib.ListN.{length, take}
 use lib.Seq.{length-take-le}
 use borrow.Author.Tests.{ltb-false, le-ltb, ne_eqb}
+use Rattle.std.specs.Prelude.{Some, None}
 use Rattle.laws.proofs.Cases.{not_first, not_second}
 use Rattle.event.specs.Answer.{answer, done}
 use Rattle.event.specs.declared.Answer.{Answer}
 use Rattle.frame.proofs.Settled.{first_done}
 use Rattle.text.specs.Line.{line_len, line_at, split, split_from, body}
 use Rattle.text.specs.Word.{same_bytes}
-use Rattle.text.specs.declared.line.LineStep.TheVariants.{Line, TextEnd}
 use Rattle.text.proofs.Cuts.{from_start, cut_eq, until_le}
-use Rattle.text.proofs.Walk.{Some, next, last, body_from}
+use Rattle.text.proofs.Walk.{PartLeft, next, last, body_from}
 use Rattle.text.proofs.Words.{same_eq, same_self}
 use Rattle.frame.specs.Reading.{Layout, headed, head_fault, lines_fault, text_fault, settle, tried}
 
 -- by line 1 and the parts after it
-head_some : (header l : List ℕ) (ps : List (List ℕ)) → Some ps → headed header (l ∷ ps) ≡ same_bytes l header
+head_some : (header l : List ℕ) (ps : List (List ℕ)) → PartLeft ps → headed header (l ∷ ps) ≡ same_bytes l header
 head_some header l [] s = absurd s
 head_some header l (p ∷ ps) s = refl
 
-pub head_line : (header t : List ℕ) (to : ℕ) → line_at t 0 ≡ Line to → headed header (split t) ≡ same_bytes (take (to - 0) (drop 0 t)) header
+pub head_line : (header t : List ℕ) (to : ℕ) → line_at t 0 ≡ Some to → headed header (split t) ≡ same_bytes (take to t) header
 head_line header t to e =
     let n = next t 0 to e in
-    rw (sym (from_start 10 t) ∙ n.parts) (head_some header (take (to - 0) (drop 0 t)) (split_from t (to + 1)) n.some)
+    let z : to - 0 ≡ to = omega arith in
+    rw (sym (from_start 10 t) ∙ n.parts, z) (head_some header (take to t) (split_from t (to + 1)) n.some)
 
-pub head_open : (header t : List ℕ) → line_at t 0 ≡ TextEnd → headed header (split t) ≡ false
+pub head_open : (header t : List ℕ) → line_at t 0 ≡ None → headed header (split t) ≡ false
 head_open header t e = rw (sym (from_start 10 t) ∙ last t 0 (omega arith) e)
 
 -- a text whose line 1 is right has the header for its first part, and some after it
-head_parts : (header : List ℕ) (ps : List (List ℕ)) → headed header ps ≡ true → (ps ≡ header ∷ body ps) × Some (body ps)
+head_parts : (header : List ℕ) (ps : List (List ℕ)) → headed header ps ≡ true → (ps ≡ header ∷ body ps) × PartLeft (body ps)
 head_parts header [] h = absurd (false≢true h)
 head_parts header (l ∷ []) h = absurd (false≢true h)
 head_parts header (l ∷ p ∷ ps) h = (rw (same_eq l header h), tt)
@@ -44,7 +45,7 @@ pub record Framed {S : Type 0} (T : Layout S) (side : ℕ) (t : List ℕ) : Type
   pub short : length t ≤ T.limit
   pub first : headed T.header (split t) ≡ true
   pub parts : split t ≡ T.header ∷ body (split t)
-  pub some : Some (body (split t))
+  pub some : PartLeft (body (split t))
   pub lines : (lines_fault T side 2 T.start (body (split t))).number ≡ 0
 
 head_done : (side limit : ℕ) (header t : List ℕ) → (head_fault side limit header t).number ≡ 0 → (length t ≤ limit) × (headed header (split t) ≡ true)
@@ -64,7 +65,7 @@ module _ {S : Type 0} (T : Layout S) (side : ℕ) (t : List ℕ) where
       record { short = d.0; first = d.1; parts = p.0; some = p.1; lines = f.1 }
 
   -- a short text with the header for its first part is tried line by line
-  pub by_lines : (ls : List (List ℕ)) → length t ≤ T.limit → split t ≡ T.header ∷ ls → Some ls → text_fault T side t ≡ lines_fault T side 2 T.start ls
+  pub by_lines : (ls : List (List ℕ)) → length t ≤ T.limit → split t ≡ T.header ∷ ls → PartLeft ls → text_fault T side t ≡ lines_fault T side 2 T.start ls
   unfolding text_fault head_fault
   by_lines ls h p s = rw (le-ltb T.limit (length t) h, p, head_some T.header T.header ls s, same_self T.header)
 

@@ -9,12 +9,12 @@ use borrow.Author.Tests.{eqb-true, eqb-false}
 use Rattle.laws.proofs.Cases.{cases, either}
 use Rattle.event.specs.Answer.{answer, done}
 use Rattle.text.specs.Cut.{is_empty}
-use Rattle.text.proofs.Walk.{Some}
+use Rattle.text.proofs.Walk.{PartLeft}
 use Rattle.frame.specs.Reading.{Layout, lines_fault}
 
 -- a line is not refused
 module _ {S : Type 0} (T : Layout S) (side k : ℕ) (s : S) where
-  pub lines_go : (l : List ℕ) (ps : List (List ℕ)) → Some ps → T.fault s l ≡ 0 → lines_fault T side k s (l ∷ ps) ≡ lines_fault T side (k + 1) (T.next s l) ps
+  pub lines_go : (l : List ℕ) (ps : List (List ℕ)) → PartLeft ps → T.fault s l ≡ 0 → lines_fault T side k s (l ∷ ps) ≡ lines_fault T side (k + 1) (T.next s l) ps
   unfolding lines_fault
   lines_go l [] o h = absurd o
   lines_go l (p ∷ ps) o h = rw h
@@ -26,7 +26,7 @@ module _ {S : Type 0} (T : Layout S) (side : ℕ) (P : S → List (List ℕ) →
   last_passes k s [] h = end s
   last_passes k s (b ∷ l) h = absurd (omega arith)
 
-  pub lines_pass : (k : ℕ) (s : S) (ls : List (List ℕ)) → Some ls → (lines_fault T side k s ls).number ≡ 0 → P s ls
+  pub lines_pass : (k : ℕ) (s : S) (ls : List (List ℕ)) → PartLeft ls → (lines_fault T side k s ls).number ≡ 0 → P s ls
   unfolding lines_fault
   lines_pass k s [] o h = absurd o
   lines_pass k s (l ∷ []) o h = last_passes k s l h

@@ -5,8 +5,8 @@ use mathlib.Core.Path.{◌≡◌, refl, sym, ◌∙◌}
 use mathlib.Core.List.{List, [], ◌∷◌, ◌++◌, append_assoc, append-nil}
 use native.Mathlib.Omega.{arith}
 use lib.ListN.{length, drop, length-append}
+use Rattle.std.specs.Prelude.{Some, None}
 use Rattle.text.specs.Line.{line_len, line_at, split, split_from, body, said_in}
-use Rattle.text.specs.declared.line.LineStep.TheVariants.{Line, TextEnd}
 use Rattle.text.proofs.Walk.{part, next, walk_line, walk_none, body_from}
 use Rattle.frame.specs.Store.{put_all}
 
@@ -67,7 +67,7 @@ module _ {A : Type 0} (put : List ℕ → ℕ → A → List ℕ) (P : Puts A pu
 
     module _ {i : ℕ} {room : List ℕ} {at : ℕ} (s : Held i room at) where
       -- the line there says bs
-      pub held_step : {to : ℕ} → line_at t at ≡ Line to → {j : ℕ} {room' : List ℕ} (bs : List A) → bs ≡ says (part t at to) → j ≡ i + length bs
+      pub held_step : {to : ℕ} → line_at t at ≡ Some to → {j : ℕ} {room' : List ℕ} (bs : List A) → bs ≡ says (part t at to) → j ≡ i + length bs
           → room' ≡ put_all put room i bs → Held j room' (to + 1)
       unfolding said_in
       held_step {to} e {j} {room'} bs q a b = record {
@@ -79,6 +79,6 @@ module _ {A : Type 0} (put : List ℕ → ℕ → A → List ℕ) (P : Puts A pu
       }
 
       -- no line is left
-      pub held_all : line_at t at ≡ TextEnd → room ≡ put_all put room₀ 0 all
+      pub held_all : line_at t at ≡ None → room ≡ put_all put room₀ 0 all
       unfolding said_in put_all
       held_all e = sym (walk_none (with_said room i) t at s.same e refl (λ l. refl))

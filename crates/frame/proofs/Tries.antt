@@ -7,11 +7,11 @@ use native.Mathlib.Omega.{arith}
 use lib.Dec.{eqb}
 use lib.ListN.{length}
 use borrow.Author.Tests.{eqb-true}
+use Rattle.std.specs.Prelude.{Some, None}
 use Rattle.laws.proofs.Cases.{cases, either}
 use Rattle.event.specs.Answer.{answer}
 use Rattle.event.specs.declared.Answer.{Answer}
 use Rattle.text.specs.Line.{line_at, split_from}
-use Rattle.text.specs.declared.line.LineStep.TheVariants.{Line, TextEnd}
 use Rattle.text.proofs.Walk.{part, next, walk_line, walk_open, walk_end}
 use Rattle.frame.specs.Reading.{Layout, lines_fault, tried}
 
@@ -33,7 +33,7 @@ pub record Tried {S R : Type 0} (T : Layout S) (refused : Answer → R) (side : 
 module _ {S R : Type 0} {T : Layout S} {refused : Answer → R} {side : ℕ} {whole : R} {t : List ℕ} {k : ℕ} {s : S} {out : List (List ℕ) → R} {at : ℕ}
     (w : Tried T refused side whole t k s out at) where
   -- a line, which is not refused
-  pub tried_go : {to : ℕ} → line_at t at ≡ Line to → {k' : ℕ} {s' : S} {out' : List (List ℕ) → R} → k' ≡ k + 1 → T.fault s (part t at to) ≡ 0
+  pub tried_go : {to : ℕ} → line_at t at ≡ Some to → {k' : ℕ} {s' : S} {out' : List (List ℕ) → R} → k' ≡ k + 1 → T.fault s (part t at to) ≡ 0
       → T.next s (part t at to) ≡ s' → ((m : List ℕ) (ls : List (List ℕ)) → out (part t at to ∷ m ∷ ls) ≡ out' (m ∷ ls))
       → Tried T refused side whole t k' s' out' (to + 1)
   unfolding tried lines_fault
@@ -44,12 +44,12 @@ module _ {S R : Type 0} {T : Layout S} {refused : Answer → R} {side : ℕ} {wh
 
   -- what is handed back where a line is refused, and where something stands after the last LF
   module _ {r : R} {b : Answer} (p : r ≡ refused b) where
-    pub tried_stop : {to : ℕ} → line_at t at ≡ Line to → {x : ℕ} → b ≡ answer x side k → eqb x 0 ≡ false → T.fault s (part t at to) ≡ x → r ≡ whole
+    pub tried_stop : {to : ℕ} → line_at t at ≡ Some to → {x : ℕ} → b ≡ answer x side k → eqb x 0 ≡ false → T.fault s (part t at to) ≡ x → r ≡ whole
     unfolding tried lines_fault
     tried_stop e {x} q z f =
         p ∙ (ap refused q ∙ sym (walk_line (tried T refused side k s out) t at w.same (λ ls. refused (answer x side k)) e (λ m ls. rw (f, z, z))))
 
-    pub tried_open : line_at t at ≡ TextEnd → at < length t → b ≡ answer 2 side k → r ≡ whole
+    pub tried_open : line_at t at ≡ None → at < length t → b ≡ answer 2 side k → r ≡ whole
     unfolding tried lines_fault
     tried_open e o q = p ∙ (ap refused q ∙ sym (walk_open (tried T refused side k s out) t at w.same e o (λ c l. refl)))
 

@@ -7,14 +7,13 @@ use mathlib.Core.List.{List, [], ◌∷◌}
 use native.Mathlib.Omega.{arith}
 use lib.Dec.{eqb}
 use borrow.Author.Tests.{eqb-true}
+use Rattle.std.specs.Prelude.{Some, None}
 use Rattle.laws.proofs.Cases.{cases, either}
 use Rattle.laws.proofs.Lists.{Each, Free}
 use Rattle.text.specs.Cut.{glue}
 use Rattle.text.specs.Field.{fields, join, on_end, on_field}
 use Rattle.text.specs.Number.{decimal, number_of, on_number}
 use Rattle.text.specs.Word.{same_bytes}
-use Rattle.text.specs.declared.number.NumberRead.{NumberRead}
-use Rattle.text.specs.declared.number.NumberRead.TheVariants.{Value, Malformed}
 use Rattle.text.proofs.Parts.{cut_free, cut_glue, glue_cut}
 use Rattle.text.proofs.Round.{round, read_back, decimal_no_tab}
 use Rattle.text.proofs.Words.{same_eq}
@@ -47,7 +46,7 @@ unfolding gone_rest entry_line glue
 gone_says [] = (refl, omega arith)
 gone_says (f ∷ fs) = tt
 
-keep_value : (f : List ℕ) (n : ℕ) → number_of event_limit f ≡ Value n → Says (keep_word ∷ f ∷ []) (cond (eqb n 0) Refused (Entry n))
+keep_value : (f : List ℕ) (n : ℕ) → number_of event_limit f ≡ Some n → Says (keep_word ∷ f ∷ []) (cond (eqb n 0) Refused (Entry n))
 unfolding entry_line
 keep_value f n e =
     let r = read_back event_limit f n e in
@@ -55,9 +54,9 @@ keep_value f n e =
 
 keep_number : (f : List ℕ) (fs : List (List ℕ)) (r : NumberRead) → number_of event_limit f ≡ r
     → Says (keep_word ∷ f ∷ fs) (on_number Refused r (λ n. on_end Refused fs (cond (eqb n 0) Refused (Entry n))))
-keep_number f fs Malformed e = tt
-keep_number f [] (Value n) e = keep_value f n e
-keep_number f (g ∷ fs) (Value n) e = tt
+keep_number f fs None e = tt
+keep_number f [] (Some n) e = keep_value f n e
+keep_number f (g ∷ fs) (Some n) e = tt
 
 keep_says : (fs : List (List ℕ)) → Says (keep_word ∷ fs) (keep_rest fs)
 unfolding keep_rest

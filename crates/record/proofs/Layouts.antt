@@ -7,6 +7,7 @@ use mathlib.Core.List.{List, [], ◌∷◌}
 use native.Mathlib.Omega.{arith}
 use lib.ListN.{length}
 use borrow.Author.Tests.{eqb-true, not-false}
+use Rattle.std.specs.Prelude.{Some, None}
 use Rattle.laws.proofs.Lists.{Each, Free}
 use Rattle.event.specs.Limit.{last_place}
 use Rattle.kinds.specs.Kind.{lawful, last_value, last_code, made}
@@ -15,8 +16,6 @@ use Rattle.kinds.proofs.Lawful.{first_of, second_of, code_of}
 use Rattle.text.specs.Field.{fields, on_field, on_end}
 use Rattle.text.specs.Number.{decimal, number_of, on_number}
 use Rattle.text.specs.Word.{same_bytes}
-use Rattle.text.specs.declared.number.NumberRead.{NumberRead}
-use Rattle.text.specs.declared.number.NumberRead.TheVariants.{Value, Malformed}
 use Rattle.text.proofs.Numbers.{low}
 use Rattle.text.proofs.Parts.{cut_glue, glue_cut}
 use Rattle.text.proofs.Round.{round, read_back, decimal_free}
@@ -116,8 +115,8 @@ Says f fs Refused = Unit {0}
 module _ (P : Record → Type 0) (no : P Refused) where
   on_value : (max : ℕ) (f : List ℕ) (r : NumberRead) (k : ℕ → Record) → number_of max f ≡ r
       → ((n : ℕ) → n ≤ max → f ≡ decimal n → P (k n)) → P (on_number Refused r k)
-  on_value max f (Value n) k e h = let w = read_back max f n e in h n w.1 w.0
-  on_value max f Malformed k e h = no
+  on_value max f (Some n) k e h = let w = read_back max f n e in h n w.1 w.0
+  on_value max f None k e h = no
 
   on_number_lem : (w : Bool) (max : ℕ) (fs : List (List ℕ)) (k : ℕ → List (List ℕ) → Record)
       → ((n : ℕ) (rest : List (List ℕ)) → n ≤ max → (w ≡ false → n ≡ 0) → fs ≡ field_if w (decimal n) rest → P (k n rest)) → P (number_if w max fs k)

@@ -6,6 +6,7 @@ use mathlib.Core.Bool.{true}
 use mathlib.Core.List.{List}
 use native.Mathlib.Omega.{arith}
 use lib.ListN.{length, take, drop}
+use Rattle.std.specs.Prelude.{Some, None}
 use Rattle.event.specs.Limit.{last_place}
 use Rattle.kinds.specs.Kind.{last_value}
 use Rattle.text.specs.Field.{field_at, fields_from, on_end}
@@ -13,8 +14,6 @@ use Rattle.text.specs.Number.{number_of, on_number}
 use Rattle.text.specs.Take.{on_read}
 use Rattle.text.specs.declared.field.FieldStep.{FieldStep}
 use Rattle.text.specs.declared.field.FieldStep.TheVariants.{Field, LineEnd}
-use Rattle.text.specs.declared.number.NumberRead.{NumberRead}
-use Rattle.text.specs.declared.number.NumberRead.TheVariants.{Value, Malformed}
 use Rattle.text.proofs.Fields.{field_in, field_step, line_end}
 use Rattle.record.specs.Part.{Within, behind, on_taken, on_part, field_part, init_of}
 use Rattle.record.specs.Record.{number_if, init_rest}
@@ -36,7 +35,7 @@ behind_small l (Field a b) h w = omega (arith, w.1)
 behind_small l LineEnd h w = omega arith
 
 -- the number that a field is
-pub part_given : (l : List ℕ) (a b max n : ℕ) → number_of max (take (b - a) (drop a l)) ≡ Value n → field_part l (Field a b) max ≡ Given n (b + 1)
+pub part_given : (l : List ℕ) (a b max n : ℕ) → number_of max (take (b - a) (drop a l)) ≡ Some n → field_part l (Field a b) max ≡ Given n (b + 1)
 unfolding field_part
 part_given l a b max n h = rw h
 
@@ -49,8 +48,8 @@ init_given l place value p e v next f g h k = rw (sym f ∙ g, sym h ∙ k)
 -- a number that was read, or none
 numbered : (v : NumberRead) (b : ℕ) (K : ℕ → ℕ → Record) (L : ℕ → Record) → ((n : ℕ) → K n (b + 1) ≡ L n)
     → on_part (on_taken (on_read v b)) K ≡ on_number Refused v L
-numbered (Value n) b K L h = h n
-numbered Malformed b K L h = refl
+numbered (Some n) b K L h = h n
+numbered None b K L h = refl
 
 -- the number of a field is the first of the fields from there on
 pub field_number : (l : List ℕ) (at max : ℕ) (K : ℕ → List (List ℕ) → Record) (s : FieldStep) → field_at l at ≡ s

@@ -20,7 +20,7 @@ use Rattle.text.specs.Word.{same_bytes}
 use Rattle.text.proofs.Decimals.{length_below}
 use Rattle.text.proofs.Parts.{cut_glue, glue_cut}
 use Rattle.text.proofs.Round.{decimal_no_lf}
-use Rattle.text.proofs.Walk.{Some, some_end, said_on}
+use Rattle.text.proofs.Walk.{PartLeft, some_end, said_on}
 use Rattle.frame.specs.Reading.{headed, lines_fault}
 use Rattle.frame.proofs.Heads.{framed, by_lines}
 use Rattle.frame.proofs.Lines.{lines_go, lines_pass}
@@ -230,7 +230,7 @@ header_length true = refl
 header_length false = refl
 
 -- line 1 tells the forms apart
-is_headed_lem : (grouped : Bool) (ls : List (List ℕ)) → Some ls → headed (header true) (header grouped ∷ ls) ≡ grouped
+is_headed_lem : (grouped : Bool) (ls : List (List ℕ)) → PartLeft ls → headed (header true) (header grouped ∷ ls) ≡ grouped
 unfolding same_bytes
 is_headed_lem true (l ∷ ls) s = refl
 is_headed_lem false (l ∷ ls) s = refl
@@ -243,7 +243,7 @@ module _ (grouped : Bool) (rs : List Register) (f : Fits grouped rs) where
       omega
       (arith, tail_length grouped (header grouped) 0 rs f.rising, header_length grouped, both_groups grouped 0 rs f.rising, f.few 1, f.few 2)
 
-  some : Some (tail grouped rs)
+  some : PartLeft (tail grouped rs)
   some = some_end (map (reg_line grouped) rs)
 
   parts : split (list_text grouped rs) ≡ header grouped ∷ tail grouped rs

@@ -7,14 +7,13 @@ use mathlib.Core.List.{List, [], ◌∷◌}
 use native.Mathlib.Omega.{arith}
 use lib.Dec.{eqb}
 use borrow.Author.Tests.{eqb-false, ne_eqb}
+use Rattle.std.specs.Prelude.{Some, None}
 use Rattle.laws.proofs.Cases.{cases, either}
 use Rattle.laws.proofs.Lists.{Free}
 use Rattle.event.specs.Limit.{last_place}
 use Rattle.text.specs.Field.{fields, join, on_end, on_field}
 use Rattle.text.specs.Number.{decimal, number_of, on_number}
 use Rattle.text.specs.Word.{same_bytes}
-use Rattle.text.specs.declared.number.NumberRead.{NumberRead}
-use Rattle.text.specs.declared.number.NumberRead.TheVariants.{Value, Malformed}
 use Rattle.text.proofs.Parts.{cut_glue, glue_cut}
 use Rattle.text.proofs.Round.{round, read_back, decimal_no_tab}
 use Rattle.text.proofs.Words.{same_eq}
@@ -57,10 +56,10 @@ InForm grouped g = (p : ℕ) → p ≤ last_place → Named grouped (record { gr
 number_says : (grouped : Bool) (g : ℕ) → InForm grouped g → (f : List ℕ) (fs : List (List ℕ)) (r : NumberRead) → number_of last_place f ≡ r
     → Says grouped (start grouped g (f ∷ fs)) (on_number Refused r (λ p. on_end Refused fs (Reg (record { group = g; location = p }))))
 unfolding reg_line
-number_says grouped g n f fs Malformed e = tt
-number_says true g n f [] (Value p) e = let r = read_back last_place f p e in (rw r.0, n p r.1)
-number_says false g n f [] (Value p) e = let r = read_back last_place f p e in (rw r.0, n p r.1)
-number_says grouped g n f (h ∷ fs) (Value p) e = tt
+number_says grouped g n f fs None e = tt
+number_says true g n f [] (Some p) e = let r = read_back last_place f p e in (rw r.0, n p r.1)
+number_says false g n f [] (Some p) e = let r = read_back last_place f p e in (rw r.0, n p r.1)
+number_says grouped g n f (h ∷ fs) (Some p) e = tt
 
 rest_says : (grouped : Bool) (g : ℕ) → InForm grouped g → (fs : List (List ℕ)) → Says grouped (start grouped g fs) (reg_rest g fs)
 unfolding reg_rest
@@ -69,8 +68,8 @@ rest_says grouped g n (f ∷ fs) = number_says grouped g n f fs (number_of last_
 
 group_says : (f : List ℕ) (fs : List (List ℕ)) (r : NumberRead) → number_of 2 f ≡ r
     → Says true (reg_word ∷ f ∷ fs) (on_number Refused r (λ g. cond (eqb g 0) Refused (reg_rest g fs)))
-group_says f fs Malformed e = tt
-group_says f fs (Value g) e =
+group_says f fs None e = tt
+group_says f fs (Some g) e =
     let r = read_back 2 f g e in
     cases (either (eqb g 0)) (λ z. rw z tt)
     (λ z.

@@ -8,11 +8,11 @@ use native.Mathlib.Omega.{arith}
 use lib.ListN.{length, set, replicate, get_or-replicate, get_or-eq_default}
 use lib.Seq.{get_or-set_same, get_or-set_other}
 use borrow.Author.Tests.{lt-ltb}
+use Rattle.std.specs.Prelude.{Some, None}
 use Rattle.laws.proofs.Cases.{cases, side}
 use Rattle.event.specs.declared.Event.{Event}
 use Rattle.memory.specs.declared.Memory.{Memory}
 use Rattle.text.specs.Line.{line_at, split_from, said_in}
-use Rattle.text.specs.declared.line.LineStep.TheVariants.{Line, TextEnd}
 use Rattle.text.proofs.Walk.{part, by_line, by_end}
 use Rattle.frame.specs.Reading.{lines_fault}
 use Rattle.frame.proofs.Lines.{lines_pass}
@@ -73,15 +73,15 @@ module _ (regs : List Bool) (f : Form) (side k low : ℕ) (has : List Bool) (m :
     from_here : Alike (split_from t at) → r ≡ whole
     from_here h = q ∙ sym (w.same ∙ alike (split_from t at) h)
 
-    pub inits_none : line_at t at ≡ TextEnd → r ≡ whole
+    pub inits_none : line_at t at ≡ None → r ≡ whole
     unfolding lines_fault
     inits_none e = from_here (by_end Alike t at e refl (λ l. refl))
 
-    pub inits_refused : {to : ℕ} → line_at t at ≡ Line to → record_of f (part t at to) ≡ Refused → r ≡ whole
+    pub inits_refused : {to : ℕ} → line_at t at ≡ Some to → record_of f (part t at to) ≡ Refused → r ≡ whole
     unfolding lines_fault
     inits_refused e h = from_here (by_line (λ ps qs. Alike ps) t at e (λ n ls. rw h))
 
-    pub inits_event : {to : ℕ} → line_at t at ≡ Line to → (v : Event) → record_of f (part t at to) ≡ AnEvent v → r ≡ whole
+    pub inits_event : {to : ℕ} → line_at t at ≡ Some to → (v : Event) → record_of f (part t at to) ≡ AnEvent v → r ≡ whole
     unfolding lines_fault
     inits_event e v h = from_here (by_line (λ ps qs. Alike ps) t at e (λ n ls. rw h))
 

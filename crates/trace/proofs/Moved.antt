@@ -16,7 +16,7 @@ use Rattle.event.specs.declared.Event.{Event}
 use Rattle.memory.specs.declared.Memory.{Memory}
 use Rattle.text.specs.Line.{split}
 use Rattle.text.specs.Word.{same_bytes}
-use Rattle.text.proofs.Walk.{Some}
+use Rattle.text.proofs.Walk.{PartLeft}
 use Rattle.frame.specs.Reading.{headed}
 use Rattle.frame.proofs.Settled.{first_done, settled}
 use Rattle.record.specs.Form.{header, limit_of, loses, other}
@@ -87,7 +87,7 @@ not_this Two One n = refl
 not_this Two Two n = absurd (n refl)
 
 -- line 1 of a form is not that of the other
-not_headed : (f : Form) (ls : List (List ℕ)) → Some ls → headed (header (other f)) (header f ∷ ls) ≡ false
+not_headed : (f : Form) (ls : List (List ℕ)) → PartLeft ls → headed (header (other f)) (header f ∷ ls) ≡ false
 unfolding same_bytes
 not_headed f [] s = absurd s
 not_headed One (l ∷ ls) s = refl

@@ -14,7 +14,7 @@ use Rattle.memory.specs.declared.Memory.{Memory}
 use Rattle.text.specs.Cut.{glue}
 use Rattle.text.specs.Line.{split, body}
 use Rattle.text.proofs.Parts.{glue_cut}
-use Rattle.text.proofs.Walk.{Some}
+use Rattle.text.proofs.Walk.{PartLeft}
 use Rattle.record.specs.Form.{header}
 use Rattle.record.specs.Layout.{event_line}
 use Rattle.record.specs.declared.form.Form.{Form}
@@ -50,7 +50,7 @@ module _ (f : Form) where
   text_glue m es t h = glued (its_inits f m es) es t h
 
   -- lines that are read without refusal: what they are read as is within bounds
-  lines_fit : (side : ℕ) (ls : List (List ℕ)) → Some ls → (lines_fault (trace_layout f) side 2 (trace_layout f).start ls).number ≡ 0
+  lines_fit : (side : ℕ) (ls : List (List ℕ)) → PartLeft ls → (lines_fault (trace_layout f) side 2 (trace_layout f).start ls).number ≡ 0
       → Fits f (start_from f empty ls) (events_in f ls)
   lines_fit side ls s h =
       let b = bounded f side 2 ls s h empty.cells refl (zeros 256) in

@@ -18,7 +18,7 @@ use Rattle.text.specs.Cut.{cut}
 use Rattle.text.specs.Line.{split, said_in}
 use Rattle.text.specs.Word.{same_bytes}
 use Rattle.text.proofs.Parts.{cut_part}
-use Rattle.text.proofs.Walk.{Some, some_after, some_end, said_on}
+use Rattle.text.proofs.Walk.{PartLeft, some_after, some_end, said_on}
 use Rattle.record.specs.Form.{header, limit_of}
 use Rattle.record.specs.Layout.{event_line, init_line}
 use Rattle.record.specs.Record.{Fit, record_of}
@@ -59,7 +59,7 @@ split_text [] h = refl
 split_text (l ∷ ls) h = cut_part 10 l (text_of ls) h.0 ∙ rw (split_text ls h.1)
 
 -- line 1 of a form tells the form
-form_of_lem : (f : Form) (ls : List (List ℕ)) → Some ls → cond (headed (header Two) (header f ∷ ls)) Two One ≡ f
+form_of_lem : (f : Form) (ls : List (List ℕ)) → PartLeft ls → cond (headed (header Two) (header f ∷ ls)) Two One ≡ f
 unfolding same_bytes
 form_of_lem f [] s = absurd s
 form_of_lem One (l ∷ ls) s = refl
@@ -93,7 +93,7 @@ module _ (f : Form) where
 
   -- lines of starting values that ascend, before other lines ts: none is refused, and they are read as those values
   module _ (ts : List (List ℕ)) where
-    inits_lines : (side : ℕ) → Some ts → ((k low : ℕ) → lines_fault (trace_layout f) side k (record { low = low; events = 0 }) ts ≡ done) → (k low : ℕ) (is : List Start)
+    inits_lines : (side : ℕ) → PartLeft ts → ((k low : ℕ) → lines_fault (trace_layout f) side k (record { low = low; events = 0 }) ts ≡ done) → (k low : ℕ) (is : List Start)
         → Rising low is → Each (Heard f) is → lines_fault (trace_layout f) side k (record { low = low; events = 0 }) (map start_line is ++ ts) ≡ done
     inits_lines side s g k low [] r h = g k low
     inits_lines side s g k low ((p, v) ∷ is) r h =
@@ -102,7 +102,7 @@ module _ (f : Form) where
         (rw (q, le-ltb p low r.0.0))
         ∙ rw q (inits_lines side s g (k + 1) (p + 1) is r.1 h.1)
 
-    inits_read : Some ts → (low : ℕ) (is : List Start) → Rising low is → Each (Heard f) is
+    inits_read : PartLeft ts → (low : ℕ) (is : List Start) → Rising low is → Each (Heard f) is
         → (inits_in f (map start_line is ++ ts) ≡ is ++ inits_in f ts) × (events_in f (map start_line is ++ ts) ≡ events_in f ts)
     inits_read s low [] r h = (refl, refl)
     inits_read s low ((p, v) ∷ is) r h =
@@ -132,7 +132,7 @@ module _ (f : Form) where
       (header_free f, each_append (Free 10) ls (map (event_line f) es) (inits_free (its_inits m es)) (map_free es))
       ∙ rw append_assoc
 
-  pub some_lines : (m : Memory) (es : List Event) → Some (its_lines m es)
+  pub some_lines : (m : Memory) (es : List Event) → PartLeft (its_lines m es)
   some_lines m es = some_after (map start_line (its_inits m es)) (tail es) (some_end (map (event_line f) es))
 
   -- a text written in a form is of that form

@@ -12,7 +12,7 @@ use Rattle.laws.specs.Each.{Each}
 use Rattle.kinds.specs.Kind.{last_value}
 use Rattle.memory.specs.Memory.{empty}
 use Rattle.text.specs.Line.{said_in}
-use Rattle.text.proofs.Walk.{Some}
+use Rattle.text.proofs.Walk.{PartLeft}
 use Rattle.frame.specs.Reading.{lines_fault}
 use Rattle.frame.proofs.Lines.{lines_pass}
 use Rattle.record.specs.Record.{Fit, record_of}
@@ -67,7 +67,7 @@ module _ (f : Form) where
       let d = g cells q v (omega (arith, o)) in
       record { size = rw e d.size; values = rw e d.values; events = rw e ((line_says f l x e).1, d.events); few = rw e (omega (arith, d.few)) }
 
-  pub bounded : (side k : ℕ) (ls : List (List ℕ)) → Some ls → (lines_fault (trace_layout f) side k (trace_layout f).start ls).number ≡ 0
+  pub bounded : (side k : ℕ) (ls : List (List ℕ)) → PartLeft ls → (lines_fault (trace_layout f) side k (trace_layout f).start ls).number ≡ 0
       → (cells : List ℕ) → length cells ≡ 256 → Valued cells → Bounded 0 cells ls
   bounded side k ls o h cells q v =
       lines_pass (trace_layout f) side Bounds bounds_end (λ s l m ls. bounds_line s l m ls (record_of f l) refl) k (trace_layout f).start ls o h cells q v (omega arith)
@@ -105,7 +105,7 @@ module _ (f : Form) where
         lines = rw (e, ← i.0) (ap (λ (ps : List (List ℕ)). l ∷ ps) g.lines);
       }
 
-  pub printed : (side k : ℕ) (ls : List (List ℕ)) → Some ls → (lines_fault (trace_layout f) side k (trace_layout f).start ls).number ≡ 0 → Printed 0 ls
+  pub printed : (side k : ℕ) (ls : List (List ℕ)) → PartLeft ls → (lines_fault (trace_layout f) side k (trace_layout f).start ls).number ≡ 0 → Printed 0 ls
   printed side k ls o h =
       lines_pass (trace_layout f) side Prints prints_end (λ s l m ls. prints_line s l m ls (record_of f l) refl) k (trace_layout f).start ls o h
 

@@ -5,8 +5,8 @@ use mathlib.Core.List.{List}
 use native.Mathlib.Omega.{arith}
 use borrow.Author.Rules.{rules}
 use lib.ListN.{length, set}
+use Rattle.std.specs.Prelude.{Some, None}
 use Rattle.text.specs.Line.{line_at}
-use Rattle.text.specs.declared.line.LineStep.TheVariants.{Line}
 use Rattle.text.proofs.Walk.{Next, next}
 use Rattle.frame.proofs.Stores.{Held, held_start, held_step, held_all}
 use Rattle.matching.specs.Reading.{entries_on, entries_of}
@@ -21,14 +21,14 @@ abbrev decreases-loop : tie.decreases-loop-to
 decreases-loop text room₀ at₀ i₀ room at i = length text - at
 
 -- a turn's line
-module _ (c : tie.In-Line invariant-loop decreases-loop) where
+module _ (c : tie.In-Some invariant-loop decreases-loop) where
   abbrev l : tie.At-loop-to invariant-loop decreases-loop
   l = c.before.before
 
   abbrev text : List ℕ
   text = l.args.text.now
 
-  here : line_at text l.loop-to.at ≡ Line c.in-Line.to
+  here : line_at text l.loop-to.at ≡ Some c.in-Line.to
   here = sym c.next_line.ensures ∙ c.in-Line.is
 
   -- it lies within the text, and there are no more entries than bytes before it
@@ -39,7 +39,7 @@ module _ (c : tie.In-Line invariant-loop decreases-loop) where
 abbrev put : tie.After-slice_known-in-loop-to-1 invariant-loop decreases-loop → tie.After-put_entry-i invariant-loop decreases-loop
 put c = c.before.before
 
-abbrev its : tie.After-entry_of invariant-loop decreases-loop → tie.In-Line invariant-loop decreases-loop
+abbrev its : tie.After-entry_of invariant-loop decreases-loop → tie.In-Some invariant-loop decreases-loop
 its c = c.before.before.before
 
 loop-holds : tie.Need-loop-to-init invariant-loop decreases-loop

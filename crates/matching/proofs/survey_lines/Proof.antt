@@ -7,10 +7,10 @@ use native.Mathlib.Omega.{arith}
 use borrow.Author.Rules.{rules}
 use borrow.Author.Tests.{le-leb, lt-leb}
 use lib.ListN.{length}
+use Rattle.std.specs.Prelude.{Some, None}
 use Rattle.event.specs.Answer.{answer}
 use Rattle.event.specs.Limit.{event_limit}
 use Rattle.text.specs.Line.{line_at, split_from, said_in}
-use Rattle.text.specs.declared.line.LineStep.TheVariants.{Line}
 use Rattle.text.proofs.Walk.{part, Next, next}
 use Rattle.frame.proofs.Tries.{Tried, tried_go, tried_stop, tried_open, tried_end}
 use Rattle.matching.specs.Entry.{entry_of}
@@ -27,7 +27,7 @@ abbrev decreases-loop : tie.decreases-loop-to
 decreases-loop text from at₀ n₀ at n = length text - at
 
 -- a turn's line has a LF
-module _ (c : tie.In-Line invariant-loop decreases-loop) where
+module _ (c : tie.In-Some invariant-loop decreases-loop) where
   abbrev l : tie.At-loop-to invariant-loop decreases-loop
   l = c.before.before
 
@@ -37,7 +37,7 @@ module _ (c : tie.In-Line invariant-loop decreases-loop) where
   abbrev to : ℕ
   to = c.in-Line.to
 
-  here : line_at text l.loop-to.at ≡ Line to
+  here : line_at text l.loop-to.at ≡ Some to
   here = sym c.next_line.ensures ∙ c.in-Line.is
 
   -- it lies within the text, and there are no more entries than bytes before it
@@ -46,7 +46,7 @@ module _ (c : tie.In-Line invariant-loop decreases-loop) where
 
 -- and is read
 module _ (c : tie.After-entry_of invariant-loop decreases-loop) where
-  abbrev t : tie.In-Line invariant-loop decreases-loop
+  abbrev t : tie.In-Some invariant-loop decreases-loop
   t = c.before.before
 
   is : {r : EntryRead} → c.entry_of.result ≡ r → entry_of (part (text t) (l t).loop-to.at (to t)) ≡ r

@@ -9,10 +9,10 @@ use borrow.Author.Rules.{rules}
 use lib.Dec.{leb, ltb}
 use lib.ListN.{length, get_or, set, length-set}
 use borrow.Author.Tests.{eq-eqb, ne_eqb, leb-false}
+use Rattle.std.specs.Prelude.{Some, None}
 use Rattle.memory.specs.Listed.{none_listed}
 use Rattle.event.specs.Limit.{places, last_place}
 use Rattle.text.specs.Line.{line_at, split_from, said_in}
-use Rattle.text.specs.declared.line.LineStep.TheVariants.{Line}
 use Rattle.text.proofs.Walk.{part, Next, next}
 use Rattle.frame.proofs.Tries.{Tried, tried_go, tried_stop, tried_open, tried_end}
 use Rattle.registers.specs.Reg.{reg_of}
@@ -58,14 +58,14 @@ module _ (c : tie.After-next_line invariant-loop decreases-loop) where
   inv = c.loop-to.invariant
 
 -- its line has a LF
-module _ (c : tie.In-Line invariant-loop decreases-loop) where
+module _ (c : tie.In-Some invariant-loop decreases-loop) where
   abbrev l : tie.After-next_line invariant-loop decreases-loop
   l = c.before
 
   abbrev to : ℕ
   to = c.in-Line.to
 
-  here : line_at (text l) (at l) ≡ Line to
+  here : line_at (text l) (at l) ≡ Some to
   here = sym l.next_line.ensures ∙ c.in-Line.is
 
   -- it lies within the text, and there are no more registers than bytes before it
@@ -74,7 +74,7 @@ module _ (c : tie.In-Line invariant-loop decreases-loop) where
 
 -- and is read
 module _ (c : tie.After-reg_of invariant-loop decreases-loop) where
-  abbrev t : tie.In-Line invariant-loop decreases-loop
+  abbrev t : tie.In-Some invariant-loop decreases-loop
   t = c.before.before
 
   is : {r : RegRead} → c.reg_of.result ≡ r → reg_of (grouped (l t)) (part (text (l t)) (at (l t)) (to t)) ≡ r
@@ -85,7 +85,7 @@ module _ (c : tie.In-Reg invariant-loop decreases-loop) where
   abbrev e : tie.After-reg_of invariant-loop decreases-loop
   e = c.before
 
-  abbrev p : tie.In-Line invariant-loop decreases-loop
+  abbrev p : tie.In-Some invariant-loop decreases-loop
   p = t e
 
   abbrev it : Register

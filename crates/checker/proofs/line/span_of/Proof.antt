@@ -7,8 +7,8 @@ use mathlib.Core.Path.{◌≡◌, sym, ◌∙◌, ap}
 use native.Mathlib.Omega.{arith}
 use borrow.Author.Rules.{rules}
 use lib.ListN.{length}
+use Rattle.std.specs.Prelude.{Some, None}
 use Rattle.text.specs.Line.{line_at, split, split_from}
-use Rattle.text.specs.declared.line.LineStep.TheVariants.{Line}
 use Rattle.text.proofs.Cuts.{from_start}
 use Rattle.text.proofs.Walk.{part, part_length, Next, next, last, walk_line}
 use Rattle.trace.specs.Reading.{form_of}
@@ -56,20 +56,20 @@ module _ (l : tie.At-loop-to invariant-loop decreases-loop) where
   ends_at to r w = omega (arith, part_length text at to w)
 
 -- its line
-module _ (c : tie.In-Line invariant-loop decreases-loop) where
+module _ (c : tie.In-Some invariant-loop decreases-loop) where
   abbrev l : tie.At-loop-to invariant-loop decreases-loop
   l = c.before.before
 
   abbrev to : ℕ
   to = c.in-Line.to
 
-  here : line_at (text l) (at l) ≡ Line to
+  here : line_at (text l) (at l) ≡ Some to
   here = sym c.next_line.ensures ∙ c.in-Line.is
 
   line : Next (text l) (at l) to
   line = next _ _ _ here
 
-abbrev its : tie.After-ends_here invariant-loop decreases-loop → tie.In-Line invariant-loop decreases-loop
+abbrev its : tie.After-ends_here invariant-loop decreases-loop → tie.In-Some invariant-loop decreases-loop
 its c = c.before.before.before
 
 returns : tie.Need-returns-then-k-eq0 invariant-loop decreases-loop

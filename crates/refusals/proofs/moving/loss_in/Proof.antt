@@ -6,10 +6,10 @@ use native.Mathlib.Omega.{arith}
 use borrow.Author.Rules.{rules}
 use borrow.Author.Tests.{ne_eqb}
 use lib.ListN.{length}
+use Rattle.std.specs.Prelude.{Some, None}
 use Rattle.event.specs.declared.Event.{Event}
 use Rattle.event.specs.Answer.{first}
 use Rattle.text.specs.Line.{line_at}
-use Rattle.text.specs.declared.line.LineStep.TheVariants.{Line}
 use Rattle.text.proofs.Walk.{Next, next}
 use Rattle.record.specs.declared.form.Form.{Form}
 use Rattle.trace.specs.Reading.{events_on, events_of}
@@ -32,7 +32,7 @@ abbrev decreases-loop : tie.decreases-loop-end
 decreases-loop to text form at₀ n₀ at n = length text - at
 
 -- a turn's line
-module _ (c : tie.In-Line invariant-loop decreases-loop) where
+module _ (c : tie.In-Some invariant-loop decreases-loop) where
   abbrev l : tie.At-loop-end invariant-loop decreases-loop
   l = c.before.before
 
@@ -42,7 +42,7 @@ module _ (c : tie.In-Line invariant-loop decreases-loop) where
   abbrev end : ℕ
   end = c.in-Line.end
 
-  here : line_at text l.loop-end.at ≡ Line end
+  here : line_at text l.loop-end.at ≡ Some end
   here = sym c.next_line.ensures ∙ c.in-Line.is
 
   -- it lies within the text, and there are no more events than bytes before it
@@ -51,7 +51,7 @@ module _ (c : tie.In-Line invariant-loop decreases-loop) where
 
 -- what it says, and the others
 module _ (c : tie.After-loss_on-found invariant-loop decreases-loop) where
-  abbrev e : tie.In-Line invariant-loop decreases-loop
+  abbrev e : tie.In-Some invariant-loop decreases-loop
   e = c.before.before.before
 
   abbrev to : Form

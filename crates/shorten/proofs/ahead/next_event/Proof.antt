@@ -5,9 +5,9 @@ use mathlib.Core.Path.{◌≡◌, refl, sym, ◌∙◌}
 use native.Mathlib.Omega.{arith}
 use borrow.Author.Rules.{rules}
 use lib.ListN.{length}
+use Rattle.std.specs.Prelude.{Some, None}
 use Rattle.kinds.proofs.Lawful.{place_below}
 use Rattle.text.specs.Line.{line_at}
-use Rattle.text.specs.declared.line.LineStep.TheVariants.{Line}
 use Rattle.text.proofs.Walk.{Next, next}
 use Rattle.record.specs.declared.Record.{Record}
 use Rattle.record.specs.declared.form.Form.{Form}
@@ -47,14 +47,14 @@ module _ (c : tie.After-next_line invariant-loop decreases-loop) where
   inv = c.loop-to.invariant
 
 -- its line has a LF
-module _ (c : tie.In-Line invariant-loop decreases-loop) where
+module _ (c : tie.In-Some invariant-loop decreases-loop) where
   abbrev l : tie.After-next_line invariant-loop decreases-loop
   l = c.before
 
   abbrev to : ℕ
   to = c.in-Line.to
 
-  here : line_at (text l) (at l) ≡ Line to
+  here : line_at (text l) (at l) ≡ Some to
   here = sym l.next_line.ensures ∙ c.in-Line.is
 
   line : Next (text l) (at l) to
@@ -62,7 +62,7 @@ module _ (c : tie.In-Line invariant-loop decreases-loop) where
 
 -- and is read
 module _ (c : tie.After-record_of invariant-loop decreases-loop) where
-  abbrev t : tie.In-Line invariant-loop decreases-loop
+  abbrev t : tie.In-Some invariant-loop decreases-loop
   t = c.before.before
 
   heard : {r : Record} → c.record_of.result ≡ r

@@ -5,9 +5,9 @@ use mathlib.Core.List.{List}
 use native.Mathlib.Omega.{arith}
 use borrow.Author.Rules.{rules}
 use lib.ListN.{length}
+use Rattle.std.specs.Prelude.{Some, None}
 use Rattle.event.specs.Room.{put_at}
 use Rattle.text.specs.Line.{line_at}
-use Rattle.text.specs.declared.line.LineStep.TheVariants.{Line}
 use Rattle.text.proofs.Walk.{Next, next}
 use Rattle.frame.proofs.Stores.{Held, held_start, held_step, held_all}
 use Rattle.trace.specs.Reading.{form_of, events_on, events_of}
@@ -22,14 +22,14 @@ abbrev decreases-loop : tie.decreases-loop-to
 decreases-loop text room₀ form at₀ i₀ room at i = length text - at
 
 -- a turn's line
-module _ (c : tie.In-Line invariant-loop decreases-loop) where
+module _ (c : tie.In-Some invariant-loop decreases-loop) where
   abbrev l : tie.At-loop-to invariant-loop decreases-loop
   l = c.before.before
 
   abbrev text : List ℕ
   text = l.args.text.now
 
-  here : line_at text l.loop-to.at ≡ Line c.in-Line.to
+  here : line_at text l.loop-to.at ≡ Some c.in-Line.to
   here = sym c.next_line.ensures ∙ c.in-Line.is
 
   -- it lies within the text, and there are no more events than bytes before it
@@ -40,7 +40,7 @@ module _ (c : tie.In-Line invariant-loop decreases-loop) where
 abbrev put : tie.After-slice_known-in-loop-to-1 invariant-loop decreases-loop → tie.After-put_record-i invariant-loop decreases-loop
 put c = c.before.before
 
-abbrev its : tie.After-record_of invariant-loop decreases-loop → tie.In-Line invariant-loop decreases-loop
+abbrev its : tie.After-record_of invariant-loop decreases-loop → tie.In-Some invariant-loop decreases-loop
 its c = c.before.before.before
 
 loop-holds : tie.Need-loop-to-init invariant-loop decreases-loop

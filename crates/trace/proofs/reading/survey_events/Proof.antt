@@ -8,6 +8,7 @@ use native.Mathlib.Omega.{arith}
 use borrow.Author.Rules.{rules}
 use borrow.Author.Tests.{ne_eqb, le-leb, lt-leb, lt-ltb}
 use lib.ListN.{length, length-set}
+use Rattle.std.specs.Prelude.{Some, None}
 use Rattle.event.specs.Answer.{answer, done, first}
 use Rattle.event.specs.Limit.{last_place, event_limit}
 use Rattle.event.specs.declared.Answer.{Answer}
@@ -16,7 +17,6 @@ use Rattle.memory.specs.declared.Memory.{Memory}
 use Rattle.memory.specs.Listed.{uses_atomically, stepped_in}
 use Rattle.kinds.proofs.Lawful.{place_below}
 use Rattle.text.specs.Line.{line_at, split_from, said_in}
-use Rattle.text.specs.declared.line.LineStep.TheVariants.{Line}
 use Rattle.text.proofs.Walk.{part, Next, next}
 use Rattle.frame.proofs.Tries.{Tried, tried_same, tried_go, tried_stop, tried_open, tried_end}
 use Rattle.frame.proofs.Settled.{first_done}
@@ -88,14 +88,14 @@ module _ (c : tie.After-next_line invariant-loop decreases-loop) where
   size = begin.well_formed.1.1.1.1.1.1.1.0.1.1.0.1.0.1
 
 -- its line has a LF
-module _ (c : tie.In-Line invariant-loop decreases-loop) where
+module _ (c : tie.In-Some invariant-loop decreases-loop) where
   abbrev l : tie.After-next_line invariant-loop decreases-loop
   l = c.before
 
   abbrev to : ℕ
   to = c.in-Line.to
 
-  here : line_at (text l) (at l) ≡ Line to
+  here : line_at (text l) (at l) ≡ Some to
   here = sym l.next_line.ensures ∙ c.in-Line.is
 
   -- it lies within the text, and there are no more lines and events than bytes before it
@@ -104,7 +104,7 @@ module _ (c : tie.In-Line invariant-loop decreases-loop) where
 
 -- and is read
 module _ (c : tie.After-record_of invariant-loop decreases-loop) where
-  abbrev t : tie.In-Line invariant-loop decreases-loop
+  abbrev t : tie.In-Some invariant-loop decreases-loop
   t = c.before.before
 
   abbrev this : List ℕ

@@ -9,10 +9,10 @@ use borrow.Author.Rules.{rules}
 use borrow.Author.Tests.{lt-ltb, le-ltb}
 use lib.ListN.{length, replicate, length-set}
 use lib.Seq.{get_or-set_other}
+use Rattle.std.specs.Prelude.{Some, None}
 use Rattle.memory.specs.Memory.{empty}
 use Rattle.memory.specs.declared.Memory.{Memory}
 use Rattle.text.specs.Line.{line_at, split_from}
-use Rattle.text.specs.declared.line.LineStep.TheVariants.{Line}
 use Rattle.text.proofs.Walk.{part, Next, next}
 use Rattle.frame.proofs.Tries.{Tried, tried_go, tried_stop}
 use Rattle.record.specs.Record.{record_of}
@@ -69,14 +69,14 @@ module _ (c : tie.After-next_line invariant-loop decreases-loop) where
   handed = (inv.walk.lined, omega (arith, inv.second, inv.walk.lined))
 
 -- its line has a LF
-module _ (c : tie.In-Line invariant-loop decreases-loop) where
+module _ (c : tie.In-Some invariant-loop decreases-loop) where
   abbrev l : tie.After-next_line invariant-loop decreases-loop
   l = c.before
 
   abbrev to : ℕ
   to = c.in-Line.to
 
-  here : line_at (text l) (at l) ≡ Line to
+  here : line_at (text l) (at l) ≡ Some to
   here = sym l.next_line.ensures ∙ c.in-Line.is
 
   -- it lies within the text, and there are no more lines than bytes before it
@@ -85,7 +85,7 @@ module _ (c : tie.In-Line invariant-loop decreases-loop) where
 
 -- and is read
 module _ (c : tie.After-record_of invariant-loop decreases-loop) where
-  abbrev t : tie.In-Line invariant-loop decreases-loop
+  abbrev t : tie.In-Some invariant-loop decreases-loop
   t = c.before.before
 
   is : {r : Record} → c.record_of.result ≡ r → record_of (begin (l t)).args.form (part (text (l t)) (at (l t)) (to t)) ≡ r

@@ -5,10 +5,10 @@ use mathlib.Core.Path.{◌≡◌, sym, ◌∙◌, ap}
 use native.Mathlib.Omega.{arith}
 use borrow.Author.Rules.{rules}
 use lib.ListN.{length}
+use Rattle.std.specs.Prelude.{Some, None}
 use Rattle.event.specs.declared.Event.{Event}
 use Rattle.text.proofs.Cuts.{until_le}
 use Rattle.text.specs.Line.{line_at}
-use Rattle.text.specs.declared.line.LineStep.TheVariants.{Line}
 use Rattle.text.proofs.Walk.{Next, next}
 use Rattle.record.specs.Layout.{event_line}
 use Rattle.record.specs.declared.form.Form.{Form}
@@ -39,7 +39,7 @@ abbrev decreases-loop : tie.decreases-loop-end
 decreases-loop to out₀ at text form next₀ from₀ out next from = length text - from
 
 -- a turn's line
-module _ (c : tie.In-Line invariant-loop decreases-loop) where
+module _ (c : tie.In-Some invariant-loop decreases-loop) where
   abbrev l : tie.At-loop-end invariant-loop decreases-loop
   l = c.before.before
 
@@ -49,7 +49,7 @@ module _ (c : tie.In-Line invariant-loop decreases-loop) where
   abbrev end : ℕ
   end = c.in-Line.end
 
-  here : line_at text l.loop-end.from ≡ Line end
+  here : line_at text l.loop-end.from ≡ Some end
   here = sym c.next_line.ensures ∙ c.in-Line.is
 
   line : Next text l.loop-end.from end
@@ -57,7 +57,7 @@ module _ (c : tie.In-Line invariant-loop decreases-loop) where
 
 -- what it says, and the others
 module _ (c : tie.After-record_of invariant-loop decreases-loop) where
-  abbrev e : tie.In-Line invariant-loop decreases-loop
+  abbrev e : tie.In-Some invariant-loop decreases-loop
   e = c.before.before.before
 
   abbrev to : Form

@@ -5,9 +5,9 @@ use mathlib.Core.Path.{◌≡◌, refl, sym, ◌∙◌, ap}
 use native.Mathlib.Omega.{arith}
 use borrow.Author.Rules.{rules}
 use lib.ListN.{length}
+use Rattle.std.specs.Prelude.{Some, None}
 use Rattle.event.specs.declared.Event.{Event}
 use Rattle.text.specs.Line.{line_at}
-use Rattle.text.specs.declared.line.LineStep.TheVariants.{Line}
 use Rattle.text.proofs.Walk.{Next, next}
 use Rattle.trace.specs.Reading.{events_on, events_of}
 use Rattle.uses.specs.Way.{ways_with, ways_of}
@@ -30,20 +30,20 @@ abbrev decreases-loop : tie.decreases-loop-to
 decreases-loop ways₀ text form at₀ ways at = length text - at
 
 -- a turn's line
-module _ (c : tie.In-Line invariant-loop decreases-loop) where
+module _ (c : tie.In-Some invariant-loop decreases-loop) where
   abbrev l : tie.At-loop-to invariant-loop decreases-loop
   l = c.before.before
 
   abbrev text : List ℕ
   text = l.args.text.now
 
-  here : line_at text l.loop-to.at ≡ Line c.in-Line.to
+  here : line_at text l.loop-to.at ≡ Some c.in-Line.to
   here = sym c.next_line.ensures ∙ c.in-Line.is
 
   line : Next text l.loop-to.at c.in-Line.to
   line = next _ _ _ here
 
-abbrev its : tie.After-touch_line invariant-loop decreases-loop → tie.In-Line invariant-loop decreases-loop
+abbrev its : tie.After-touch_line invariant-loop decreases-loop → tie.In-Some invariant-loop decreases-loop
 its c = c.before.before.before.before
 
 loop-holds : tie.Need-loop-to-init invariant-loop decreases-loop
