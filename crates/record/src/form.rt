@@ -19,30 +19,21 @@ pub const CODED_LIMIT: usize = 57300;
 pub fn is_coded(form: Form) -> bool
     ensures { result ≡ coded form }
 {
-    match form {
-        Form::One => false,
-        Form::Two => true,
-    }
+    matches!(form, Form::Two)
 }
 
 // Whether a code line would be lost.
 pub fn does_lose(form: Form, code: Word) -> bool
     ensures { result ≡ loses form code }
 {
-    match form {
-        Form::One => code != 0,
-        Form::Two => false,
-    }
+    matches!(form, Form::One) && code != 0
 }
 
 // Whether a starting value is a silent zero: it has no line, and a location without a line has it.
 pub fn is_silent(form: Form, value: Word) -> bool
     ensures { result ≡ silent form value }
 {
-    match form {
-        Form::One => value == 0,
-        Form::Two => false,
-    }
+    matches!(form, Form::One) && value == 0
 }
 
 // The most bytes of a text.

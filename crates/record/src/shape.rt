@@ -21,26 +21,17 @@ pub struct Shape {
 fn has_place(place: Place) -> bool
     ensures { result ≡ has_place place }
 {
-    match place {
-        Place::Location => true,
-        Place::Mutex => true,
-        Place::Nowhere => false,
-    }
+    matches!(place, Place::Location | Place::Mutex)
 }
 
 // Whether a line with such orders has an order before its values.
 fn has_order(orders: Orders) -> bool
     ensures { result ≡ has_order orders }
 {
-    match orders {
-        Orders::Bare => false,
-        Orders::Marks => false,
-        Orders::Reads => true,
-        Orders::Writes => true,
-        Orders::Updates => true,
-        Orders::Fences => true,
-        Orders::NoKind => false,
-    }
+    matches!(
+        orders,
+        Orders::Reads | Orders::Writes | Orders::Updates | Orders::Fences
+    )
 }
 
 // Those of a kind.
@@ -48,15 +39,12 @@ pub fn shape_of(form: Form, kind: Word) -> Shape
     ensures { result ≡ shape_of form kind }
 {
     let row = row_of(kind);
-    let orders = row.orders;
-    let located = row.place;
-    let values = row.values;
     Shape {
-        place: has_place(located),
-        order: has_order(orders),
-        first: 1 <= values,
-        second: 2 <= values,
-        mark: is_marks(orders),
+        place: has_place(row.place),
+        order: has_order(row.orders),
+        first: 1 <= row.values,
+        second: 2 <= row.values,
+        mark: is_marks(row.orders),
         code: is_coded(form),
     }
 }

@@ -47,16 +47,15 @@ pub fn word_in(row: &[u8; ROW]) -> &[u8]
 }
 
 // The number of a word in a table; 0 for a word that is not in it.
+#[tactic(auto, using(crate::proofs::Tables::row_hit, crate::proofs::Tables::row_miss, crate::proofs::Tables::row_none))]
 fn number_in(table: &[[u8; ROW]], word: &[u8]) -> Word
     requires { length table.now < 256 }
     ensures { result ≡ number_in 1 (map word_in (drop 1 table.now)) word.now }
 {
-    let mut i: usize = 1;
-    while i < table.len() {
+    for i in 1..table.len() {
         if same_bytes(word, word_in(&table[i])) {
             return i as Word;
         }
-        i += 1;
     }
     0
 }

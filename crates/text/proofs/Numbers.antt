@@ -12,7 +12,10 @@ use borrow.Author.Tests.{le-leb, lt-leb, leb-true}
 use Rattle.laws.proofs.Bools.{and_left, and_right}
 use Rattle.laws.proofs.Cases.{cases, either}
 use Rattle.std.specs.Prelude.{Some, None}
-use Rattle.text.specs.Number.{all_digits, value_on, digits_on, bad_start, number_of}
+use Rattle.text.specs.Number.{is_digit, all_digits, value_on, digits_on, bad_start, number_of}
+
+pub low : (b : ℕ) → b < 48 → is_digit b ≡ false
+low b h = simp (lt-leb 48 b h)
 
 grows : (n : ℕ) (l : List ℕ) → n ≤ value_on n l
 unfolding value_on

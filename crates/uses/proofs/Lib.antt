@@ -2,4 +2,5 @@
 pub mod Bad
 pub mod Ways
 pub mod Starts
+pub mod Idle
 pub mod Unique

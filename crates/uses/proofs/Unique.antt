@@ -1,5 +1,6 @@
 -- One answer to each contract of a public function, and one array of ways. Assumes nothing.
 use mathlib.Core.Path.{sym, ◌∙◌}
+use Rattle.event.proofs.Told.{passes_one}
 use Rattle.laws.specs.Unique.{OneAnswer, OneOf}
 use Rattle.uses.proofs.use_listed.Reads as use_listed
 use Rattle.uses.proofs.touch.Reads as touch
@@ -19,4 +20,4 @@ lacks_line_one : OneAnswer lacks_line.Post
 lacks_line_one κ a x y s t h k = h ∙ sym k
 
 idle_fault_one : OneAnswer idle_fault.Post
-idle_fault_one κ a x y s t h k = h ∙ sym k
+idle_fault_one κ a x y s t h k = passes_one _ x y h k

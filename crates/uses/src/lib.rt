@@ -3,7 +3,7 @@
 
 pub mod cover;
 
-ghost use Rattle.std.specs.Prelude.{◌≡◌, ◌||◌, ◌<◌};
+ghost use Rattle.std.specs.Prelude.{◌≡◌, ◌<◌};
 ghost use Rattle.event.specs.Limit.{places};
 ghost use Rattle.uses.specs.Way.{way_of, opposed, joined, clashing, clashing_in, ways_after, ways_with};
 
@@ -12,62 +12,49 @@ use kinds::{LAST_PLACE, Place, row_of};
 use memory::listed::{Listed, is_listed};
 
 // How a location is used: not at all, by plain events, by atomic ones.
-pub type Way = u8;
+#[derive(Clone, Copy, PartialEq, Eq)]
+pub enum Way {
+    Untouched,
+    Plain,
+    Atomic,
+}
 
 // The way of each location.
 pub type Ways = [Way; PLACES];
 
-pub const UNTOUCHED: Way = 0;
-
-const PLAIN: Way = 1;
-
-const ATOMIC: Way = 2;
-
 // The way in which an event of a kind uses its location.
+#[tactic(auto, unfolding(crate::specs::Way::way_of))]
 pub(crate) fn way_of(kind: Word) -> Way
     ensures { result ≡ way_of kind }
 {
     let row = row_of(kind);
-    let place = row.place;
-    let Place::Location = place else {
-        return UNTOUCHED;
-    };
-    if row.sync {
-        return ATOMIC;
+    match row.place {
+        Place::Location if row.sync => Way::Atomic,
+        Place::Location => Way::Plain,
+        Place::Mutex | Place::Nowhere => Way::Untouched,
     }
-    PLAIN
 }
 
 // Whether a location that was used in one way is now used in the other.
+#[tactic(auto, unfolding(crate::specs::Way::opposed))]
 fn are_opposed(was: Way, way: Way) -> bool
     ensures { result ≡ opposed was way }
 {
-    if was == PLAIN {
-        return way == ATOMIC;
-    }
-    if was == ATOMIC {
-        return way == PLAIN;
-    }
-    false
+    matches!(
+        (was, way),
+        (Way::Plain, Way::Atomic) | (Way::Atomic, Way::Plain)
+    )
 }
 
 // How a location is used after one event more.
+#[tactic(auto, unfolding(crate::specs::Way::joined))]
 fn joined_way(was: Way, way: Way) -> Way
     ensures { result ≡ joined was way }
 {
-    if way == UNTOUCHED {
-        return was;
+    match way {
+        Way::Untouched => was,
+        Way::Plain | Way::Atomic => way,
     }
-    way
-}
-
-fn is_either(a: bool, b: bool) -> bool
-    ensures { result ≡ (a || b) }
-{
-    if a {
-        return true;
-    }
-    b
 }
 
 // Whether an event clashes with an earlier one, by how its location was used so far; the ways are those after it.
@@ -83,6 +70,7 @@ fn use_place(ways: &mut Ways, e: Event) -> bool
 }
 
 // The same under a list, of which an atomic use clashes by itself. What is at no location neither clashes nor changes the ways.
+#[tactic(auto, using(crate::proofs::Ways::same_atomic, crate::proofs::Ways::way_atomic, crate::proofs::Ways::clash_inside, crate::proofs::Ways::with_inside))]
 pub fn use_listed(listed: &Listed, ways: &mut Ways, e: Event) -> bool
     ensures { (result ≡ clashing_in listed.now ways.old e) × (ways.new ≡ ways_with ways.old e) }
 {
@@ -90,10 +78,8 @@ pub fn use_listed(listed: &Listed, ways: &mut Ways, e: Event) -> bool
         return false;
     }
     let clash = use_place(ways, e);
-    if is_listed(listed, e.place) {
-        return is_either(way_of(e.kind) == ATOMIC, clash);
-    }
-    clash
+    let atomic = way_of(e.kind) == Way::Atomic;
+    (is_listed(listed, e.place) && atomic) || clash
 }
 
 // The ways after one event more.
