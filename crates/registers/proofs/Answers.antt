@@ -17,20 +17,19 @@ use Rattle.event.proofs.Answers.{Among, Given, none, among_first, among_more, gi
 use Rattle.text.specs.Line.{split, body}
 use Rattle.frame.specs.Reading.{headed, head_fault, lines_fault, text_fault, tried}
 use Rattle.frame.proofs.Answers.{lines_given, head_among, head_in}
+use Rattle.std.specs.Prelude.{Option, Some, None}
 use Rattle.registers.specs.Reg.{header, reg_of}
-use Rattle.registers.specs.Reading.{SoFar, nothing, list_limit, reg_limit, rank, before, regs_fault, is_grouped, regs_layout, regs_of, refused, list_of}
+use Rattle.registers.specs.declared.reg.Register.{Register}
+use Rattle.registers.specs.Reading.{ListRead, SoFar, nothing, list_limit, reg_limit, rank, before, regs_fault, is_grouped, regs_layout, regs_of, refused, list_of}
 use Rattle.registers.specs.Lines.{lines_read}
-use Rattle.registers.specs.declared.reg.RegRead.{RegRead}
-use Rattle.registers.specs.declared.reg.RegRead.TheVariants.{Reg, Refused}
-use Rattle.registers.specs.declared.ListRead.{ListRead}
 
 -- the numbers of its refusals
 abbrev pub list_faults : List ℕ
 list_faults = 1 ∷ 2 ∷ 22 ∷ []
 
-line_fault_lem : (s : SoFar) (r : RegRead) → (regs_fault s r ≡ 0) ⊎ (has (regs_fault s r) (2 ∷ 22 ∷ []) ≡ true)
-line_fault_lem s Refused = inr refl
-line_fault_lem s (Reg r) =
+line_fault_lem : (s : SoFar) (r : Option Register) → (regs_fault s r ≡ 0) ⊎ (has (regs_fault s r) (2 ∷ 22 ∷ []) ≡ true)
+line_fault_lem s None = inr refl
+line_fault_lem s (Some r) =
     by_cond (λ (f : ℕ). (f ≡ 0) ⊎ (has f (2 ∷ 22 ∷ []) ≡ true)) (ltb (rank r) s.low || leb reg_limit (before s r)) (inr refl) (inl refl)
 
 module _ (g : ℕ) (t : List ℕ) where

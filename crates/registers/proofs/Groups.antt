@@ -11,13 +11,11 @@ use Rattle.laws.proofs.Cases.{cases, either}
 use Rattle.text.specs.Line.{split, body, said_in}
 use Rattle.frame.specs.Reading.{text_fault}
 use Rattle.frame.proofs.Settled.{settled}
+use Rattle.std.specs.Prelude.{Option, Some, None}
 use Rattle.registers.specs.Reg.{reg_of}
-use Rattle.registers.specs.Reading.{is_grouped, regs_layout, regs_on, regs_in, regs_of, of_group, group_of, marks_of, refused, read_as, list_of}
+use Rattle.registers.specs.Reading.{ListRead, is_grouped, regs_layout, regs_on, regs_in, regs_of, of_group, group_of, marks_of, refused, read_as, list_of}
 use Rattle.registers.specs.Groups.{Agree}
-use Rattle.registers.specs.declared.ListRead.{ListRead}
 use Rattle.registers.specs.declared.reg.Register.{Register}
-use Rattle.registers.specs.declared.reg.RegRead.{RegRead}
-use Rattle.registers.specs.declared.reg.RegRead.TheVariants.{Reg, Refused}
 use Rattle.registers.proofs.Prints.{reg_back}
 
 -- what is read without refusal has no fault, and lists its own locations
@@ -46,9 +44,9 @@ record AllFirst (rs : List Register) : Type 0 where
   first : of_group 1 rs ≡ map location rs
   others : (g : ℕ) → (g ≡ 1 → ⊥) → of_group g rs ≡ []
 
-first_line : (l : List ℕ) (r : RegRead) → reg_of false l ≡ r → (rs : List Register) → AllFirst rs → AllFirst (regs_on r ++ rs)
-first_line l Refused h rs a = a
-first_line l (Reg r) h rs a =
+first_line : (l : List ℕ) (r : Option Register) → reg_of false l ≡ r → (rs : List Register) → AllFirst rs → AllFirst (regs_on r ++ rs)
+first_line l None h rs a = a
+first_line l (Some r) h rs a =
     let n = (reg_back false l r h).1 in
     let i : r.group ≡ 1 = omega (arith, n.one, n.group) in
     record { first = rw (i, a.first); others = λ g k. rw (i, ne_eqb 1 g (λ e. k (sym e)), a.others g k) }

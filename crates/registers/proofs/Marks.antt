@@ -13,12 +13,12 @@ use Rattle.laws.proofs.Cases.{cases, either, side}
 use Rattle.laws.specs.Has.{has}
 use Rattle.event.specs.Limit.{places, last_place}
 use Rattle.text.specs.Line.{said_in}
+use Rattle.std.specs.Prelude.{Some}
 use Rattle.registers.specs.Reg.{reg_of}
 use Rattle.registers.specs.Reading.{rank, of_group, marked, marks_of}
 use Rattle.registers.specs.Lines.{marked_for, marking}
 use Rattle.registers.specs.Text.{Ascending}
 use Rattle.registers.specs.declared.reg.Register.{Register}
-use Rattle.registers.specs.declared.reg.RegRead.TheVariants.{Reg}
 
 marked_at : (ps : List ℕ) (marks : List Bool) (l : ℕ) → l < length marks → get_or (marked marks ps) l false ≡ (has l ps || get_or marks l false)
 unfolding marked
@@ -45,7 +45,7 @@ unfolding marked_for
 length_marked g marks r = cases (either (eqb r.group g)) (λ e. rw e (length-set marks r.location true)) (λ e. rw e)
 
 -- what lines list of which the first is a register
-pub marking_line : (grouped : Bool) (g : ℕ) (marks : List Bool) (l m : List ℕ) (ls : List (List ℕ)) (r : Register) → reg_of grouped l ≡ Reg r
+pub marking_line : (grouped : Bool) (g : ℕ) (marks : List Bool) (l m : List ℕ) (ls : List (List ℕ)) (r : Register) → reg_of grouped l ≡ Some r
     → marking grouped g marks (l ∷ m ∷ ls) ≡ marking grouped g (marked_for g marks r) (m ∷ ls)
 unfolding said_in marked marked_for
 marking_line grouped g marks l m ls r h = cases (either (eqb r.group g)) (λ e. rw (h, e)) (λ e. rw (h, e))

@@ -13,6 +13,7 @@ use Rattle.laws.specs.Each.{Each}
 use Rattle.laws.proofs.Cases.{cases, either, not_first}
 use Rattle.laws.proofs.Lists.{Free, each_append}
 use Rattle.event.specs.Answer.{done}
+use Rattle.event.specs.Limit.{last_place}
 use Rattle.text.specs.Cut.{glue}
 use Rattle.text.specs.Line.{split, body, said_in}
 use Rattle.text.specs.Number.{decimal}
@@ -24,14 +25,12 @@ use Rattle.text.proofs.Walk.{PartLeft, some_end, said_on}
 use Rattle.frame.specs.Reading.{headed, lines_fault}
 use Rattle.frame.proofs.Heads.{framed, by_lines}
 use Rattle.frame.proofs.Lines.{lines_go, lines_pass}
+use Rattle.std.specs.Prelude.{Option, Some, None}
 use Rattle.registers.specs.Reg.{header, reg_word, reg_of, reg_line}
-use Rattle.registers.specs.Reading.{SoFar, nothing, list_limit, reg_limit, rank, regs_fault, after_reg, before, is_grouped, regs_layout, regs_on, regs_in, regs_of}
+use Rattle.registers.specs.Reading.{ListRead, SoFar, nothing, list_limit, reg_limit, rank, regs_fault, after_reg, before, is_grouped, regs_layout, regs_on, regs_in, regs_of}
 use Rattle.registers.specs.Reading.{of_group, group_of, marks_of, read_as, list_of}
 use Rattle.registers.specs.Text.{list_text, Named, Ascending, Fits}
-use Rattle.registers.specs.declared.ListRead.{ListRead}
 use Rattle.registers.specs.declared.reg.Register.{Register}
-use Rattle.registers.specs.declared.reg.RegRead.{RegRead}
-use Rattle.registers.specs.declared.reg.RegRead.TheVariants.{Reg, Refused}
 use Rattle.registers.proofs.Groups.{list_done, one_answer}
 use Rattle.registers.proofs.Marks.{same_marks}
 use Rattle.registers.proofs.Prints.{reg_read, reg_back}
@@ -45,6 +44,10 @@ pub group_in : (grouped : Bool) (r : Register) → Named grouped r → r.group <
 group_in true r n = omega (arith, n.group)
 group_in false r n = omega (arith, n.group)
 
+-- and a register that is read has its count and its mark
+pub reg_in : (grouped : Bool) (l : List ℕ) (r : Register) → reg_of grouped l ≡ Some r → (r.group < 3) × (r.location ≤ last_place)
+reg_in grouped l r h = let n = (reg_back grouped l r h).1 in (group_in grouped r n, n.location)
+
 -- behind what is known there is room for so many registers of each group
 record Room (s : SoFar) (rs : List Register) : Type 0 where
   size : length s.counts ≡ 3
@@ -52,13 +55,13 @@ record Room (s : SoFar) (rs : List Register) : Type 0 where
 
 -- a register takes its place in its own group
 count_after : (s : SoFar) (r : Register) (rs : List Register) (g : ℕ) → length s.counts ≡ 3 → r.group < 3
-    → get_or s.counts g 0 + length (of_group g (r ∷ rs)) ≡ get_or (after_reg s (Reg r)).counts g 0 + length (of_group g rs)
+    → get_or s.counts g 0 + length (of_group g (r ∷ rs)) ≡ get_or (after_reg s (Some r)).counts g 0 + length (of_group g rs)
 count_after s r rs g z n =
     cases (either (eqb r.group g))
     (λ e. let i = eqb-true r.group g e in rw (e, ← i, get_or-set_same s.counts r.group (before s r + 1) 0 (omega (arith, n, z)), i) (omega arith))
     (λ e. rw (e, get_or-set_other s.counts r.group g (before s r + 1) 0 (λ i. eqb-false r.group g e (sym i))))
 
-room_after : (s : SoFar) (r : Register) (rs : List Register) → r.group < 3 → Room s (r ∷ rs) → Room (after_reg s (Reg r)) rs
+room_after : (s : SoFar) (r : Register) (rs : List Register) → r.group < 3 → Room s (r ∷ rs) → Room (after_reg s (Some r)) rs
 room_after s r rs n k = record {
   size = length-set s.counts r.group (before s r + 1) ∙ k.size;
   few = λ g. rw (← count_after s r rs g k.size n) (k.few g);
@@ -73,7 +76,7 @@ room_own s r rs k =
 
 -- a register that is not one too many
 module _ (s : SoFar) (r : Register) (n : r.group < 3) (few : before s r < reg_limit) where
-  room_next : Room s [] → Room (after_reg s (Reg r)) []
+  room_next : Room s [] → Room (after_reg s (Some r)) []
   room_next k = record {
     size = length-set s.counts r.group (before s r + 1) ∙ k.size;
     few = λ g.
@@ -100,11 +103,11 @@ pub neither : (x y : Bool) → (x || y) ≡ false → (x ≡ false) × (y ≡ fa
 neither false y h = (refl, h)
 neither true y h = absurd (false≢true (sym h))
 
-line_printed : (grouped : Bool) (s : SoFar) (l m : List ℕ) (ls : List (List ℕ)) (r : RegRead) → reg_of grouped l ≡ r → regs_fault s r ≡ 0
+line_printed : (grouped : Bool) (s : SoFar) (l m : List ℕ) (ls : List (List ℕ)) (r : Option Register) → reg_of grouped l ≡ r → regs_fault s r ≡ 0
     → Printed grouped (after_reg s r) (m ∷ ls) → Printed grouped s (l ∷ m ∷ ls)
 unfolding said_in
-line_printed grouped s l m ls Refused q h g k = absurd (omega arith)
-line_printed grouped s l m ls (Reg r) q h g k =
+line_printed grouped s l m ls None q h g k = absurd (omega arith)
+line_printed grouped s l m ls (Some r) q h g k =
     let f = neither _ _ (not_first (λ (x : ℕ). x) (ltb (rank r) s.low || leb reg_limit (before s r)) 22 0 (λ z. omega arith) h).0 in
     let low = ltb-false (rank r) s.low f.0 in
     let few = leb-false reg_limit (before s r) f.1 in
@@ -163,7 +166,7 @@ tail_lines grouped k s (r ∷ rs) b a =
     let q = reg_read grouped r n in
     lines_go (regs_layout grouped) 4 k s (reg_line grouped r) (tail grouped rs) (some_end (map (reg_line grouped) rs))
     (rw (q, le-ltb (rank r) s.low a.0.0, lt-leb reg_limit (before s r) (room_own s r rs b)))
-    ∙ rw q (tail_lines grouped (k + 1) (after_reg s (Reg r)) rs (room_after s r rs (group_in grouped r n) b) a.1)
+    ∙ rw q (tail_lines grouped (k + 1) (after_reg s (Some r)) rs (room_after s r rs (group_in grouped r n) b) a.1)
 
 tail_regs : (grouped : Bool) (low : ℕ) (rs : List Register) → Ascending grouped low rs → regs_in grouped (tail grouped rs) ≡ rs
 unfolding said_in

@@ -7,7 +7,7 @@ use mathlib.Core.List.{List, [], ◌∷◌}
 use native.Mathlib.Omega.{arith}
 use lib.Dec.{eqb}
 use borrow.Author.Tests.{eqb-false, ne_eqb}
-use Rattle.std.specs.Prelude.{Some, None}
+use Rattle.std.specs.Prelude.{Option, Some, None}
 use Rattle.laws.proofs.Cases.{cases, either}
 use Rattle.laws.proofs.Lists.{Free}
 use Rattle.event.specs.Limit.{last_place}
@@ -20,14 +20,12 @@ use Rattle.text.proofs.Words.{same_eq}
 use Rattle.registers.specs.Reg.{reg_word, reg_rest, group_rest, after_word, reg_of, reg_line}
 use Rattle.registers.specs.Text.{Named}
 use Rattle.registers.specs.declared.reg.Register.{Register}
-use Rattle.registers.specs.declared.reg.RegRead.{RegRead}
-use Rattle.registers.specs.declared.reg.RegRead.TheVariants.{Reg, Refused}
 
 word_free : Free 9 reg_word
 word_free = ((λ e. omega arith), ((λ e. omega arith), ((λ e. omega arith), tt)))
 
 -- Document 02, C-16: "lines `reg`, location", and C-20: "lines `reg`, group (1 or 2), location". A register's line is read as the register.
-pub reg_read : (grouped : Bool) (r : Register) → Named grouped r → reg_of grouped (reg_line grouped r) ≡ Reg r
+pub reg_read : (grouped : Bool) (r : Register) → Named grouped r → reg_of grouped (reg_line grouped r) ≡ Some r
 unfolding reg_of reg_line after_word group_rest reg_rest same_bytes
 reg_read true r n =
     rw (
@@ -41,9 +39,9 @@ reg_read false r n =
     rw (cut_glue 9 reg_word (decimal r.location ∷ []) (word_free, (decimal_no_tab _, tt)), round last_place r.location n.location, g)
 
 -- what a register that was read says of the fields
-abbrev Says : Bool → List (List ℕ) → RegRead → Type 0
-Says grouped fs (Reg r) = (join fs ≡ reg_line grouped r) × Named grouped r
-Says grouped fs Refused = Unit {0}
+abbrev Says : Bool → List (List ℕ) → Option Register → Type 0
+Says grouped fs (Some r) = (join fs ≡ reg_line grouped r) × Named grouped r
+Says grouped fs None = Unit {0}
 
 -- what comes before the location, by the form
 abbrev start : Bool → ℕ → List (List ℕ) → List (List ℕ)
@@ -53,8 +51,8 @@ start false g fs = reg_word ∷ fs
 abbrev InForm : Bool → ℕ → Type 0
 InForm grouped g = (p : ℕ) → p ≤ last_place → Named grouped (record { group = g; location = p })
 
-number_says : (grouped : Bool) (g : ℕ) → InForm grouped g → (f : List ℕ) (fs : List (List ℕ)) (r : NumberRead) → number_of last_place f ≡ r
-    → Says grouped (start grouped g (f ∷ fs)) (on_number Refused r (λ p. on_end Refused fs (Reg (record { group = g; location = p }))))
+number_says : (grouped : Bool) (g : ℕ) → InForm grouped g → (f : List ℕ) (fs : List (List ℕ)) (r : Option ℕ) → number_of last_place f ≡ r
+    → Says grouped (start grouped g (f ∷ fs)) (on_number None r (λ p. on_end None fs (Some (record { group = g; location = p }))))
 unfolding reg_line
 number_says grouped g n f fs None e = tt
 number_says true g n f [] (Some p) e = let r = read_back last_place f p e in (rw r.0, n p r.1)
@@ -66,8 +64,8 @@ unfolding reg_rest
 rest_says grouped g n [] = tt
 rest_says grouped g n (f ∷ fs) = number_says grouped g n f fs (number_of last_place f) refl
 
-group_says : (f : List ℕ) (fs : List (List ℕ)) (r : NumberRead) → number_of 2 f ≡ r
-    → Says true (reg_word ∷ f ∷ fs) (on_number Refused r (λ g. cond (eqb g 0) Refused (reg_rest g fs)))
+group_says : (f : List ℕ) (fs : List (List ℕ)) (r : Option ℕ) → number_of 2 f ≡ r
+    → Says true (reg_word ∷ f ∷ fs) (on_number None r (λ g. cond (eqb g 0) None (reg_rest g fs)))
 group_says f fs None e = tt
 group_says f fs (Some g) e =
     let r = read_back 2 f g e in
@@ -82,13 +80,13 @@ word_says true [] = tt
 word_says true (f ∷ fs) = group_says f fs (number_of 2 f) refl
 word_says false fs = rest_says false 1 (λ p h. record { one = omega arith; group = omega arith; location = h }) fs
 
-fields_say : (grouped : Bool) (fs : List (List ℕ)) → Says grouped fs (on_field Refused fs (λ word rest. cond (same_bytes word reg_word) (after_word grouped rest) Refused))
+fields_say : (grouped : Bool) (fs : List (List ℕ)) → Says grouped fs (on_field None fs (λ word rest. cond (same_bytes word reg_word) (after_word grouped rest) None))
 fields_say grouped [] = tt
 fields_say grouped (w ∷ fs) = cases (either (same_bytes w reg_word)) (λ e. rw (e, same_eq w reg_word e) (word_says grouped fs)) (λ e. rw e tt)
 
 -- A line that is read as a register is the register's line.
-pub reg_back : (grouped : Bool) (l : List ℕ) (r : Register) → reg_of grouped l ≡ Reg r → (l ≡ reg_line grouped r) × Named grouped r
+pub reg_back : (grouped : Bool) (l : List ℕ) (r : Register) → reg_of grouped l ≡ Some r → (l ≡ reg_line grouped r) × Named grouped r
 unfolding reg_of
 reg_back grouped l r h =
-    let s : Says grouped (fields l) (Reg r) = rw h at (fields_say grouped (fields l)) in
+    let s : Says grouped (fields l) (Some r) = rw h at (fields_say grouped (fields l)) in
     (sym (glue_cut 9 l) ∙ s.0, s.1)

@@ -1,9 +1,8 @@
 -- The steps of a reading: the lines after some registers. Assumes nothing.
 use Rattle.std.specs.Prelude.{ℕ, ◌+◌, Bool, true, cond, List, eqb, set}
 use Rattle.frame.specs.Reading.{tried}
-use Rattle.registers.specs.Reading.{SoFar, regs_layout, regs_in, of_group, marked, refused, read_as}
+use Rattle.registers.specs.Reading.{SoFar, regs_layout, regs_in, of_group, marked, refused, read_as, ListRead}
 use Rattle.registers.specs.declared.reg.Register.{Register}
-use Rattle.registers.specs.declared.ListRead.{ListRead}
 
 -- The marks with that of a register, if it is the group's.
 unfoldable pub marked_for : ℕ → List Bool → Register → List Bool

@@ -1,7 +1,8 @@
 -- Document 02, C-16: a list text "is read before a trace is read or written, answering 1, then line by line 2 and 22, side 4"; C-20: lines "ascending by group,
 -- then location; up to 32 each. A check is run for one group and uses only its lines". Assumes nothing.
-use Rattle.std.specs.Prelude.{ℕ, ◌+◌, ◌*◌, Bool, true, cond, ◌||◌, List, [], ◌∷◌, eqb, leb, ltb, get_or, replicate, set}
+use Rattle.std.specs.Prelude.{ℕ, ◌+◌, ◌*◌, Bool, true, cond, ◌||◌, List, [], ◌∷◌, eqb, leb, ltb, get_or, replicate, set, Option, Some, None, Result}
 use Rattle.event.specs.Answer.{done}
+use Rattle.event.specs.Told.{Tells}
 use Rattle.event.specs.Limit.{places}
 use Rattle.memory.specs.Listed.{none_listed}
 use Rattle.event.specs.declared.Answer.{Answer}
@@ -9,9 +10,6 @@ use Rattle.text.specs.Line.{split, body, said_in}
 use Rattle.frame.specs.Reading.{Layout, headed, text_fault, settle}
 use Rattle.registers.specs.Reg.{header, reg_of}
 use Rattle.registers.specs.declared.reg.Register.{Register}
-use Rattle.registers.specs.declared.reg.RegRead.{RegRead}
-use Rattle.registers.specs.declared.reg.RegRead.TheVariants.{Reg, Refused}
-use Rattle.registers.specs.declared.ListRead.{ListRead}
 
 -- The most bytes.
 abbrev pub list_limit : ℕ
@@ -38,14 +36,14 @@ abbrev pub before : SoFar → Register → ℕ
 before s r = get_or s.counts r.group 0
 
 -- The refusal of a line, 2, or 22: "list out of order or over 32"; 0 for none.
-abbrev pub regs_fault : SoFar → RegRead → ℕ
-regs_fault s Refused = 2
-regs_fault s (Reg r) = cond (ltb (rank r) s.low || leb reg_limit (before s r)) 22 0
+abbrev pub regs_fault : SoFar → Option Register → ℕ
+regs_fault s None = 2
+regs_fault s (Some r) = cond (ltb (rank r) s.low || leb reg_limit (before s r)) 22 0
 
 -- What is known after it.
-abbrev pub after_reg : SoFar → RegRead → SoFar
-after_reg s Refused = s
-after_reg s (Reg r) = record { low = rank r + 1; counts = set s.counts r.group (before s r + 1) }
+abbrev pub after_reg : SoFar → Option Register → SoFar
+after_reg s None = s
+after_reg s (Some r) = record { low = rank r + 1; counts = set s.counts r.group (before s r + 1) }
 
 -- Whether a text is grouped: line 1 says so.
 unfoldable pub is_grouped : List ℕ → Bool
@@ -62,9 +60,9 @@ regs_layout grouped = record {
 }
 
 -- The registers of a text: those of the lines after line 1.
-abbrev pub regs_on : RegRead → List Register
-regs_on Refused = []
-regs_on (Reg r) = r ∷ []
+abbrev pub regs_on : Option Register → List Register
+regs_on None = []
+regs_on (Some r) = r ∷ []
 
 abbrev pub regs_in : Bool → List (List ℕ) → List Register
 regs_in grouped ls = said_in (λ l. regs_on (reg_of grouped l)) ls
@@ -88,7 +86,12 @@ marked marks (p ∷ ps) = marked (set marks p true) ps
 abbrev pub marks_of : List ℕ → List Bool
 marks_of ps = marked none_listed ps
 
--- What a refusal hands back, and what a reading does.
+-- What a reading says: its answer, and which locations are listed, none under a refusal.
+pub record ListRead : Type 0 where
+  pub answer : Answer
+  pub listed : List Bool
+
+-- What a refusal says, and what a reading does.
 abbrev pub refused : Answer → ListRead
 refused a = record { answer = a; listed = none_listed }
 
@@ -98,3 +101,7 @@ read_as marks = record { answer = done; listed = marks }
 -- A reading for a group: the whole list is tried, and the group's own lines are used.
 unfoldable pub list_of : ℕ → List ℕ → ListRead
 list_of g t = settle refused (text_fault (regs_layout (is_grouped t)) 4 t) (read_as (marks_of (group_of g t)))
+
+-- What is handed back is what a reading says: the marks, or the answer that refuses.
+abbrev pub Reads : Result (List Bool) Answer → ListRead → Type 0
+Reads result read = Tells read_as refused read result

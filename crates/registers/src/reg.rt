@@ -5,9 +5,8 @@ ghost use Rattle.registers.specs.Reg.{reg_rest, group_rest, after_word, reg_of};
 
 use event::Word;
 use kinds::LAST_PLACE;
-use text::field::FieldStep;
 use text::reader::field_of;
-use text::take::{Taken, ends_at, take_number};
+use text::take::{ends_at, take_number};
 use text::word::same_bytes;
 
 // The groups are 1 and 2.
@@ -20,40 +19,36 @@ pub struct Register {
     pub location: Word,
 }
 
-#[derive(Clone, Copy)]
-pub enum RegRead {
-    Reg(Register),
-    Refused,
-}
-
-fn reg_rest(group: Word, line: &[u8], at: usize) -> RegRead
+// After the group: a location, and nothing more.
+#[tactic(auto, using(crate::proofs::Steps::rest_by))]
+fn reg_rest(group: Word, line: &[u8], at: usize) -> Option<Register>
     ensures { result ≡ reg_rest group (fields_from line.now at) }
 {
-    let Taken::Number { value, next } = take_number(line, at, LAST_PLACE) else {
-        return RegRead::Refused;
-    };
-    if ends_at(line, next) {
-        return RegRead::Reg(Register {
-            group,
-            location: value,
-        });
+    let taken = take_number(line, at, LAST_PLACE)?;
+    if !ends_at(line, taken.next) {
+        return None;
     }
-    RegRead::Refused
+    Some(Register {
+        group,
+        location: taken.value,
+    })
 }
 
-fn group_rest(line: &[u8], at: usize) -> RegRead
+// A group, and what comes after it.
+#[tactic(auto, using(crate::proofs::Steps::group_by))]
+fn group_rest(line: &[u8], at: usize) -> Option<Register>
     ensures { result ≡ group_rest (fields_from line.now at) }
 {
-    let Taken::Number { value, next } = take_number(line, at, LAST_GROUP) else {
-        return RegRead::Refused;
-    };
-    if value == 0 {
-        return RegRead::Refused;
+    let taken = take_number(line, at, LAST_GROUP)?;
+    if taken.value == 0 {
+        return None;
     }
-    reg_rest(value, line, next)
+    reg_rest(taken.value, line, taken.next)
 }
 
-fn after_word(grouped: bool, line: &[u8], at: usize) -> RegRead
+// After the word: a line of form 1 names no group, it is group 1's.
+#[tactic(auto, unfolding(crate::specs::Reg::after_word))]
+fn after_word(grouped: bool, line: &[u8], at: usize) -> Option<Register>
     ensures { result ≡ after_word grouped (fields_from line.now at) }
 {
     if grouped {
@@ -62,14 +57,14 @@ fn after_word(grouped: bool, line: &[u8], at: usize) -> RegRead
     reg_rest(1, line, at)
 }
 
-pub(crate) fn reg_of(grouped: bool, line: &[u8]) -> RegRead
+// The register that a line names; none where it is not of the layout.
+#[tactic(auto, using(crate::proofs::Steps::line_by, text::proofs::Fields::field_in))]
+pub(crate) fn reg_of(grouped: bool, line: &[u8]) -> Option<Register>
     ensures { result ≡ reg_of grouped line.now }
 {
-    let FieldStep::Field { from, to } = field_of(line, 0) else {
-        return RegRead::Refused;
-    };
-    if same_bytes(&line[from..to], b"reg") {
-        return after_word(grouped, line, to + 1);
+    let word = field_of(line, 0)?;
+    if !same_bytes(&line[word.from..word.to], b"reg") {
+        return None;
     }
-    RegRead::Refused
+    after_word(grouped, line, word.to + 1)
 }
