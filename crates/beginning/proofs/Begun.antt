@@ -11,7 +11,7 @@ use Rattle.trace.specs.Reading.{events_of, read_in, survey_in}
 use Rattle.trace.proofs.OneText.{text_whole}
 use Rattle.trace.proofs.Readings.{counts, read_passed}
 use Rattle.rules.proofs.Entries.{entries}
-use Rattle.registers.specs.declared.ListRead.{ListRead}
+use Rattle.registers.specs.Reading.{ListRead}
 use Rattle.checker.specs.Check.{ChecksIn, Lent, check_in, entries_read, entry_room_in, refused}
 use Rattle.checker.specs.Demand.{AdmittedIn, entries_for, premise, source_of, target_of}
 use Rattle.checker.specs.declared.Checked.{Checked}

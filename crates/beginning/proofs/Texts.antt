@@ -14,7 +14,7 @@ use Rattle.event.specs.Answer.{done}
 use Rattle.memory.specs.Listed.{none_listed}
 use Rattle.event.specs.declared.Answer.{Answer}
 use Rattle.event.specs.declared.Event.{Event}
-use Rattle.registers.specs.declared.ListRead.{ListRead}
+use Rattle.registers.specs.Reading.{ListRead}
 use Rattle.rules.specs.View.{View, view_in}
 use Rattle.rules.specs.Moves.{Run as RunOf}
 use Rattle.rules.specs.Run.{Ends, Traced, changes, number}

@@ -6,7 +6,7 @@ use Rattle.event.specs.declared.Event.{Event}
 use Rattle.rules.specs.View.{View, view, view_in}
 use Rattle.rules.specs.Moves.{Run}
 use Rattle.rules.specs.Run.{Traced, number, changes, Ends}
-use Rattle.registers.specs.declared.ListRead.{ListRead}
+use Rattle.registers.specs.Reading.{ListRead}
 use Rattle.checker.specs.Check.{Lent, check_listed}
 use Rattle.checker.specs.Demand.{entries_for, source_of, target_of}
 use Rattle.changes.specs.Apply.{outcome_by, stands}

@@ -2,7 +2,7 @@
 use Rattle.std.specs.Prelude.{◌≡◌, Bool, false, cond, List, [], ◌∷◌, ℕ, zero, suc, eqb, length}
 use Rattle.memory.specs.Listed.{none_listed}
 use Rattle.frame.specs.Reading.{settle}
-use Rattle.registers.specs.declared.ListRead.{ListRead}
+use Rattle.registers.specs.Reading.{ListRead}
 use Rattle.trace.specs.Listed.{unless_listed}
 use Rattle.checker.specs.Check.{Lent, check_in, entry_room_in, entry_room_listed, refused, source_room_in, source_room_listed, target_room_in, target_room_listed}
 use Rattle.checker.specs.Demand.{entries_for, target_of}

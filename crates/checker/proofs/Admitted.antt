@@ -17,7 +17,7 @@ use Rattle.event.specs.declared.Answer.{Answer}
 use Rattle.event.proofs.Answers.{Among, among_first, among_more, among_done, among_has, among_not, given_among, in_first}
 use Rattle.laws.proofs.Has.{has_every}
 use Rattle.registers.specs.Reading.{list_of}
-use Rattle.registers.specs.declared.ListRead.{ListRead}
+use Rattle.registers.specs.Reading.{ListRead}
 use Rattle.registers.proofs.Answers.{list_faults, read_among as list_among, read_in_lem as list_in}
 use Rattle.trace.proofs.Answers.{trace_faults, source_in, target_in}
 use Rattle.trace.proofs.Answers.{read_among as trace_among}

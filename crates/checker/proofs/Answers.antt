@@ -7,7 +7,7 @@ use borrow.Author.Tests.{ne_eqb}
 use Rattle.event.specs.declared.Answer.{Answer}
 use Rattle.trace.specs.Reading.{events_of, front}
 use Rattle.matching.specs.Reading.{entries_of, front as entry_front}
-use Rattle.registers.specs.declared.ListRead.{ListRead}
+use Rattle.registers.specs.Reading.{ListRead}
 use Rattle.checker.specs.Check.{
   Lent,
   source_read_in,

@@ -19,7 +19,7 @@ use Rattle.trace.proofs.OneText.{text_whole}
 use Rattle.trace.proofs.Readings.{counts, read_passed}
 use Rattle.matching.specs.Reading.{entries_of, front as entry_front, read_of as entries_read}
 use Rattle.matching.proofs.Readings.{counts as entry_counts, read_passed as entries_passed}
-use Rattle.trace.specs.declared.reading.TraceRead.{TraceRead}
+use Rattle.trace.specs.Reading.{TraceRead}
 use Rattle.matching.specs.declared.MatchingRead.{MatchingRead}
 use Rattle.checker.specs.Check.{Lent, source_read_in, target_read_in, entries_read as entries_reading, verdict_for, held_of, judged_in}
 

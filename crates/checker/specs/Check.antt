@@ -9,12 +9,12 @@ use Rattle.event.specs.declared.Answer.{Answer}
 use Rattle.trace.specs.Reading.{events_of, front}
 use Rattle.trace.specs.Reading.{read_in as trace_read}
 use Rattle.trace.specs.Listed.{unless_listed}
-use Rattle.trace.specs.declared.reading.TraceRead.{TraceRead}
+use Rattle.trace.specs.Reading.{TraceRead}
 use Rattle.matching.specs.Reading.{entries_of}
 use Rattle.matching.specs.Reading.{read_of as matching_read, front as entry_front}
 use Rattle.matching.specs.declared.MatchingRead.{MatchingRead}
 use Rattle.frame.specs.Reading.{settle}
-use Rattle.registers.specs.declared.ListRead.{ListRead}
+use Rattle.registers.specs.Reading.{ListRead}
 use Rattle.rules.specs.Verdict.{verdict_in}
 use Rattle.checker.specs.declared.Checked.{Checked}
 use Rattle.checker.specs.declared.Held.{Held}

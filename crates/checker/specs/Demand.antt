@@ -8,7 +8,7 @@ use Rattle.event.specs.declared.Event.{Event}
 use Rattle.trace.specs.Reading.{events_of}
 use Rattle.matching.specs.Reading.{entries_of}
 use Rattle.registers.specs.Reading.{list_of}
-use Rattle.registers.specs.declared.ListRead.{ListRead}
+use Rattle.registers.specs.Reading.{ListRead}
 use Rattle.rules.specs.View.{View, view, view_in}
 use Rattle.rules.specs.Moves.{Run, By}
 use Rattle.rules.specs.Run.{Traced, event_of, number, changes, Realises}

@@ -3,7 +3,7 @@
 use Rattle.std.specs.Prelude.{ℕ, List, ◌≡◌}
 use Rattle.registers.specs.Groups.{Agree}
 use Rattle.registers.specs.Reading.{list_of}
-use Rattle.registers.specs.declared.ListRead.{ListRead}
+use Rattle.registers.specs.Reading.{ListRead}
 use Rattle.checker.specs.Check.{Lent, check_listed, source_room_listed, target_room_listed, entry_room_listed}
 use Rattle.checker.specs.Line.{offending_line}
 

@@ -1,5 +1,5 @@
 -- Document 01, "Offending line": the line at fault, as a part of the source or target text. Assumes nothing.
-use Rattle.std.specs.Prelude.{ℕ, ◌+◌, ◌-◌, ◌≤◌, ◌≡◌, Bool, true, false, cond, ◌||◌, List, [], ◌∷◌, eqb, length, take, drop}
+use Rattle.std.specs.Prelude.{ℕ, ◌+◌, ◌-◌, ◌≤◌, ◌≡◌, Bool, true, false, cond, ◌||◌, List, [], ◌∷◌, eqb, length, take, drop, Option, Some, None}
 use Rattle.laws.specs.Has.{has}
 use Rattle.event.specs.declared.Answer.{Answer}
 use Rattle.text.specs.Line.{split}
@@ -8,13 +8,13 @@ use Rattle.record.specs.declared.form.Form.{Form}
 use Rattle.record.specs.declared.Record.{Record}
 use Rattle.trace.specs.Reading.{form_of}
 use Rattle.checker.specs.declared.line.Span.{Span}
-use Rattle.record.specs.declared.Record.TheVariants.{Init, AnEvent, Refused}
+use Rattle.record.specs.declared.Record.TheVariants.{Init, AnEvent}
 
 -- Whether a record is an event.
-abbrev pub is_event : Record → Bool
-is_event (Init p v) = false
-is_event (AnEvent e) = true
-is_event Refused = false
+abbrev pub is_event : Option Record → Bool
+is_event (Some (Init p v)) = false
+is_event (Some (AnEvent e)) = true
+is_event None = false
 
 -- Whether a line of a text of a form is counted: every line, or only those that are events.
 unfoldable pub counted : Form → Bool → List ℕ → Bool

@@ -1,8 +1,11 @@
 -- What a function that may refuse hands back is told by what a definition says: two results that it tells are the same. Assumes nothing.
 use mathlib.Core.Path.{◌≡◌, refl, ap, sym, ◌∙◌}
 use mathlib.Core.Bool.{false≢true}
+use Prim.Native.Nat.{ℕ}
+use native.Mathlib.Omega.{arith}
 use Rattle.std.specs.Prelude.{Result, Ok, Err, ⊤}
-use Rattle.event.specs.Answer.{done}
+use Rattle.std.specs.Result.{result_and}
+use Rattle.event.specs.Answer.{done, first}
 use Rattle.event.specs.Told.{is_done, Refuses, Tells, Passes}
 use Rattle.event.specs.declared.Answer.{Answer}
 
@@ -22,3 +25,34 @@ module _ {A R : Type 0} (whole : A → R) (refused : Answer → R) (answer_of : 
 
 pub passes_one : (said : Answer) (x y : Result ⊤ Answer) → Passes said x → Passes said y → x ≡ y
 passes_one said x y h k = tells_one (λ _. done) (λ a. a) (λ a. a) (λ _. tt) (λ _. refl) (λ a. refl) (λ x. refl) said x y h k
+
+-- the answer of a result by which nothing is made
+abbrev pub answer_in : Result ⊤ Answer → Answer
+answer_in (Ok x) = done
+answer_in (Err a) = a
+
+-- a result that stands for its own answer: an Err refuses
+abbrev pub Stands : Result ⊤ Answer → Type 0
+Stands r = Passes (answer_in r) r
+
+pub passes_answer : (said : Answer) (r : Result ⊤ Answer) → Passes said r → answer_in r ≡ said
+passes_answer said (Ok x) h = h
+passes_answer said (Err a) h = h.1
+
+pub passes_stands : (said : Answer) (r : Result ⊤ Answer) → Passes said r → Stands r
+passes_stands said (Ok x) h = refl
+passes_stands said (Err a) h = (h.0, refl)
+
+-- of two, the first that refuses
+pub and_answer : (x y : Result ⊤ Answer) → Stands x → answer_in (result_and x y) ≡ first (answer_in x) (answer_in y)
+and_answer (Ok x) y h = refl
+and_answer (Err a) y h = rw h.0
+
+pub and_stands : (x y : Result ⊤ Answer) → Stands x → Stands y → Stands (result_and x y)
+and_stands (Ok x) y h k = k
+and_stands (Err a) y h k = h
+
+-- the answer of one that refuses, and of one that does not
+pub err_refuses : (r : Result ⊤ Answer) (a : Answer) → Stands r → r ≡ Err a → Refuses a
+err_refuses (Ok x) a h e = absurd (let z : ◌≡◌ {A = ℕ} 0 1 = cc in omega arith)
+err_refuses (Err b) a h e = let q : b ≡ a = cc in ap is_done (sym q) ∙ h.0

@@ -5,7 +5,7 @@ use mathlib.Core.Path.{◌≡◌, ◌∙◌, ap}
 use Prim.Native.Nat.{ℕ}
 use Rattle.event.specs.declared.Answer.{Answer}
 use Rattle.record.specs.declared.form.Form.{Form}
-use Rattle.trace.specs.declared.reading.TraceRead.{TraceRead}
+use Rattle.trace.specs.Reading.{TraceRead}
 use Rattle.checker.specs.declared.Checked.{Checked}
 use Rattle.checker.specs.declared.line.Span.{Span}
 use Rattle.checker.specs.Line.{fault_text, offending_line, offending_span, span, Spans}

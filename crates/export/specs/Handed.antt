@@ -1,6 +1,6 @@
 -- Document 01, "Numbers that come back": what a call hands back, laid out as numbers, and what it leaves in the arrays that C and Rust lend. Assumes nothing.
 use Rattle.std.specs.Prelude.{ℕ, List, ◌≡◌}
-use Rattle.registers.specs.declared.ListRead.{ListRead}
+use Rattle.registers.specs.Reading.{ListRead}
 use Rattle.memory.specs.declared.Memory.{Memory}
 use Rattle.checker.specs.declared.Checked.{Checked}
 use Rattle.checker.specs.Check.{Lent, check_of, source_room_after, target_room_after, entry_room_after}

@@ -1,7 +1,7 @@
 -- Requests C-12, C-18 and C-16 for C and Rust: how a beginning, a run and a step lie in the arrays that are lent. Assumes nothing.
 use Rattle.std.specs.Prelude.{ℕ, List, ◌≡◌}
 use Rattle.std.proofs.Math.Option.{Option}
-use Rattle.registers.specs.declared.ListRead.{ListRead}
+use Rattle.registers.specs.Reading.{ListRead}
 use Rattle.rules.specs.Run.{Traced}
 use Rattle.checker.specs.Check.{Lent, source_room_after, target_room_after, entry_room_after, source_room_listed, target_room_listed, entry_room_listed}
 use Rattle.changes.specs.Apply.{applied_of, tags_after}

@@ -1,6 +1,6 @@
 // The forms of a trace text, told by its line 1. A line's reader, its print and the limit depend on the form, and nothing else does.
 ghost use Rattle.std.specs.Prelude.{◌≡◌};
-ghost use Rattle.record.specs.Form.{coded, limit_of, loses, silent};
+ghost use Rattle.record.specs.Form.{coded, header, limit_of, loses, silent};
 
 use event::Word;
 
@@ -43,5 +43,15 @@ pub fn limit_of(form: Form) -> usize
     match form {
         Form::One => PLAIN_LIMIT,
         Form::Two => CODED_LIMIT,
+    }
+}
+
+// Line 1 of a text, without its LF.
+pub fn header_of(form: Form) -> &'static [u8]
+    ensures { result.now ≡ header form }
+{
+    match form {
+        Form::One => b"trace\t1",
+        Form::Two => b"trace\t2",
     }
 }

@@ -38,10 +38,6 @@ module _ (g : ℕ) (t : List ℕ) where
     pub line_two_in : 2 ≤ line_len t + 1
     line_two_in = omega (arith, head_length (regs_layout (is_grouped t)) 4 t refused q refl, header_length (is_grouped t))
 
--- where a line ends lies within the text
-pub line_in : (t : List ℕ) (at to : ℕ) → line_at t at ≡ Some to → (at ≤ to) × (to + 1 ≤ length t)
-line_in t at to e = let n = next t at to e in (n.rises, omega (arith, n.within))
-
 -- a line is refused
 pub line_refused : (grouped : Bool) {whole : ListRead} {t : List ℕ} {k at : ℕ} {s : SoFar} {out : List (List ℕ) → ListRead}
     → Tried (regs_layout grouped) refused 4 whole t k s out at → {to : ℕ} → line_at t at ≡ Some to

@@ -38,7 +38,7 @@ fn is_refused(rank: Word, low: Word, n: usize) -> bool
 }
 
 // The lines after line 1: each is tried for 2 and 22, and its location is marked if it is the group's.
-#[tactic(auto, using(crate::proofs::Turns::line_in, crate::proofs::OneText::reg_in))]
+#[tactic(auto, using(text::proofs::Walk::line_in, crate::proofs::OneText::reg_in))]
 fn read_lines(grouped: bool, text: &[u8], group: Word, from: usize) -> Result<Listed, Answer>
     requires { 2 ≤ from }
     ensures { Reads result (lines_read grouped group 0 nothing none_listed (split_from text.now from)) }

@@ -1,6 +1,6 @@
 -- Document 01, "Numbers that come back", and requests C-12, C-18 and C-19: what a call hands back, laid out as numbers. Assumes nothing.
 use Rattle.std.specs.Prelude.{ℕ, List, [], ◌∷◌}
-use Rattle.trace.specs.declared.reading.TraceRead.{TraceRead}
+use Rattle.trace.specs.Reading.{TraceRead}
 use Rattle.matching.specs.declared.MatchingRead.{MatchingRead}
 use Rattle.checker.specs.declared.Checked.{Checked}
 use Rattle.beginning.specs.declared.Started.{Started}

@@ -12,7 +12,7 @@ use Rattle.event.specs.Limit.{event_limit}
 use Rattle.registers.specs.Reading.{list_of}
 use Rattle.registers.proofs.Answers.{read_in_lem as list_in}
 use Rattle.trace.specs.Reading.{fault_in, survey_in, read_in, room_for}
-use Rattle.trace.specs.declared.reading.TraceRead.{TraceRead}
+use Rattle.trace.specs.Reading.{TraceRead}
 use Rattle.trace.proofs.Answers.{source_in}
 use Rattle.shorten.specs.Text.{both_fault, short_text, short_matching, short_fault, shorten_in, shorten_listed}
 use Rattle.shorten.proofs.Texts.{survey_room}

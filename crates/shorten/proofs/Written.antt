@@ -11,9 +11,9 @@ use borrow.Author.Tests.{eqb-false, le-leb, lt-leb, ne_eqb}
 use Rattle.laws.proofs.Cases.{cases, either}
 use Rattle.event.specs.Answer.{answer, done}
 use Rattle.event.specs.declared.Answer.{Answer}
-use Rattle.registers.specs.declared.ListRead.{ListRead}
+use Rattle.registers.specs.Reading.{ListRead}
 use Rattle.trace.specs.Reading.{fault_in, survey_in}
-use Rattle.trace.specs.declared.reading.TraceRead.{TraceRead}
+use Rattle.trace.specs.Reading.{TraceRead}
 use Rattle.trace.proofs.Readings.{survey_done}
 use Rattle.writer.specs.Put.{Put}
 use Rattle.shorten.specs.Text.{

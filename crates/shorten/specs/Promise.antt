@@ -3,7 +3,7 @@ use Rattle.std.specs.Prelude.{ℕ, ◌≤◌, Bool, List, ◌≡◌, length}
 use Rattle.event.specs.Answer.{done}
 use Rattle.event.specs.Room.{capacity}
 use Rattle.memory.specs.Listed.{none_listed}
-use Rattle.registers.specs.declared.ListRead.{ListRead}
+use Rattle.registers.specs.Reading.{ListRead}
 use Rattle.trace.specs.Reading.{form_of, start_of, events_of, fault_in}
 use Rattle.matching.specs.Reading.{entries_of}
 use Rattle.rules.specs.View.{view_in}

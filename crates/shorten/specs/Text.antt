@@ -5,7 +5,7 @@ use Rattle.event.specs.Answer.{answer, done, first}
 use Rattle.event.specs.declared.Answer.{Answer}
 use Rattle.memory.specs.Listed.{none_listed}
 use Rattle.frame.specs.Reading.{settle}
-use Rattle.registers.specs.declared.ListRead.{ListRead}
+use Rattle.registers.specs.Reading.{ListRead}
 use Rattle.trace.specs.Reading.{form_of, start_of, events_of, fault_in}
 use Rattle.trace.specs.Writing.{trace_text}
 use Rattle.trace.specs.Listed.{unless_listed}

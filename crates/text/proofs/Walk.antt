@@ -124,3 +124,7 @@ pub said_on : {A : Type 0} (says : List ℕ → List A) (l : List ℕ) (ps : Lis
 unfolding said_in
 said_on says l [] s = absurd s
 said_on says l (p ∷ ps) s = refl
+
+-- where a line ends lies within the text
+pub line_in : (t : List ℕ) (at to : ℕ) → line_at t at ≡ Some to → (at ≤ to) × (to + 1 ≤ length t)
+line_in t at to e = let n = next t at to e in (n.rises, omega (arith, n.within))

@@ -9,6 +9,7 @@ use native.Mathlib.Omega.{arith}
 use lib.Dec.{eqb, leb, ltb}
 use lib.ListN.{length}
 use borrow.Author.Tests.{eq-eqb}
+use Rattle.std.specs.Prelude.{Option, Some, None}
 use Rattle.laws.proofs.Cases.{by_cond}
 use Rattle.laws.proofs.Lists.{every}
 use Rattle.laws.specs.Has.{has}
@@ -26,7 +27,7 @@ use Rattle.record.specs.Form.{header, limit_of}
 use Rattle.record.specs.Record.{record_of}
 use Rattle.record.specs.declared.form.Form.{Form}
 use Rattle.record.specs.declared.Record.{Record}
-use Rattle.record.specs.declared.Record.TheVariants.{Init, AnEvent, Refused}
+use Rattle.record.specs.declared.Record.TheVariants.{Init, AnEvent}
 use Rattle.uses.specs.Cover.{touched, lined, lacks_line, is_idle}
 use Rattle.trace.specs.Fault.{cover_fault}
 use Rattle.uses.specs.Use.{clashes_in}
@@ -35,7 +36,7 @@ use Rattle.uses.specs.Bad.{first_bad}
 use Rattle.trace.specs.Reading.{SoFar, form_of, line_fault, trace_layout, start_of, inits_of, events_of, fault_in, survey_in, read_in}
 use Rattle.trace.specs.Moving.{moved_text, move_head, move_fault_in, move_in}
 use Rattle.trace.specs.Writing.{count_of, room_events, layout_fault, lost, trace_text, room_fault_in, in_out, write_fault_in, write_in}
-use Rattle.trace.specs.declared.reading.TraceRead.{TraceRead}
+use Rattle.trace.specs.Reading.{TraceRead}
 use Rattle.event.specs.Limit.{event_limit}
 
 -- the numbers of a reading's refusals, and those of lines, of starting values and of events
@@ -51,10 +52,10 @@ cover_faults = 20 ∷ 21 ∷ []
 abbrev event_faults : List ℕ
 event_faults = 5 ∷ 6 ∷ []
 
-line_fault_lem : (s : SoFar) (r : Record) → (line_fault s r ≡ 0) ⊎ (has (line_fault s r) line_faults ≡ true)
-line_fault_lem s Refused = inr refl
-line_fault_lem s (Init p v) = by_cond (λ (f : ℕ). (f ≡ 0) ⊎ (has f line_faults ≡ true)) (ltb p s.low) (inr refl) (inl refl)
-line_fault_lem s (AnEvent e) = by_cond (λ (f : ℕ). (f ≡ 0) ⊎ (has f line_faults ≡ true)) (leb event_limit s.events) (inr refl) (inl refl)
+line_fault_lem : (s : SoFar) (r : Option Record) → (line_fault s r ≡ 0) ⊎ (has (line_fault s r) line_faults ≡ true)
+line_fault_lem s None = inr refl
+line_fault_lem s (Some (Init p v)) = by_cond (λ (f : ℕ). (f ≡ 0) ⊎ (has f line_faults ≡ true)) (ltb p s.low) (inr refl) (inl refl)
+line_fault_lem s (Some (AnEvent e)) = by_cond (λ (f : ℕ). (f ≡ 0) ⊎ (has f line_faults ≡ true)) (leb event_limit s.events) (inr refl) (inl refl)
 
 events_given : (regs : List Bool) (side k : ℕ) (m : Memory) (before es : List Event) → 1 ≤ k → Given event_faults side (event_fault_in regs side k m before es)
 unfolding event_fault_in

@@ -1,5 +1,6 @@
 -- Laws that belong to no one function. Assumes nothing.
 pub mod Surveys
+pub mod Turns
 pub mod Covered
 pub mod Inits
 pub mod Readings

@@ -28,7 +28,7 @@ use Rattle.trace.specs.Moving.{moved_text, move_head, move_fault_in, move_survey
 use Rattle.trace.specs.Reading.{form_of, start_of, events_of, fault_in, refused, read_as, survey_in}
 use Rattle.trace.specs.Text.{Fits, longest_text}
 use Rattle.trace.specs.Writing.{lost, trace_text}
-use Rattle.trace.specs.declared.reading.TraceRead.{TraceRead}
+use Rattle.trace.specs.Reading.{TraceRead}
 use Rattle.trace.proofs.Cycle.{fault_none, lost_done}
 use Rattle.uses.proofs.Bad.{bad_none}
 use Rattle.trace.proofs.OneText.{Sound, text_whole, line_one, memory_is, written_read}

@@ -27,7 +27,7 @@ use Rattle.frame.proofs.Settled.{first_done}
 use Rattle.trace.specs.Reading.{form_of, trace_layout, events_in, inits_in, start_from, start_of, fault_in, survey_in, events_of, inits_of}
 use Rattle.trace.specs.Writing.{text_of, start_line, text_by, trace_text}
 use Rattle.trace.specs.Text.{Fits, longest_text}
-use Rattle.trace.specs.declared.reading.TraceRead.{TraceRead}
+use Rattle.trace.specs.Reading.{TraceRead}
 use Rattle.trace.proofs.Readings.{survey_done}
 use Rattle.trace.proofs.Range.{lines_length, text_length}
 use Rattle.trace.proofs.ReadBack.{tail, its_inits, its_lines}

@@ -6,6 +6,7 @@ use mathlib.Core.List.{List, [], ◌++◌}
 use native.Mathlib.Omega.{arith}
 use lib.ListN.{length, drop}
 use borrow.Author.Tests.{ltb-true}
+use Rattle.std.specs.Prelude.{Option, Some, None}
 use Rattle.laws.proofs.Cases.{cases, either}
 use Rattle.event.specs.Room.{flat, in_room, put_at}
 use Rattle.event.specs.declared.Event.{Event}
@@ -14,7 +15,7 @@ use Rattle.frame.specs.Store.{put_all}
 use Rattle.frame.proofs.Stores.{Puts, all_front}
 use Rattle.record.specs.Record.{record_of}
 use Rattle.record.specs.declared.Record.{Record}
-use Rattle.record.specs.declared.Record.TheVariants.{Init, AnEvent, Refused}
+use Rattle.record.specs.declared.Record.TheVariants.{Init, AnEvent}
 use Rattle.record.specs.declared.form.Form.{Form}
 use Rattle.trace.specs.Reading.{events_on, front}
 
@@ -43,10 +44,10 @@ events_front es room h = all_front put_at events_put room es h
 abbrev pub says : Form → List ℕ → List Event
 says f l = events_on (record_of f l)
 
-pub one_at_most : (r : Record) → length (events_on r) ≤ 1
-one_at_most Refused = omega arith
-one_at_most (Init p v) = omega arith
-one_at_most (AnEvent e) = omega arith
+pub one_at_most : (r : Option Record) → length (events_on r) ≤ 1
+one_at_most None = omega arith
+one_at_most (Some (Init p v)) = omega arith
+one_at_most (Some (AnEvent e)) = omega arith
 
 pub brief : (f : Form) (l : List ℕ) → length (says f l) ≤ 1
 brief f l = one_at_most (record_of f l)

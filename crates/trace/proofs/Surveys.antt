@@ -22,7 +22,7 @@ use Rattle.uses.specs.Bad.{first_bad}
 use Rattle.trace.specs.Fault.{fault_at, event_fault_in}
 use Rattle.trace.specs.Reading.{refused, read_as}
 use Rattle.trace.specs.Survey.{judged_as}
-use Rattle.trace.specs.declared.reading.TraceRead.{TraceRead}
+use Rattle.trace.specs.Reading.{TraceRead}
 use Rattle.uses.proofs.Bad.{bad_found}
 use Rattle.trace.proofs.Judged.{fault_next, fault_end, first_assoc, first_same, others_fault}
 

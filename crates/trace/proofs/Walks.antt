@@ -2,7 +2,7 @@
 use Prim.Native.Nat.{ℕ, ◌+◌}
 use mathlib.Core.Path.{◌≡◌, refl, ap}
 use mathlib.Core.List.{List, [], ◌++◌}
-use Rattle.std.specs.Prelude.{Some, None}
+use Rattle.std.specs.Prelude.{Some, None, Option}
 use Rattle.event.specs.declared.Event.{Event}
 use Rattle.text.specs.Line.{line_len, line_at, split_from, said_in}
 use Rattle.text.proofs.Walk.{part, by_line, by_end, body_from}
@@ -16,7 +16,7 @@ module _ (f : Form) (t : List ℕ) where
   abbrev pub events_by : ℕ → List Event
   events_by at = events_in f (split_from t at)
 
-  pub by_record : (at : ℕ) {to : ℕ} → line_at t at ≡ Some to → {r : Record} → r ≡ record_of f (part t at to) → events_by at ≡ events_on r ++ events_by (to + 1)
+  pub by_record : (at : ℕ) {to : ℕ} → line_at t at ≡ Some to → {r : Option Record} → r ≡ record_of f (part t at to) → events_by at ≡ events_on r ++ events_by (to + 1)
   unfolding said_in
   by_record at {to} e q = rw q (by_line (λ ps qs. events_in f ps ≡ events_on (record_of f (part t at to)) ++ events_in f qs) t at e (λ m ls. refl))
 
@@ -33,7 +33,7 @@ module _ (t : List ℕ) where
   unfolding events_of
   events_start = ap (events_in (form_of t)) (body_from t)
 
-  pub events_line : (at : ℕ) {to : ℕ} → line_at t at ≡ Some to → {r : Record} → r ≡ record_of (form_of t) (part t at to)
+  pub events_line : (at : ℕ) {to : ℕ} → line_at t at ≡ Some to → {r : Option Record} → r ≡ record_of (form_of t) (part t at to)
       → events_from at ≡ events_on r ++ events_from (to + 1)
   events_line = by_record (form_of t) t
 

@@ -7,6 +7,7 @@ use native.Mathlib.Omega.{arith}
 use lib.Dec.{leb, ltb}
 use lib.ListN.{length, set, replicate, length-set}
 use borrow.Author.Tests.{leb-false, ltb-false}
+use Rattle.std.specs.Prelude.{Option, Some, None}
 use Rattle.laws.proofs.Cases.{not_first}
 use Rattle.laws.specs.Each.{Each}
 use Rattle.kinds.specs.Kind.{last_value}
@@ -17,7 +18,7 @@ use Rattle.frame.specs.Reading.{lines_fault}
 use Rattle.frame.proofs.Lines.{lines_pass}
 use Rattle.record.specs.Record.{Fit, record_of}
 use Rattle.record.specs.declared.Record.{Record}
-use Rattle.record.specs.declared.Record.TheVariants.{Init, AnEvent, Refused}
+use Rattle.record.specs.declared.Record.TheVariants.{Init, AnEvent}
 use Rattle.record.proofs.Layouts.{line_says, init_back}
 use Rattle.record.specs.declared.form.Form.{Form}
 use Rattle.trace.specs.Reading.{SoFar, line_fault, after_line, trace_layout, events_in, inits_in, start_in, start_from}
@@ -54,15 +55,15 @@ module _ (f : Form) where
   unfolding said_in start_in
   bounds_end s cells q h b = record { size = q; values = h; events = tt; few = omega arith }
 
-  bounds_line : (s : SoFar) (l m : List ℕ) (ls : List (List ℕ)) (r : Record) → record_of f l ≡ r → line_fault s r ≡ 0 → Bounds (after_line s r) (m ∷ ls)
+  bounds_line : (s : SoFar) (l m : List ℕ) (ls : List (List ℕ)) (r : Option Record) → record_of f l ≡ r → line_fault s r ≡ 0 → Bounds (after_line s r) (m ∷ ls)
       → Bounds s (l ∷ m ∷ ls)
   unfolding said_in start_in
-  bounds_line s l m ls Refused e h g cells q v b = absurd (omega arith)
-  bounds_line s l m ls (Init p x) e h g cells q v b =
+  bounds_line s l m ls None e h g cells q v b = absurd (omega arith)
+  bounds_line s l m ls (Some (Init p x)) e h g cells q v b =
       let i = init_back f l p x e in
       let d = g (set cells p x) (simp length-set q) (set_valued cells p x v i.1.1.0) b in
       record { size = rw e d.size; values = rw e d.values; events = rw e d.events; few = rw e d.few }
-  bounds_line s l m ls (AnEvent x) e h g cells q v b =
+  bounds_line s l m ls (Some (AnEvent x)) e h g cells q v b =
       let o = leb-false event_limit s.events (not_first (λ (y : ℕ). y) (leb event_limit s.events) 3 0 (λ z. omega arith) h).0 in
       let d = g cells q v (omega (arith, o)) in
       record { size = rw e d.size; values = rw e d.values; events = rw e ((line_says f l x e).1, d.events); few = rw e (omega (arith, d.few)) }
@@ -85,18 +86,18 @@ module _ (f : Form) where
   unfolding said_in
   prints_end s = record { ascend = tt; heard = tt; lines = refl }
 
-  prints_line : (s : SoFar) (l m : List ℕ) (ls : List (List ℕ)) (r : Record) → record_of f l ≡ r → line_fault s r ≡ 0 → Prints (after_line s r) (m ∷ ls)
+  prints_line : (s : SoFar) (l m : List ℕ) (ls : List (List ℕ)) (r : Option Record) → record_of f l ≡ r → line_fault s r ≡ 0 → Prints (after_line s r) (m ∷ ls)
       → Prints s (l ∷ m ∷ ls)
   unfolding said_in
-  prints_line s l m ls Refused e h g = absurd (omega arith)
-  prints_line s l m ls (AnEvent v) e h g =
+  prints_line s l m ls None e h g = absurd (omega arith)
+  prints_line s l m ls (Some (AnEvent v)) e h g =
       let n = rising_none (inits_in f (m ∷ ls)) g.ascend in
       record {
         ascend = rw (e, n) tt;
         heard = rw (e, n) tt;
         lines = rw (e, n, ← (line_says f l v e).0) (ap (λ (ps : List (List ℕ)). l ∷ ps) (rw n at g.lines));
       }
-  prints_line s l m ls (Init p v) e h g =
+  prints_line s l m ls (Some (Init p v)) e h g =
       let o : s.low ≤ p = ltb-false p s.low (not_first (λ (y : ℕ). y) (ltb p s.low) 4 0 (λ z. omega arith) h).0 in
       let i = init_back f l p v e in
       record {

@@ -5,12 +5,12 @@ use Rattle.event.specs.Answer.{first}
 use Rattle.event.specs.declared.Answer.{Answer}
 use Rattle.memory.specs.declared.Memory.{Memory}
 use Rattle.frame.specs.Reading.{settle}
-use Rattle.registers.specs.declared.ListRead.{ListRead}
+use Rattle.registers.specs.Reading.{ListRead}
 use Rattle.record.specs.declared.form.Form.{Form}
 use Rattle.trace.specs.Moving.{move_in, moved_out_in}
 use Rattle.trace.specs.Reading.{refused, read_in, room_after_in}
 use Rattle.trace.specs.Writing.{write_in, out_after_in}
-use Rattle.trace.specs.declared.reading.TraceRead.{TraceRead}
+use Rattle.trace.specs.Reading.{TraceRead}
 
 -- What is lent, as it is afterwards: unchanged by a refusal of the list.
 abbrev pub unless_listed : ListRead → List ℕ → List ℕ → List ℕ

@@ -9,7 +9,7 @@ use Rattle.record.specs.Form.{header, limit_of}
 use Rattle.record.specs.declared.form.Form.{Form}
 use Rattle.trace.specs.Reading.{form_of, start_of, events_of, fault_in, refused, read_as}
 use Rattle.trace.specs.Writing.{trace_text, lost, answered, out_with}
-use Rattle.trace.specs.declared.reading.TraceRead.{TraceRead}
+use Rattle.trace.specs.Reading.{TraceRead}
 
 -- The trace of a text, in a form. A trace of form 1 has code line 0 throughout.
 unfoldable pub moved_text : Form → List ℕ → List ℕ

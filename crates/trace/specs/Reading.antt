@@ -1,8 +1,9 @@
 -- Document 01, "Numbers that come back" and "Lent room", and document 02, C-11, C-15 and C-16: the reading of a trace text, under a list of registers. Its form
 -- comes from the text. A reading without a list is the one that lists none.
 -- Assumes nothing.
-use Rattle.std.specs.Prelude.{ℕ, ◌+◌, ◌*◌, ◌/◌, Bool, cond, List, [], ◌∷◌, ◌++◌, eqb, leb, ltb, length, drop}
+use Rattle.std.specs.Prelude.{ℕ, ◌+◌, ◌*◌, ◌/◌, Bool, cond, List, [], ◌∷◌, ◌++◌, eqb, leb, ltb, length, drop, Option, Some, None, Result}
 use Rattle.event.specs.Answer.{done, first}
+use Rattle.event.specs.Told.{Tells}
 use Rattle.memory.specs.Listed.{none_listed}
 use Rattle.memory.specs.Memory.{empty}
 use Rattle.event.specs.Limit.{places, event_limit}
@@ -20,8 +21,8 @@ use Rattle.trace.specs.Fault.{event_fault_in}
 use Rattle.record.specs.declared.form.Form.{Form}
 use Rattle.record.specs.declared.form.Form.TheVariants.{One, Two}
 use Rattle.record.specs.declared.Record.{Record}
-use Rattle.record.specs.declared.Record.TheVariants.{Init, AnEvent, Refused}
-use Rattle.trace.specs.declared.reading.TraceRead.{TraceRead}
+use Rattle.record.specs.declared.Record.TheVariants.{Init, AnEvent}
+use Rattle.trace.specs.declared.reading.Held.{Held}
 
 -- The form of a text: form 2 exactly where line 1, with its LF, is that of form 2.
 unfoldable pub form_of : List ℕ → Form
@@ -34,16 +35,16 @@ pub record SoFar : Type 0 where
   pub events : ℕ
 
 -- The refusal of a line, 2, 4 or 3; 0 for none.
-abbrev pub line_fault : SoFar → Record → ℕ
-line_fault s Refused = 2
-line_fault s (Init p v) = cond (ltb p s.low) 4 0
-line_fault s (AnEvent e) = cond (leb event_limit s.events) 3 0
+abbrev pub line_fault : SoFar → Option Record → ℕ
+line_fault s None = 2
+line_fault s (Some (Init p v)) = cond (ltb p s.low) 4 0
+line_fault s (Some (AnEvent e)) = cond (leb event_limit s.events) 3 0
 
 -- What is known after it.
-abbrev pub after_line : SoFar → Record → SoFar
-after_line s Refused = s
-after_line s (Init p v) = record { low = p + 1; events = s.events }
-after_line s (AnEvent e) = record { low = places; events = s.events + 1 }
+abbrev pub after_line : SoFar → Option Record → SoFar
+after_line s None = s
+after_line s (Some (Init p v)) = record { low = p + 1; events = s.events }
+after_line s (Some (AnEvent e)) = record { low = places; events = s.events + 1 }
 
 -- The layout of a trace, by its form.
 abbrev pub trace_layout : Form → Layout SoFar
@@ -56,10 +57,10 @@ trace_layout f = record {
 }
 
 -- The events of a text: those of the lines after line 1.
-abbrev pub events_on : Record → List Event
-events_on Refused = []
-events_on (Init p v) = []
-events_on (AnEvent e) = e ∷ []
+abbrev pub events_on : Option Record → List Event
+events_on None = []
+events_on (Some (Init p v)) = []
+events_on (Some (AnEvent e)) = e ∷ []
 
 abbrev pub events_in : Form → List (List ℕ) → List Event
 events_in f ls = said_in (λ l. events_on (record_of f l)) ls
@@ -68,10 +69,10 @@ unfoldable pub events_of : List ℕ → List Event
 events_of t = events_in (form_of t) (body (split t))
 
 -- Its starting values, likewise.
-abbrev pub inits_on : Record → List Start
-inits_on Refused = []
-inits_on (Init p v) = (p, v) ∷ []
-inits_on (AnEvent e) = []
+abbrev pub inits_on : Option Record → List Start
+inits_on None = []
+inits_on (Some (Init p v)) = (p, v) ∷ []
+inits_on (Some (AnEvent e)) = []
 
 abbrev pub inits_in : Form → List (List ℕ) → List Start
 inits_in f ls = said_in (λ l. inits_on (record_of f l)) ls
@@ -96,12 +97,22 @@ fault_in regs side t =
     first (text_fault (trace_layout (form_of t)) side t)
     (first (cover_fault (form_of t) side (inits_of t) (events_of t)) (event_fault_in regs side 1 (start_of t) [] (events_of t)))
 
--- What a refusal hands back, no event and an empty memory; and what a reading of n events does.
+-- What a reading says: its answer, the number of events and the starting memory, both 0 under a refusal.
+pub record TraceRead : Type 0 where
+  pub answer : Answer
+  pub events : ℕ
+  pub memory : Memory
+
+-- What a refusal says, no event and an empty memory; and what a reading of n events does.
 abbrev pub refused : Answer → TraceRead
 refused a = record { answer = a; events = 0; memory = empty }
 
 abbrev pub read_as : ℕ → Memory → TraceRead
 read_as n m = record { answer = done; events = n; memory = m }
+
+-- What is handed back is what a reading says: what is held, or the answer that refuses.
+abbrev pub Reads : Result Held Answer → TraceRead → Type 0
+Reads result read = Tells (λ h. read_as h.events h.memory) refused read result
 
 -- Those answers of a text, with its number of events and its starting memory.
 unfoldable pub survey_in : List Bool → ℕ → List ℕ → TraceRead

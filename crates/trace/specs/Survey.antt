@@ -1,5 +1,5 @@
 -- The steps of a reading under a list of registers: the lines from some line on. Assumes nothing.
-use Rattle.std.specs.Prelude.{ℕ, Bool, List, [], ◌++◌, length}
+use Rattle.std.specs.Prelude.{ℕ, Bool, Option, Some, None, List, [], ◌++◌, length}
 use Rattle.event.specs.Answer.{first}
 use Rattle.event.specs.Limit.{places}
 use Rattle.event.specs.declared.Event.{Event}
@@ -9,7 +9,15 @@ use Rattle.uses.specs.Cover.{Start, so_far}
 use Rattle.trace.specs.Fault.{cover_fault, event_fault_in}
 use Rattle.trace.specs.Reading.{SoFar, trace_layout, events_in, inits_in, start_from, refused, read_as}
 use Rattle.record.specs.declared.form.Form.{Form}
-use Rattle.trace.specs.declared.reading.TraceRead.{TraceRead}
+use Rattle.record.specs.declared.Record.{Record}
+use Rattle.record.specs.declared.Record.TheVariants.{Init, AnEvent}
+use Rattle.trace.specs.Reading.{TraceRead}
+
+-- The starting value of a line that has one.
+abbrev pub init_on : Option Record → Option Start
+init_on None = None
+init_on (Some (Init p v)) = Some (p, v)
+init_on (Some (AnEvent e)) = None
 
 -- What lines none of which is refused come to, by their starting values, the memory that these make and their events: 20, 21, then 5, 6.
 unfoldable pub judged_as : List Bool → Form → ℕ → List Start → Memory → List Event → TraceRead

@@ -1,51 +1,42 @@
 // Answers 5 and 6 of one event, by how its location was used and by whether its value is the latest.
-ghost use Rattle.std.specs.Prelude.{◌≡◌, ◌||◌, not};
-ghost use Rattle.event.specs.Answer.{first};
-ghost use Rattle.memory.specs.Listed.{is_register};
+ghost use Rattle.std.specs.Prelude.{◌≡◌, ◌||◌, cond};
+ghost use Rattle.event.specs.Answer.{answer, done};
+ghost use Rattle.event.specs.Told.{Passes};
+ghost use Rattle.memory.specs.Listed.{is_register, listed};
+ghost use Rattle.uses.specs.Cover.{lacks_line};
 ghost use Rattle.trace.specs.Fault.{fault_at};
 
 use event::{Answer, Event, Number};
 use memory::listed::{Listed, is_register};
+use record::form::Form;
+use uses::cover::lacks_line;
 
 // Whether a lawful event's value is right, by whether it is the latest: that of a register need not be.
 pub fn is_right(listed: &Listed, e: Event, latest: bool) -> bool
     ensures { result ≡ (latest || is_register listed.now e) }
 {
-    if latest {
-        return true;
-    }
-    is_register(listed, e)
+    latest || is_register(listed, e)
 }
 
-// The first of two answers that refuses.
-pub(crate) fn first_of(a: Answer, b: Answer) -> Answer
-    ensures { result ≡ first a b }
+// 20 of the event of a number: it touches a location that has no line.
+pub(crate) fn bare_fault(form: Form, has: &Listed, e: Event, side: Number, k: usize) -> Result<(), Answer>
+    ensures { Passes (cond (lacks_line form (listed has.now) e) (answer 20 side k) done) result }
 {
-    if a.number != 0 {
-        return a;
+    if lacks_line(form, has, e) {
+        return Err(Answer::new(20, side, k));
     }
-    b
+    Ok(())
 }
 
-// 5 or 6 of the event of a number, by whether it clashes and whether its value is the latest, unless something was found before.
-pub fn fault_at(found: Answer, clash: bool, right: bool, side: Number, k: usize) -> Answer
-    ensures { result ≡ first found (fault_at side k clash right) }
+// 5 or 6 of the event of a number, by whether it clashes and whether its value is right.
+pub fn fault_at(clash: bool, right: bool, side: Number, k: usize) -> Result<(), Answer>
+    ensures { Passes (fault_at side k clash right) result }
 {
     if clash {
-        return first_of(found, Answer::new(5, side, k));
+        return Err(Answer::new(5, side, k));
     }
-    if right {
-        return first_of(found, Answer::new(0, 0, 0));
+    if !right {
+        return Err(Answer::new(6, side, k));
     }
-    first_of(found, Answer::new(6, side, k))
-}
-
-// Whether an event is at fault.
-pub(crate) fn is_at_fault(clash: bool, right: bool) -> bool
-    ensures { result ≡ (clash || not right) }
-{
-    if clash {
-        return true;
-    }
-    !right
+    Ok(())
 }

@@ -1,5 +1,6 @@
 // The form of a trace text, from its line 1.
 ghost use Rattle.std.specs.Prelude.{◌≡◌};
+ghost use Rattle.event.specs.Told.{Passes};
 ghost use Rattle.text.specs.Line.{split};
 ghost use Rattle.frame.specs.Reading.{headed, head_fault};
 ghost use Rattle.record.specs.Form.{header, limit_of};
@@ -7,19 +8,17 @@ ghost use Rattle.trace.specs.Reading.{form_of};
 
 use event::{Answer, Number};
 use frame::{head_fault, is_headed};
-use record::form::{Form, limit_of};
+use record::form::{Form, header_of, limit_of};
 
 // Whether line 1 is that of a form, and has a LF.
 pub fn is_of(form: Form, text: &[u8]) -> bool
     ensures { result ≡ headed (header form) (split text.now) }
 {
-    match form {
-        Form::One => is_headed(text, b"trace\t1"),
-        Form::Two => is_headed(text, b"trace\t2"),
-    }
+    is_headed(text, header_of(form))
 }
 
 // The form of a text.
+#[tactic(auto, unfolding(crate::specs::Reading::form_of))]
 pub fn form_of(text: &[u8]) -> Form
     ensures { result ≡ form_of text.now }
 {
@@ -30,11 +29,8 @@ pub fn form_of(text: &[u8]) -> Form
 }
 
 // 1, and 2 at line 1, for a text that is to be of a form.
-pub(crate) fn head_fault_of(form: Form, text: &[u8], side: Number) -> Answer
-    ensures { result ≡ head_fault side (limit_of form) (header form) text.now }
+pub(crate) fn head_fault_of(form: Form, text: &[u8], side: Number) -> Result<(), Answer>
+    ensures { Passes (head_fault side (limit_of form) (header form) text.now) result }
 {
-    match form {
-        Form::One => head_fault(text, side, limit_of(form), b"trace\t1"),
-        Form::Two => head_fault(text, side, limit_of(form), b"trace\t2"),
-    }
+    head_fault(text, side, limit_of(form), header_of(form))
 }

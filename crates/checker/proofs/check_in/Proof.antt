@@ -6,7 +6,7 @@ use native.Mathlib.Omega.{arith}
 use borrow.Author.Rules.{rules}
 use Rattle.event.specs.declared.Answer.{Answer}
 use Rattle.trace.specs.Reading.{events_of, front, read_in}
-use Rattle.trace.specs.declared.reading.TraceRead.{TraceRead}
+use Rattle.trace.specs.Reading.{TraceRead}
 use Rattle.trace.proofs.Readings.{read_stores}
 use Rattle.matching.specs.Reading.{entries_of, front as entry_front, read_of as matching_read}
 use Rattle.matching.specs.declared.MatchingRead.{MatchingRead}

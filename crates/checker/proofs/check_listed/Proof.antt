@@ -1,6 +1,6 @@
 -- The list's answer, or what comes under the list. Assumes nothing.
 use mathlib.Core.Path.{◌∙◌, ap}
-use Rattle.registers.specs.declared.ListRead.{ListRead}
+use Rattle.registers.specs.Reading.{ListRead}
 use Rattle.checker.specs.Check.{refused}
 use Rattle.checker.proofs.Answers.{listed_refused, listed_checks}
 use borrow.Author.Rules.{rules}

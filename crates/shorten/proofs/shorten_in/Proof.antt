@@ -12,7 +12,7 @@ use Rattle.matching.specs.Text.{match_text}
 use Rattle.trace.specs.Reading.{form_of, events_of, survey_in}
 use Rattle.trace.specs.Writing.{text_by}
 use Rattle.uses.specs.Way.{is_used}
-use Rattle.trace.specs.declared.reading.TraceRead.{TraceRead}
+use Rattle.trace.specs.Reading.{TraceRead}
 use Rattle.trace.proofs.OneText.{memory_is}
 use Rattle.trace.proofs.Readings.{counts}
 use Rattle.shelf.specs.Short.{pick, numbers, marks}

@@ -1,7 +1,7 @@
 -- The list's answer, or what comes under the list. Assumes nothing.
 use mathlib.Core.Path.{sym, ◌∙◌, ap}
 use borrow.Author.Rules.{rules}
-use Rattle.registers.specs.declared.ListRead.{ListRead}
+use Rattle.registers.specs.Reading.{ListRead}
 use Rattle.shorten.specs.Text.{refused}
 use Rattle.shorten.proofs.Written.{list_refuses, list_passes}
 use Rattle.shorten.proofs.shorten_listed.Statement.{statement}

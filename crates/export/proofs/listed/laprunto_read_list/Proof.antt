@@ -1,6 +1,6 @@
 -- The answer is laid out, and so are the marks. Assumes nothing.
 use mathlib.Core.Path.{◌∙◌, ap}
-use Rattle.registers.specs.declared.ListRead.{ListRead}
+use Rattle.registers.specs.Reading.{ListRead}
 use borrow.Author.Rules.{rules}
 use Rattle.numbers.specs.Numbers.{answer_numbers, marks}
 use Rattle.export.proofs.listed.laprunto_read_list.Statement.{statement}

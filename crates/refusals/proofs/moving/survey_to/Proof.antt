@@ -5,7 +5,7 @@ use native.Mathlib.Omega.{arith}
 use Rattle.event.specs.declared.Answer.{Answer}
 use Rattle.trace.specs.Moving.{move_head}
 use Rattle.trace.specs.Reading.{survey_in}
-use Rattle.trace.specs.declared.reading.TraceRead.{TraceRead}
+use Rattle.trace.specs.Reading.{TraceRead}
 use Rattle.trace.proofs.Moved.{by_head, by_reading, by_loss, by_none}
 use Rattle.refusals.proofs.moving.survey_to.Statement.{statement}
 use Rattle.refusals.proofs.moving.survey_to.Tie as tie

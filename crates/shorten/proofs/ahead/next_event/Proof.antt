@@ -5,7 +5,7 @@ use mathlib.Core.Path.{◌≡◌, refl, sym, ◌∙◌}
 use native.Mathlib.Omega.{arith}
 use borrow.Author.Rules.{rules}
 use lib.ListN.{length}
-use Rattle.std.specs.Prelude.{Some, None}
+use Rattle.std.specs.Prelude.{Some, None, Option}
 use Rattle.kinds.proofs.Lawful.{place_below}
 use Rattle.text.specs.Line.{line_at}
 use Rattle.text.proofs.Walk.{Next, next}
@@ -65,7 +65,7 @@ module _ (c : tie.After-record_of invariant-loop decreases-loop) where
   abbrev t : tie.In-Some invariant-loop decreases-loop
   t = c.before.before
 
-  heard : {r : Record} → c.record_of.result ≡ r
+  heard : {r : Option Record} → c.record_of.result ≡ r
       → heard_from (form (l t)) (text (l t)) (begin (l t)).args.from ≡ events_on r ++ heard_from (form (l t)) (text (l t)) (to t + 1)
   heard e = (inv (l t)).same ∙ by_record (form (l t)) (text (l t)) (at (l t)) (here t) (sym e ∙ c.record_of.ensures)
 
@@ -86,7 +86,7 @@ returns-2 c =
 loop-again : tie.Need-loop-to-preserved invariant-loop decreases-loop
 loop-again c =
     let r = c.before in
-    record { rises = omega (arith, line (t r), inv (l (t r))); same = elim c.match-record_of.branch [ in-Init w ↦ heard r w.in-Init.is | in-Refused w ↦ heard r w.in-Refused.is ] }
+    record { rises = omega (arith, line (t r), inv (l (t r))); same = elim c.match-record_of.branch [ in-Init w ↦ heard r w.in-Init.is | in-None w ↦ heard r w.in-None.is ] }
 
 pub next_event_spec : {M : Type 1} → statement M
 next_event_spec =

@@ -14,7 +14,7 @@ use Rattle.writer.specs.Put.{Small}
 use Rattle.trace.specs.Reading.{start_of, events_of}
 use Rattle.uses.specs.Way.{is_used}
 use Rattle.trace.specs.Writing.{text_by, trace_text}
-use Rattle.trace.specs.declared.reading.TraceRead.{TraceRead}
+use Rattle.trace.specs.Reading.{TraceRead}
 use Rattle.trace.proofs.Covered.{fit_inside}
 use Rattle.trace.proofs.Moved.{found_fault, found_none, moved_fits, moved_length}
 use Rattle.writer.proofs.Puts.{put_length, small_text}
