@@ -7,6 +7,7 @@ use mathlib.Core.Path.{◌≡◌, refl}
 use native.Mathlib.Omega.{arith}
 use lib.Dec.{eqb, leb}
 use lib.ListN.{length}
+use Rattle.std.specs.Prelude.{Option, Some, None}
 use Rattle.laws.proofs.Cases.{by_cond}
 use Rattle.laws.specs.Has.{has}
 use Rattle.event.specs.Answer.{answer, done, first, InTable}
@@ -17,18 +18,15 @@ use Rattle.frame.specs.Reading.{head_fault, lines_fault, text_fault}
 use Rattle.frame.proofs.Answers.{lines_given, head_among, head_in}
 use Rattle.event.specs.Limit.{event_limit}
 use Rattle.matching.specs.Entry.{header, entry_of}
-use Rattle.matching.specs.Reading.{matching_limit, entry_fault, matching_layout, survey_of, read_of}
-use Rattle.matching.specs.declared.entry.EntryRead.{EntryRead}
-use Rattle.matching.specs.declared.entry.EntryRead.TheVariants.{Entry, Refused}
-use Rattle.matching.specs.declared.MatchingRead.{MatchingRead}
+use Rattle.matching.specs.Reading.{MatchingRead, matching_limit, entry_fault, matching_layout, survey_of, read_of}
 
 -- the numbers of its refusals
 abbrev pub matching_faults : List ℕ
 matching_faults = 1 ∷ 2 ∷ 3 ∷ 17 ∷ []
 
-line_fault_lem : (n : ℕ) (r : EntryRead) → (entry_fault n r ≡ 0) ⊎ (has (entry_fault n r) (2 ∷ 3 ∷ []) ≡ true)
-line_fault_lem n Refused = inr refl
-line_fault_lem n (Entry e) = by_cond (λ (f : ℕ). (f ≡ 0) ⊎ (has f (2 ∷ 3 ∷ []) ≡ true)) (leb event_limit n) (inr refl) (inl refl)
+line_fault_lem : (n : ℕ) (r : Option ℕ) → (entry_fault n r ≡ 0) ⊎ (has (entry_fault n r) (2 ∷ 3 ∷ []) ≡ true)
+line_fault_lem n None = inr refl
+line_fault_lem n (Some e) = by_cond (λ (f : ℕ). (f ≡ 0) ⊎ (has f (2 ∷ 3 ∷ []) ≡ true)) (leb event_limit n) (inr refl) (inl refl)
 
 module _ (t room : List ℕ) where
   abbrev lines : Answer

@@ -1,4 +1,6 @@
 -- Laws that belong to no one function. Assumes nothing.
+pub mod Steps
+pub mod Turns
 pub mod Stores
 pub mod Readings
 pub mod Prints

@@ -7,6 +7,7 @@ use native.Mathlib.Omega.{arith}
 use lib.Dec.{eqb, leb}
 use lib.ListN.{length, length-append}
 use borrow.Author.Tests.{leb-false, lt-leb}
+use Rattle.std.specs.Prelude.{Option, Some, None}
 use Rattle.laws.proofs.Cases.{cases, either, not_first}
 use Rattle.laws.specs.Each.{Each}
 use Rattle.laws.proofs.Lists.{Free}
@@ -24,8 +25,6 @@ use Rattle.event.specs.Limit.{event_limit}
 use Rattle.matching.specs.Entry.{header, entry_of, entry_line}
 use Rattle.matching.specs.Reading.{matching_limit, matching_layout, entry_fault, entries_on, entries_in, read_as, survey_of, entries_of}
 use Rattle.matching.specs.Text.{match_text, Fits}
-use Rattle.matching.specs.declared.entry.EntryRead.{EntryRead}
-use Rattle.matching.specs.declared.entry.EntryRead.TheVariants.{Entry, Refused}
 use Rattle.matching.proofs.Prints.{entry_read, entry_back}
 use Rattle.matching.proofs.Readings.{survey_done}
 
@@ -41,11 +40,11 @@ last_printed : (n : ℕ) → Printed n ([] ∷ [])
 unfolding said_in
 last_printed n b = (refl, (omega arith, tt))
 
-line_printed : (n : ℕ) (l m : List ℕ) (ls : List (List ℕ)) (r : EntryRead) → entry_of l ≡ r → entry_fault n r ≡ 0 → Printed (n + 1) (m ∷ ls)
+line_printed : (n : ℕ) (l m : List ℕ) (ls : List (List ℕ)) (r : Option ℕ) → entry_of l ≡ r → entry_fault n r ≡ 0 → Printed (n + 1) (m ∷ ls)
     → Printed n (l ∷ m ∷ ls)
 unfolding said_in
-line_printed n l m ls Refused q h g b = absurd (omega arith)
-line_printed n l m ls (Entry e) q h g b =
+line_printed n l m ls None q h g b = absurd (omega arith)
+line_printed n l m ls (Some e) q h g b =
     let f = leb-false event_limit n (not_first (λ (x : ℕ). x) (leb event_limit n) 3 0 (λ z. omega arith) h).0 in
     let p = g (omega (arith, f)) in
     let s = entry_back l e q in

@@ -7,12 +7,11 @@ use native.Mathlib.Numerals.{add-one}
 use native.Mathlib.Omega.{arith}
 use lib.ListN.{length, get_or, drop, set, length-set}
 use lib.Seq.{drop-cons, set_at}
+use Rattle.std.specs.Prelude.{Option, Some, None}
 use Rattle.frame.specs.Store.{put_all}
 use Rattle.frame.proofs.Stores.{Puts, all_front}
 use Rattle.matching.specs.Entry.{entry_of}
 use Rattle.matching.specs.Reading.{entries_on, front}
-use Rattle.matching.specs.declared.entry.EntryRead.{EntryRead}
-use Rattle.matching.specs.declared.entry.EntryRead.TheVariants.{Entry, Refused}
 
 pub one_more : (es : List ℕ) (e : ℕ) (r : List ℕ) → length es + 1 ≤ length r
     → set (es ++ drop (length es) r) (length es) e ≡ (es ++ (e ∷ [])) ++ drop (length es + 1) r
@@ -38,9 +37,9 @@ entries_front es room h = all_front set entries_put room es h
 abbrev pub says : List ℕ → List ℕ
 says l = entries_on (entry_of l)
 
-one_at_most : (r : EntryRead) → length (entries_on r) ≤ 1
-one_at_most Refused = omega arith
-one_at_most (Entry e) = omega arith
+one_at_most : (r : Option ℕ) → length (entries_on r) ≤ 1
+one_at_most None = omega arith
+one_at_most (Some e) = omega arith
 
 pub brief : (l : List ℕ) → length (says l) ≤ 1
 brief l = one_at_most (entry_of l)

@@ -1,8 +1,7 @@
 -- The steps of a reading: the lines after some entries. Assumes nothing.
 use Rattle.std.specs.Prelude.{ℕ, ◌+◌, List, length}
 use Rattle.frame.specs.Reading.{tried}
-use Rattle.matching.specs.Reading.{matching_layout, entries_in, refused, read_as}
-use Rattle.matching.specs.declared.MatchingRead.{MatchingRead}
+use Rattle.matching.specs.Reading.{MatchingRead, matching_layout, entries_in, refused, read_as}
 
 -- The entries of lines counted, after n others.
 abbrev pub counting : ℕ → List (List ℕ) → MatchingRead

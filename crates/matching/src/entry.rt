@@ -4,57 +4,48 @@ ghost use Rattle.text.specs.Field.{fields_from};
 ghost use Rattle.matching.specs.Entry.{keep_rest, gone_rest, entry_of};
 
 use event::{EVENT_LIMIT, Entry};
-use text::field::FieldStep;
 use text::reader::field_of;
-use text::take::{Taken, ends_at, take_number};
+use text::take::{ends_at, take_number};
 use text::word::same_bytes;
 
 // The greatest target number: that of the last event that a trace may have.
 const LAST_NUMBER: u64 = EVENT_LIMIT as u64;
 
-// The kept target number, or 0 for gone.
-#[derive(Clone, Copy)]
-pub enum EntryRead {
-    Entry(Entry),
-    Refused,
-}
-
-fn keep_rest(line: &[u8], at: usize) -> EntryRead
+// `keep`, after the word: a target number, and nothing more.
+#[tactic(auto, using(crate::proofs::Steps::keep_by, text::proofs::Takes::taken_le))]
+fn keep_rest(line: &[u8], at: usize) -> Option<Entry>
     ensures { result ≡ keep_rest (fields_from line.now at) }
 {
-    let Taken::Number { value, next } = take_number(line, at, LAST_NUMBER) else {
-        return EntryRead::Refused;
-    };
-    if !ends_at(line, next) {
-        return EntryRead::Refused;
+    let taken = take_number(line, at, LAST_NUMBER)?;
+    if !ends_at(line, taken.next) {
+        return None;
     }
-    if value == 0 {
-        return EntryRead::Refused;
+    if taken.value == 0 {
+        return None;
     }
-    EntryRead::Entry(value as Entry)
+    Some(taken.value as Entry)
 }
 
-fn gone_rest(line: &[u8], at: usize) -> EntryRead
+// `gone`, and nothing more.
+#[tactic(auto, using(crate::proofs::Steps::gone_by))]
+fn gone_rest(line: &[u8], at: usize) -> Option<Entry>
     ensures { result ≡ gone_rest (fields_from line.now at) }
 {
-    if ends_at(line, at) {
-        return EntryRead::Entry(0);
-    }
-    EntryRead::Refused
+    ends_at(line, at).then_some(0)
 }
 
-pub(crate) fn entry_of(line: &[u8]) -> EntryRead
+// The entry that a line says, the kept target number or 0 for gone; none where it is not of the layout.
+#[tactic(auto, using(crate::proofs::Steps::line_by, text::proofs::Fields::field_in))]
+pub(crate) fn entry_of(line: &[u8]) -> Option<Entry>
     ensures { result ≡ entry_of line.now }
 {
-    let FieldStep::Field { from, to } = field_of(line, 0) else {
-        return EntryRead::Refused;
-    };
-    let word = &line[from..to];
+    let field = field_of(line, 0)?;
+    let word = &line[field.from..field.to];
     if same_bytes(word, b"gone") {
-        return gone_rest(line, to + 1);
+        return gone_rest(line, field.to + 1);
     }
     if same_bytes(word, b"keep") {
-        return keep_rest(line, to + 1);
+        return keep_rest(line, field.to + 1);
     }
-    EntryRead::Refused
+    None
 }

@@ -3,87 +3,74 @@
 
 pub mod entry;
 
-ghost use Rattle.std.specs.Prelude.{◌≡◌, ◌+◌, ◌≤◌, ◌<◌, length, set};
+ghost use Rattle.std.specs.Prelude.{◌≡◌, ◌+◌, ◌≤◌, ◌<◌, leb, length, set};
+ghost use Rattle.event.specs.Limit.{event_limit};
 ghost use Rattle.text.specs.Line.{split_from};
-ghost use Rattle.event.specs.Answer.{answer};
 ghost use Rattle.frame.specs.Store.{put_all};
-ghost use Rattle.matching.specs.Reading.{refused, survey_of, room_for, entries_on, entries_of, read_of, room_after};
+ghost use Rattle.matching.specs.Reading.{Reads, survey_of, room_for, entries_on, entries_of, read_of, room_after};
 ghost use Rattle.matching.specs.Survey.{survey_lines};
 
-use entry::{EntryRead, entry_of};
-use event::{Answer, EVENT_LIMIT, Entry, Number};
+use entry::entry_of;
+use event::{Answer, EVENT_LIMIT, Entry};
 use frame::head_fault;
-use text::line::{LineStep, line_two, next_line};
+use text::line::{line_two, next_line};
 
 // The most bytes.
 const MATCHING_LIMIT: usize = 32400;
 
-// What a reading hands back: its answer and the number of entries, 0 under a refusal.
-#[derive(Clone, Copy)]
-pub struct MatchingRead {
-    pub answer: Answer,
-    pub entries: usize,
-}
-
-fn refusal(answer: Answer) -> MatchingRead
-    ensures { result ≡ refused answer }
+// Whether an entry after n others is one too many: an entry is a source event's, so that there are at most as many.
+fn is_full(n: usize) -> bool
+    ensures { result ≡ leb event_limit n }
 {
-    MatchingRead { answer, entries: 0 }
+    EVENT_LIMIT <= n
 }
 
-// The lines after line 1: each is tried for 2 and 3.
-fn survey_lines(text: &[u8], from: usize) -> MatchingRead
+// The lines after line 1: each is tried for 2 and 3; how many entries they are.
+#[tactic(auto, using(crate::proofs::Turns::line_in))]
+fn survey_lines(text: &[u8], from: usize) -> Result<usize, Answer>
     requires { 2 ≤ from }
-    ensures { result ≡ survey_lines 0 (split_from text.now from) }
+    ensures { Reads result (survey_lines 0 (split_from text.now from)) }
 {
     let mut at = from;
     let mut n: usize = 0;
-    loop {
-        let LineStep::Line { to } = next_line(text, at) else {
-            break;
-        };
-        let EntryRead::Entry(_) = entry_of(&text[at..to]) else {
-            return refusal(Answer::new(2, 3, n + 2));
-        };
-        if EVENT_LIMIT <= n {
-            return refusal(Answer::new(3, 3, n + 2));
+    while let Some(to) = next_line(text, at) {
+        if entry_of(&text[at..to]).is_none() {
+            return Err(Answer::new(2, 3, n + 2));
+        }
+        if is_full(n) {
+            return Err(Answer::new(3, 3, n + 2));
         }
         n += 1;
         at = to + 1;
     }
     if at < text.len() {
-        return refusal(Answer::new(2, 3, n + 2));
+        return Err(Answer::new(2, 3, n + 2));
     }
-    MatchingRead {
-        answer: Answer::new(0, 0, 0),
-        entries: n,
-    }
+    Ok(n)
 }
 
-// Answers 1 to 3 of a text, with its number of entries.
-fn survey(text: &[u8]) -> MatchingRead
-    ensures { result ≡ survey_of text.now }
+// Answers 1 to 3 of a text, or its number of entries.
+#[tactic(auto, using(crate::proofs::Turns::head_refused, crate::proofs::Turns::head_passed, crate::proofs::Turns::line_two_in))]
+fn survey(text: &[u8]) -> Result<usize, Answer>
+    ensures { Reads result (survey_of text.now) }
 {
-    let found = head_fault(text, 3, MATCHING_LIMIT, b"match\t1");
-    if found.number != 0 {
-        return refusal(found);
-    }
+    head_fault(text, 3, MATCHING_LIMIT, b"match\t1")?;
     survey_lines(text, line_two(text))
 }
 
-// Answers 1 to 3 and 17, for a room of so many words.
-pub fn survey_in(text: &[u8], words: usize) -> MatchingRead
-    ensures { result ≡ room_for words (survey_of text.now) }
+// Answers 1 to 3 and 17, for a room of so many words, or the number of entries.
+pub fn survey_in(text: &[u8], words: usize) -> Result<usize, Answer>
+    ensures { Reads result (room_for words (survey_of text.now)) }
 {
-    let surveyed = survey(text);
-    let entries = surveyed.entries;
+    let entries = survey(text)?;
     if words < entries {
-        return refusal(Answer::new(17, 3, entries));
+        return Err(Answer::new(17, 3, entries));
     }
-    surveyed
+    Ok(entries)
 }
 
 // A word at an index; where the room does not hold it, the room stays as it is.
+// By index: of a slice lent by `get_mut` a proof knows the length afterwards, and no element.
 fn put(room: &mut [Entry], i: usize, e: Entry)
     ensures { room.new ≡ set room.old i e }
 {
@@ -93,43 +80,39 @@ fn put(room: &mut [Entry], i: usize, e: Entry)
 }
 
 // The room with a line's entry at an index; what comes back is the next index.
-fn put_entry(room: &mut [Entry], i: usize, line: EntryRead) -> usize
+#[tactic(auto, unfolding(frame::specs::Store::put_all))]
+fn put_entry(room: &mut [Entry], i: usize, line: Option<Entry>) -> usize
     requires { i < 18446744073709551615 }
     ensures { (result ≡ i + length (entries_on line)) × (room.new ≡ put_all set room.old i (entries_on line)) }
 {
     match line {
-        EntryRead::Entry(e) => {
+        Some(e) => {
             put(room, i, e);
             i + 1
         }
-        EntryRead::Refused => i,
+        None => i,
     }
 }
 
 // The entries of a text, put one after the other from the start of a room on; one that the room does not hold is not put.
+#[tactic(auto, unfolding(crate::specs::Reading::entries_of), using(crate::proofs::Turns::line_in))]
 pub fn store(text: &[u8], room: &mut [Entry])
     ensures { room.new ≡ put_all set room.old 0 (entries_of text.now) }
 {
     let mut at = line_two(text);
     let mut i: usize = 0;
-    loop {
-        let LineStep::Line { to } = next_line(text, at) else {
-            return;
-        };
+    while let Some(to) = next_line(text, at) {
         i = put_entry(room, i, entry_of(&text[at..to]));
         at = to + 1;
     }
 }
 
-// A matching text read alone: its entries at the front of the room, or a refusal, which changes nothing.
-pub fn read(text: &[u8], room: &mut [Entry]) -> MatchingRead
-    ensures { (result ≡ read_of text.now room.old) × (room.new ≡ room_after text.now room.old) }
+// A matching text read alone: how many entries stand at the front of the room, or a refusal, which changes nothing.
+#[tactic(auto, unfolding(crate::specs::Reading::read_of), using(crate::proofs::Readings::room_kept))]
+pub fn read(text: &[u8], room: &mut [Entry]) -> Result<usize, Answer>
+    ensures { Reads result (read_of text.now room.old) × (room.new ≡ room_after text.now room.old) }
 {
-    let surveyed = survey_in(text, room.len());
-    let found = surveyed.answer;
-    if found.number != 0 {
-        return surveyed;
-    }
+    let entries = survey_in(text, room.len())?;
     store(text, room);
-    surveyed
+    Ok(entries)
 }

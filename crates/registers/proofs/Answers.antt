@@ -20,7 +20,8 @@ use Rattle.frame.proofs.Answers.{lines_given, head_among, head_in}
 use Rattle.std.specs.Prelude.{Option, Some, None}
 use Rattle.registers.specs.Reg.{header, reg_of}
 use Rattle.registers.specs.declared.reg.Register.{Register}
-use Rattle.registers.specs.Reading.{ListRead, SoFar, nothing, list_limit, reg_limit, rank, before, regs_fault, is_grouped, regs_layout, regs_of, refused, list_of}
+use Rattle.registers.specs.Reading.{ListRead, SoFar, nothing, list_limit, reg_limit, rank, before, regs_fault}
+use Rattle.registers.specs.Reading.{is_grouped, regs_layout, regs_of, refused, list_of}
 use Rattle.registers.specs.Lines.{lines_read}
 
 -- the numbers of its refusals

@@ -80,7 +80,8 @@ word_says true [] = tt
 word_says true (f ∷ fs) = group_says f fs (number_of 2 f) refl
 word_says false fs = rest_says false 1 (λ p h. record { one = omega arith; group = omega arith; location = h }) fs
 
-fields_say : (grouped : Bool) (fs : List (List ℕ)) → Says grouped fs (on_field None fs (λ word rest. cond (same_bytes word reg_word) (after_word grouped rest) None))
+fields_say : (grouped : Bool) (fs : List (List ℕ))
+    → Says grouped fs (on_field None fs (λ word rest. cond (same_bytes word reg_word) (after_word grouped rest) None))
 fields_say grouped [] = tt
 fields_say grouped (w ∷ fs) = cases (either (same_bytes w reg_word)) (λ e. rw (e, same_eq w reg_word e) (word_says grouped fs)) (λ e. rw e tt)
 

@@ -1,7 +1,7 @@
 -- What a reading has come to after line 1, and after each line: a refusal, or what is known after the line. Assumes nothing.
 use Prim.Native.Nat.{ℕ, ◌+◌, ◌≤◌}
 use mathlib.Core.Path.{◌≡◌, refl, sym, ◌∙◌, ap}
-use mathlib.Core.Bool.{Bool, false, ◌||◌}
+use mathlib.Core.Bool.{Bool, true, false, ◌||◌}
 use mathlib.Core.List.{List, ◌∷◌}
 use native.Mathlib.Omega.{arith}
 use borrow.Author.Tests.{eqb-false}
@@ -18,7 +18,8 @@ use Rattle.frame.specs.Reading.{head_fault}
 use Rattle.frame.proofs.Heads.{head_stops, head_goes, head_length}
 use Rattle.frame.proofs.Tries.{Tried, tried_go, tried_stop}
 use Rattle.registers.specs.Reg.{header, reg_of}
-use Rattle.registers.specs.Reading.{ListRead, SoFar, nothing, list_limit, reg_limit, rank, is_grouped, regs_layout, regs_of, marks_of, group_of, refused, read_as, list_of}
+use Rattle.registers.specs.Reading.{ListRead, SoFar, nothing, list_limit, reg_limit, rank, regs_fault, is_grouped, regs_layout}
+use Rattle.registers.specs.Reading.{regs_of, marks_of, group_of, refused, read_as, list_of}
 use Rattle.registers.specs.Lines.{marked_for, marking, lines_read}
 use Rattle.registers.specs.declared.reg.Register.{Register}
 use Rattle.registers.proofs.Marks.{marking_line}
@@ -44,14 +45,19 @@ pub line_refused : (grouped : Bool) {whole : ListRead} {t : List ℕ} {k at : �
     → (x : ℕ) → eqb x 0 ≡ false → (regs_layout grouped).fault s (part t at to) ≡ x → (b : Answer) → b ≡ answer x 4 k → Refuses b × (refused b ≡ whole)
 line_refused grouped w e x z f b q = (rw q z, tried_stop w refl e q z f)
 
+-- it is a register out of order, or one too many
+pub fault_over : (low : ℕ) (counts : List ℕ) (r : Register) (i : ℕ) → i ≡ r.group → (ltb (rank r) low || leb reg_limit (get_or counts i 0)) ≡ true
+    → regs_fault (record { low = low; counts = counts }) (Some r) ≡ 22
+fault_over low counts r i o f = rw (rw o at f)
+
 -- it is a register, which is not refused, and is marked if it is the group's
 module _ (grouped : Bool) (g low n : ℕ) (counts : List ℕ) (marks : List Bool) where
   pub line_read : {whole : ListRead} {t : List ℕ} {at : ℕ}
       → Tried (regs_layout grouped) refused 4 whole t (n + 2) (record { low = low; counts = counts }) (marking grouped g marks) at
       → {to : ℕ} → line_at t at ≡ Some to → (r : Register) → reg_of grouped (part t at to) ≡ Some r → (i : ℕ) → i ≡ r.group
       → (ltb (rank r) low || leb reg_limit (get_or counts i 0)) ≡ false → (marks' : List Bool) → marks' ≡ marked_for g marks r
-      → Tried (regs_layout grouped) refused 4 whole t (n + 1 + 2) (record { low = rank r + 1; counts = set counts i (get_or counts i 0 + 1) }) (marking grouped g marks')
-      (to + 1)
+      → Tried (regs_layout grouped) refused 4 whole t (n + 1 + 2) (record { low = rank r + 1; counts = set counts i (get_or counts i 0 + 1) })
+      (marking grouped g marks') (to + 1)
   line_read {t = t} {at = at} w {to} e r q i o f marks' m =
       tried_go w e (omega arith) (rw (q, rw o at f)) (rw (q, o))
       (λ p ls. marking_line grouped g marks (part t at to) p ls r q ∙ ap (λ (b : List Bool). marking grouped g b (p ∷ ls)) (sym m))
