@@ -39,11 +39,6 @@ pub listed_named : (ps : List ℕ) (l : ℕ) → l < places → get_or (marks_of
 listed_named ps l h =
     marked_at ps none_listed l (omega (arith, h)) ∙ rw (get_or-replicate {A = Bool} places l false false h) (or-false (has l ps))
 
--- a register more
-pub length_marked : (g : ℕ) (marks : List Bool) (r : Register) → length (marked_for g marks r) ≡ length marks
-unfolding marked_for
-length_marked g marks r = cases (either (eqb r.group g)) (λ e. rw e (length-set marks r.location true)) (λ e. rw e)
-
 -- what lines list of which the first is a register
 pub marking_line : (grouped : Bool) (g : ℕ) (marks : List Bool) (l m : List ℕ) (ls : List (List ℕ)) (r : Register) → reg_of grouped l ≡ Some r
     → marking grouped g marks (l ∷ m ∷ ls) ≡ marking grouped g (marked_for g marks r) (m ∷ ls)
