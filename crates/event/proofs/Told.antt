@@ -1,6 +1,6 @@
 -- What a function that may refuse hands back is told by what a definition says: two results that it tells are the same. Assumes nothing.
 use mathlib.Core.Path.{◌≡◌, refl, ap, sym, ◌∙◌}
-use mathlib.Core.Bool.{false≢true}
+use mathlib.Core.Bool.{Bool, true, false, cond, false≢true}
 use Prim.Native.Nat.{ℕ}
 use native.Mathlib.Omega.{arith}
 use Rattle.std.specs.Prelude.{Result, Ok, Err, ⊤}
@@ -56,3 +56,12 @@ and_stands (Err a) y h k = h
 pub err_refuses : (r : Result ⊤ Answer) (a : Answer) → Stands r → r ≡ Err a → Refuses a
 err_refuses (Ok x) a h e = absurd (let z : ◌≡◌ {A = ℕ} 0 1 = cc in omega arith)
 err_refuses (Err b) a h e = let q : b ≡ a = cc in ap is_done (sym q) ∙ h.0
+
+-- an answer that is asked for where something holds
+pub cond_err : (b : Bool) (x a : Answer) → Refuses a → a ≡ cond b x done → (b ≡ true) × (a ≡ x)
+cond_err true x a r q = (refl, q)
+cond_err false x a r q = absurd (not_done a r q)
+
+pub cond_ok : (b : Bool) (x : Answer) → Refuses x → done ≡ cond b x done → b ≡ false
+cond_ok true x r q = absurd (not_done x r (sym q))
+cond_ok false x r q = refl

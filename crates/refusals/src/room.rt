@@ -1,109 +1,95 @@
 // A room that is to be written: answers 3, 18, 5, 6 and 19, in this order.
 ghost use Rattle.std.specs.Prelude.{◌≡◌, [], ◌≤◌};
 ghost use Rattle.event.specs.Room.{onward};
+ghost use Rattle.event.specs.Told.{Passes};
 ghost use Rattle.trace.specs.Fault.{event_fault_in};
 ghost use Rattle.trace.specs.Writing.{count_of, layout_fault, lost, room_fault_in, write_fault_in};
 ghost use Rattle.event.specs.Limit.{event_limit};
 
+use crate::loss::loss_at;
 use event::room::get;
 use event::{Answer, EVENT_LIMIT, PLACES, WORDS, Word};
 use kinds::is_lawful;
 use memory::listed::Listed;
 use memory::{Memory, Stepped};
-use record::form::{Form, does_lose};
+use record::form::Form;
 use trace::fault::{fault_at, is_right};
-use uses::{UNTOUCHED, Ways, use_listed};
+use uses::{Way, Ways, use_listed};
 
 // How many events a part of a room has: one that is cut short at its end counts.
 pub fn count_of(room: &[Word]) -> usize
     ensures { result ≡ count_of room.now }
 {
-    let whole = room.len() / WORDS;
-    if room.len() % WORDS == 0 {
-        return whole;
-    }
-    whole + 1
+    room.len().div_ceil(WORDS)
 }
 
 // 18: the first event that is outside the layout.
-fn layout_fault(room: &[Word], n: usize) -> Answer
+#[tactic(auto, using(trace::proofs::Judged::sought_start, trace::proofs::Judged::sought_next, trace::proofs::Judged::sought_here, trace::proofs::Judged::sought_end))]
+fn layout_fault(room: &[Word], n: usize) -> Result<(), Answer>
     requires { n ≤ event_limit }
-    ensures { result ≡ layout_fault 1 (onward room.now 0 n) }
+    ensures { Passes (layout_fault 1 (onward room.now 0 n)) result }
 {
-    let mut i: usize = 0;
-    while i < n {
+    for i in 0..n {
         if !is_lawful(get(room, i)) {
-            return Answer::new(18, 0, i + 1);
+            return Err(Answer::new(18, 0, i + 1));
         }
-        i += 1;
     }
-    Answer::new(0, 0, 0)
+    Ok(())
 }
 
 // 19: the first event whose code line a form would lose.
-fn loss_of(form: Form, room: &[Word], n: usize) -> Answer
+#[tactic(auto, using(event::proofs::Told::cond_err, event::proofs::Told::cond_ok, trace::proofs::Judged::sought_start, trace::proofs::Judged::sought_next, trace::proofs::Judged::sought_here, trace::proofs::Judged::sought_end))]
+fn loss_of(form: Form, room: &[Word], n: usize) -> Result<(), Answer>
     requires { n ≤ event_limit }
-    ensures { result ≡ lost form 0 1 (onward room.now 0 n) }
+    ensures { Passes (lost form 0 1 (onward room.now 0 n)) result }
 {
-    let mut i: usize = 0;
-    while i < n {
-        if does_lose(form, get(room, i).code) {
-            return Answer::new(19, 0, i + 1);
-        }
-        i += 1;
+    for i in 0..n {
+        loss_at(form, get(room, i), 0, i + 1)?;
     }
-    Answer::new(0, 0, 0)
+    Ok(())
 }
 
 // 5 and 6, event by event.
-fn event_fault(listed: &Listed, start: Memory, room: &[Word], n: usize) -> Answer
+fn event_fault(listed: &Listed, start: Memory, room: &[Word], n: usize) -> Result<(), Answer>
     requires n_le_event_limit { n ≤ event_limit }
     requires n_value { (layout_fault 1 (onward room.now 0 n)).number ≡ 0 }
-    ensures { result ≡ event_fault_in listed.now 0 1 start [] (onward room.now 0 n) }
+    ensures { Passes (event_fault_in listed.now 0 1 start [] (onward room.now 0 n)) result }
 {
     let mut last = Stepped {
         memory: start,
         right: true,
     };
-    let mut ways: Ways = [UNTOUCHED; PLACES];
-    let none = Answer::new(0, 0, 0);
-    let mut i: usize = 0;
-    while i < n {
+    let mut ways: Ways = [Way::Untouched; PLACES];
+    for i in 0..n {
         let e = get(room, i);
         let clash = use_listed(listed, &mut ways, e);
         last = last.memory.step(e);
-        let right = is_right(listed, e, last.right);
-        let found = fault_at(none, clash, right, 0, i + 1);
-        if found.number != 0 {
-            return found;
-        }
-        i += 1;
+        fault_at(clash, is_right(listed, e, last.right), 0, i + 1)?;
     }
-    none
+    Ok(())
 }
 
 // Answers 3, 18, 5 and 6, in this order.
-fn room_fault(listed: &Listed, memory: Memory, room: &[Word]) -> Answer
-    ensures { result ≡ room_fault_in listed.now memory room.now }
+fn room_fault(listed: &Listed, memory: Memory, room: &[Word]) -> Result<(), Answer>
+    ensures { Passes (room_fault_in listed.now memory room.now) result }
 {
     let n = count_of(room);
     if EVENT_LIMIT < n {
-        return Answer::new(3, 0, EVENT_LIMIT + 1);
+        return Err(Answer::new(3, 0, EVENT_LIMIT + 1));
     }
-    let found = layout_fault(room, n);
-    if found.number != 0 {
-        return found;
-    }
+    layout_fault(room, n)?;
     event_fault(listed, memory, room, n)
 }
 
 // And 19.
-pub fn write_fault(listed: &Listed, form: Form, memory: Memory, room: &[Word]) -> Answer
-    ensures { result ≡ write_fault_in listed.now form memory room.now }
+pub fn write_fault(
+    listed: &Listed,
+    form: Form,
+    memory: Memory,
+    room: &[Word],
+) -> Result<(), Answer>
+    ensures { Passes (write_fault_in listed.now form memory room.now) result }
 {
-    let found = room_fault(listed, memory, room);
-    if found.number != 0 {
-        return found;
-    }
+    room_fault(listed, memory, room)?;
     loss_of(form, room, count_of(room))
 }

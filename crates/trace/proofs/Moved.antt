@@ -7,10 +7,11 @@ use mathlib.Core.List.{List, [], ◌∷◌}
 use native.Mathlib.Omega.{arith}
 use lib.Dec.{eqb, ltb}
 use lib.ListN.{length}
-use borrow.Author.Tests.{le-ltb, ne_eqb}
+use borrow.Author.Tests.{le-ltb, eqb-false}
 use Rattle.laws.proofs.Cases.{cases, either, not_first}
 use Rattle.laws.specs.Each.{Each}
 use Rattle.event.specs.Answer.{answer, done, first}
+use Rattle.event.specs.Told.{Refuses}
 use Rattle.event.specs.declared.Answer.{Answer}
 use Rattle.event.specs.declared.Event.{Event}
 use Rattle.memory.specs.declared.Memory.{Memory}
@@ -38,28 +39,29 @@ use Rattle.trace.proofs.Readings.{survey_done}
 
 -- what is found of a text, by the first of its parts that refuses
 module _ (regs : List Bool) (to : Form) (t : List ℕ) where
-  pub by_head : {a : Answer} → a ≡ move_head to t → (a.number ≡ 0 → ⊥) → refused a ≡ move_survey_in regs to t
+  pub head_refuses : (a : Answer) → Refuses a → a ≡ move_head to t → refused a ≡ move_survey_in regs to t
   unfolding move_survey_in move_fault_in
-  by_head q n =
-      let e : eqb (move_head to t).number 0 ≡ false = ne_eqb _ _ (λ z. n (ap (λ (a : Answer). a.number) q ∙ z)) in
-      rw (e, e) (ap refused q)
+  head_refuses a r q = rw (← q, r, r)
 
-  module _ (h : (move_head to t).number ≡ 0) where
-    pub by_reading : {s : TraceRead} → s ≡ survey_in regs 1 t → (s.answer.number ≡ 0 → ⊥) → s ≡ move_survey_in regs to t
+  module _ (h : done ≡ move_head to t) where
+    pub reading_refuses : (a : Answer) → Refuses a → refused a ≡ survey_in regs 1 t → refused a ≡ move_survey_in regs to t
     unfolding move_survey_in move_fault_in survey_in
-    by_reading q n =
-        cases (either (eqb (fault_in regs 1 t).number 0)) (λ e. absurd (n (ap (λ (s : TraceRead). s.answer.number) q ∙ rw e))) (λ e. q ∙ rw (h, e, e))
+    reading_refuses a r q =
+        cases (either (eqb (fault_in regs 1 t).number 0))
+        (λ e. absurd (eqb-false a.number 0 r (ap (λ (s : TraceRead). s.answer.number) q ∙ rw e)))
+        (λ e. rw (← h, e, e) (q ∙ rw e))
 
-    module _ (r : (survey_in regs 1 t).answer.number ≡ 0) where
-      pub by_loss : {a : Answer} → a ≡ lost to 1 1 (events_of t) → (a.number ≡ 0 → ⊥) → refused a ≡ move_survey_in regs to t
-      unfolding move_survey_in move_fault_in
-      by_loss q n =
-          let e : eqb (lost to 1 1 (events_of t)).number 0 ≡ false = ne_eqb _ _ (λ z. n (ap (λ (a : Answer). a.number) q ∙ z)) in
-          rw (h, (survey_done regs 1 t r).0, e) (ap refused q)
+    module _ (n : ℕ) (m : Memory) (r : read_as n m ≡ survey_in regs 1 t) where
+      passed : (survey_in regs 1 t).answer.number ≡ 0
+      passed = ap (λ (s : TraceRead). s.answer.number) (sym r)
 
-      pub by_none : (lost to 1 1 (events_of t)).number ≡ 0 → survey_in regs 1 t ≡ move_survey_in regs to t
+      pub loss_refuses : (a : Answer) → Refuses a → a ≡ lost to 1 1 (events_of t) → refused a ≡ move_survey_in regs to t
       unfolding move_survey_in move_fault_in
-      by_none n = rw (h, (survey_done regs 1 t r).0, n) (survey_done regs 1 t r).1
+      loss_refuses a s q = rw (← h, (survey_done regs 1 t passed).0, ← q, s)
+
+      pub move_passes : done ≡ lost to 1 1 (events_of t) → read_as n m ≡ move_survey_in regs to t
+      unfolding move_survey_in move_fault_in
+      move_passes q = r ∙ ((survey_done regs 1 t passed).1 ∙ rw (← h, (survey_done regs 1 t passed).0, ← q))
 
   -- what it tells: the refusal, or that there is none
   pub found_fault : ((move_survey_in regs to t).answer.number ≡ 0 → ⊥) → (move_survey_in regs to t).answer ≡ move_fault_in regs to t

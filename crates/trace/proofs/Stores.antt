@@ -1,23 +1,18 @@
 -- An event is six words: one more put behind those at the front of a room. So events that a room holds, put one after the other, stand at its
 -- front. Assumes nothing.
-use Prim.Native.Nat.{ℕ, ◌*◌, ◌/◌, ◌≤◌}
+use Prim.Native.Nat.{ℕ, ◌+◌, ◌*◌, ◌/◌, ◌≤◌}
 use mathlib.Core.Path.{◌≡◌, refl}
-use mathlib.Core.List.{List, [], ◌++◌}
+use mathlib.Core.List.{List, [], ◌∷◌, ◌++◌}
 use native.Mathlib.Omega.{arith}
 use lib.ListN.{length, drop}
 use borrow.Author.Tests.{ltb-true}
-use Rattle.std.specs.Prelude.{Option, Some, None}
 use Rattle.laws.proofs.Cases.{cases, either}
 use Rattle.event.specs.Room.{flat, in_room, put_at}
 use Rattle.event.specs.declared.Event.{Event}
 use Rattle.event.proofs.Rooms.{put_next, length_put}
 use Rattle.frame.specs.Store.{put_all}
 use Rattle.frame.proofs.Stores.{Puts, all_front}
-use Rattle.record.specs.Record.{record_of}
-use Rattle.record.specs.declared.Record.{Record}
-use Rattle.record.specs.declared.Record.TheVariants.{Init, AnEvent}
-use Rattle.record.specs.declared.form.Form.{Form}
-use Rattle.trace.specs.Reading.{events_on, front}
+use Rattle.trace.specs.Reading.{front}
 
 pub keeps : (l : List ℕ) (i : ℕ) (e : Event) → length (put_at l i e) ≡ length l
 unfolding put_at
@@ -40,14 +35,11 @@ events_put = record {
 pub events_front : (es : List Event) (room : List ℕ) → length es * 6 ≤ length room → put_all put_at room 0 es ≡ front es room
 events_front es room h = all_front put_at events_put room es h
 
--- what a line says, which is one event at most
-abbrev pub says : Form → List ℕ → List Event
-says f l = events_on (record_of f l)
+-- events put one by one: the first, and none
+pub put_heard : (room : List ℕ) (i : ℕ) (e : Event) (es : List Event) → put_all put_at room i (e ∷ es) ≡ put_all put_at (put_at room i e) (i + 1) es
+unfolding put_all
+put_heard room i e es = refl
 
-pub one_at_most : (r : Option Record) → length (events_on r) ≤ 1
-one_at_most None = omega arith
-one_at_most (Some (Init p v)) = omega arith
-one_at_most (Some (AnEvent e)) = omega arith
-
-pub brief : (f : Form) (l : List ℕ) → length (says f l) ≤ 1
-brief f l = one_at_most (record_of f l)
+pub put_none : (room : List ℕ) (i : ℕ) → put_all put_at room i [] ≡ room
+unfolding put_all
+put_none room i = refl

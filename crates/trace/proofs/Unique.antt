@@ -18,7 +18,7 @@ use Rattle.trace.proofs.form.is_of.Reads as is_of
 use Rattle.trace.proofs.reading.survey.Reads as survey
 
 -- what is held, or the answer that refuses, by what the reading says
-reads_one : (read : TraceRead) (x y : Result Held Answer) → Reads x read → Reads y read → x ≡ y
+pub reads_one : (read : TraceRead) (x y : Result Held Answer) → Reads x read → Reads y read → x ≡ y
 reads_one read x y h k =
     tells_one (λ h. read_as h.events h.memory) refused TraceRead.answer (λ r. record { events = r.events; memory = r.memory }) (λ h. refl) (λ a. refl) (λ h. refl) read x y h k
 

@@ -1,14 +1,18 @@
 -- The events of a text from a place on, by what the line there is. Assumes nothing.
-use Prim.Native.Nat.{ℕ, ◌+◌}
-use mathlib.Core.Path.{◌≡◌, refl, ap}
-use mathlib.Core.List.{List, [], ◌++◌}
-use Rattle.std.specs.Prelude.{Some, None, Option}
+use Prim.Native.Nat.{ℕ, ◌+◌, ◌<◌}
+use mathlib.Core.Path.{◌≡◌, refl, sym, ap}
+use mathlib.Core.List.{List, [], ◌∷◌, ◌++◌}
+use Rattle.std.specs.Prelude.{Option, Some, None}
 use Rattle.event.specs.declared.Event.{Event}
 use Rattle.text.specs.Line.{line_len, line_at, split_from, said_in}
 use Rattle.text.proofs.Walk.{part, by_line, by_end, body_from}
 use Rattle.record.specs.Record.{record_of}
 use Rattle.record.specs.declared.Record.{Record}
+use Rattle.record.specs.declared.Record.TheVariants.{Init, AnEvent}
 use Rattle.record.specs.declared.form.Form.{Form}
+use Rattle.record.proofs.Records.{line_lawful}
+use Rattle.kinds.proofs.Lawful.{place_below}
+use Rattle.trace.specs.Ahead.{heard_from}
 use Rattle.trace.specs.Reading.{form_of, events_on, events_in, events_of}
 
 -- of any form
@@ -39,3 +43,20 @@ module _ (t : List ℕ) where
 
   pub events_none : (at : ℕ) → line_at t at ≡ None → events_from at ≡ []
   events_none = by_none (form_of t) t
+
+-- the events of the lines from a place on, by the line there; those of a text are those from line 2 on
+module _ (f : Form) (t : List ℕ) (at : ℕ) where
+  pub none_heard : line_at t at ≡ None → heard_from f t at ≡ []
+  none_heard e = by_none f t at e
+
+  module _ (to : ℕ) (e : line_at t at ≡ Some to) where
+    pub event_heard : (v : Event) → record_of f (part t at to) ≡ Some (AnEvent v) → (heard_from f t at ≡ v ∷ heard_from f t (to + 1)) × (v.place < 256)
+    event_heard v h = (by_record f t at e (sym h), place_below v (line_lawful f (part t at to) v h))
+
+    pub line_heard : (r : Option Record) → record_of f (part t at to) ≡ r → ((v : Event) → r ≡ Some (AnEvent v) → ⊥) → heard_from f t at ≡ heard_from f t (to + 1)
+    line_heard None h n = by_record f t at e (sym h)
+    line_heard (Some (Init p v)) h n = by_record f t at e (sym h)
+    line_heard (Some (AnEvent v)) h n = absurd (n v refl)
+
+pub events_heard : (t : List ℕ) → events_of t ≡ heard_from (form_of t) t (line_len t + 1)
+events_heard t = events_start t

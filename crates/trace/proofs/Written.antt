@@ -9,6 +9,8 @@ use borrow.Author.Tests.{eqb-true, eqb-false, ltb-true, ltb-false, ne_eqb, lt-lt
 use Rattle.laws.proofs.Cases.{cases, either}
 use Rattle.event.specs.Answer.{answer}
 use Rattle.event.specs.Room.{onward}
+use Rattle.event.specs.Told.{Refuses}
+use Rattle.event.specs.declared.Answer.{Answer}
 use Rattle.memory.specs.declared.Memory.{Memory}
 use Rattle.trace.specs.Fault.{event_fault_in}
 use Rattle.trace.specs.Writing.{count_of, layout_fault, room_fault_in}
@@ -22,6 +24,10 @@ module _ (regs : List Bool) (m : Memory) (room : List ℕ) {n : ℕ} (c : n ≡ 
   pub room_layout : n ≤ event_limit → ((layout_fault 1 (onward room 0 n)).number ≡ 0 → ⊥) → room_fault_in regs m room ≡ layout_fault 1 (onward room 0 n)
   unfolding room_fault_in
   room_layout h x = rw (← c, le-ltb event_limit n h, ne_eqb (layout_fault 1 (onward room 0 n)).number 0 x)
+
+  pub layout_refuses : n ≤ event_limit → (a : Answer) → Refuses a → a ≡ layout_fault 1 (onward room 0 n) → a ≡ room_fault_in regs m room
+  unfolding room_fault_in
+  layout_refuses h a r q = rw (← c, le-ltb event_limit n h, ← q, r)
 
   pub room_events_lem : n ≤ event_limit → (layout_fault 1 (onward room 0 n)).number ≡ 0 → room_fault_in regs m room ≡ event_fault_in regs 0 1 m [] (onward room 0 n)
   unfolding room_fault_in

@@ -8,3 +8,4 @@ pub mod Listed
 pub mod Text
 -- Inner: the steps of a reading. Assumes nothing.
 pub mod Survey
+pub mod Ahead

@@ -1,6 +1,7 @@
 // Trace texts read into a room (`read`), with a list of registers too (`read_listed`).
 #![tactic(auto)]
 
+pub mod ahead;
 pub mod fault;
 pub mod form;
 pub mod reading;

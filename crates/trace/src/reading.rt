@@ -8,6 +8,7 @@ ghost use Rattle.trace.specs.Reading.{Reads, survey_in, room_for, events_of};
 ghost use Rattle.trace.specs.Survey.{init_on, survey_inits, survey_events};
 ghost use Rattle.event.specs.Limit.{places};
 
+use crate::ahead::next_event;
 use crate::fault::{bare_fault, fault_at, is_right};
 use crate::form::{form_of, head_fault_of};
 use event::room::put;
@@ -149,18 +150,16 @@ pub fn survey_in(listed: &Listed, text: &[u8], side: Number, words: usize) -> Re
 }
 
 // The events of a text, put one after the other from the start of a room on; one that the room does not hold is not put.
-#[tactic(auto, using(text::proofs::Walk::line_in))]
+#[tactic(auto, using(crate::proofs::Walks::events_heard, crate::proofs::Stores::put_heard, crate::proofs::Stores::put_none))]
 pub fn store(text: &[u8], room: &mut [Word])
     ensures { room.new ≡ put_all put_at room.old 0 (events_of text.now) }
 {
     let form = form_of(text);
     let mut at = line_two(text);
     let mut i: usize = 0;
-    while let Some(to) = next_line(text, at) {
-        if let Some(Record::AnEvent(e)) = record_of(form, &text[at..to]) {
-            put(room, i, e);
-            i += 1;
-        }
-        at = to + 1;
+    while let Some(found) = next_event(form, text, at) {
+        put(room, i, found.event);
+        i += 1;
+        at = found.next;
     }
 }
