@@ -4,12 +4,12 @@
 
 ghost use Rattle.std.specs.Prelude.{◌≡◌};
 ghost use Rattle.laws.specs.Has.{has};
-ghost use Rattle.kinds.specs.Kind.{access_row, barrier_row, no_kind, row, takes, fits_place, fits_values, last_of, in_range, made, lawful, is_marks, is_load_kind, is_location, plain};
+ghost use Rattle.kinds.specs.Kind.{access_row, barrier_row, no_kind, row, takes, fits_place, fits_values, last_of, in_range, made, lawful, is_marks, is_load_kind, plain};
 
 use event::{Event, Word};
 
 // The lists of orders that document 01 names.
-#[derive(Clone, Copy)]
+#[derive(Clone, Copy, PartialEq, Eq)]
 pub enum Orders {
     // none at all
     Bare,
@@ -28,7 +28,7 @@ pub enum Orders {
 }
 
 // What `place` of an event is.
-#[derive(Clone, Copy)]
+#[derive(Clone, Copy, PartialEq, Eq)]
 pub enum Place {
     Location,
     Mutex,
@@ -36,14 +36,14 @@ pub enum Place {
 }
 
 // How wide a value is.
-#[derive(Clone, Copy)]
+#[derive(Clone, Copy, PartialEq, Eq)]
 pub enum Width {
     Bits32,
     Bits64,
 }
 
 // What an event sets its cell to.
-#[derive(Clone, Copy)]
+#[derive(Clone, Copy, PartialEq, Eq)]
 pub enum Sets {
     Nothing,
     First,
@@ -109,6 +109,7 @@ fn no_kind() -> Row
 }
 
 // The table, a kind to a line.
+#[tactic(auto, unfolding(crate::specs::Kind::row))]
 pub fn row_of(kind: Word) -> Row
     ensures { result ≡ row kind }
 {
@@ -120,15 +121,14 @@ pub fn row_of(kind: Word) -> Row
         5 => access(Orders::Updates, 2, Width::Bits64, true, Sets::Second, true),
         6 => access(Orders::Updates, 2, Width::Bits32, true, Sets::Sum, true),
         7 => barrier(Orders::Fences, Place::Nowhere),
-        8 => barrier(Orders::Bare, Place::Mutex),
-        9 => barrier(Orders::Bare, Place::Mutex),
+        8 | 9 => barrier(Orders::Bare, Place::Mutex),
         10 => access(Orders::Updates, 2, Width::Bits64, true, Sets::Sum, true),
         11 => access(Orders::Reads, 1, Width::Bits64, true, Sets::Nothing, true),
         _ => no_kind(),
     }
 }
 
-// The orders' numbers; 0 is no order. A load's mark stands in their place.
+// The orders' numbers; 0 is no order. A load's mark stands in their place. Numbers and no enum: rooms and C's arrays hold them (the C interface).
 const RLX: Word = 1;
 
 const ACQ: Word = 2;
@@ -156,17 +156,11 @@ pub const LAST_CODE: Word = 65535;
 pub fn is_in(n: Word, list: &[Word]) -> bool
     ensures { result ≡ has n list.now }
 {
-    let mut i: usize = 0;
-    while i < list.len() {
-        if n == list[i] {
-            return true;
-        }
-        i += 1;
-    }
-    false
+    list.contains(&n)
 }
 
 // Whether an order's number is in a list of orders.
+#[tactic(auto, unfolding(crate::specs::Kind::takes))]
 fn takes_order(orders: Orders, order: Word) -> bool
     ensures { result ≡ takes orders order }
 {
@@ -185,8 +179,7 @@ fn fits_place(place: Place, at: Word) -> bool
     ensures { result ≡ fits_place place at }
 {
     match place {
-        Place::Location => at <= LAST_PLACE,
-        Place::Mutex => at <= LAST_PLACE,
+        Place::Location | Place::Mutex => at <= LAST_PLACE,
         Place::Nowhere => at == 0,
     }
 }
@@ -221,59 +214,30 @@ fn are_in_range(width: Width, first: Word, second: Word) -> bool
 }
 
 // Whether a place, an order, values and a code line are those of a kind.
+#[tactic(auto, unfolding(crate::specs::Kind::lawful))]
 pub fn suits(kind: Word, place: Word, order: Word, first: Word, second: Word, code: Word) -> bool
     ensures { result ≡ lawful (made kind place order first second code) }
 {
     let row = row_of(kind);
-    let orders = row.orders;
-    let located = row.place;
-    if !takes_order(orders, order) {
-        return false;
-    }
-    if !fits_place(located, place) {
-        return false;
-    }
-    if !fits_values(row.values, first, second) {
-        return false;
-    }
-    let width = row.width;
-    if !are_in_range(width, first, second) {
-        return false;
-    }
-    code <= LAST_CODE
+    takes_order(row.orders, order)
+        && fits_place(row.place, place)
+        && fits_values(row.values, first, second)
+        && are_in_range(row.width, first, second)
+        && code <= LAST_CODE
 }
 
 // Whether these are marks, not orders.
 pub fn is_marks(orders: Orders) -> bool
     ensures { result ≡ is_marks orders }
 {
-    match orders {
-        Orders::Bare => false,
-        Orders::Marks => true,
-        Orders::Reads => false,
-        Orders::Writes => false,
-        Orders::Updates => false,
-        Orders::Fences => false,
-        Orders::NoKind => false,
-    }
+    orders == Orders::Marks
 }
 
 // Whether a kind is that of loads.
 pub fn is_load_kind(kind: Word) -> bool
     ensures { result ≡ is_load_kind kind }
 {
-    let orders = row_of(kind).orders;
-    is_marks(orders)
-}
-
-fn is_location(place: Place) -> bool
-    ensures { result ≡ is_location place }
-{
-    match place {
-        Place::Location => true,
-        Place::Mutex => false,
-        Place::Nowhere => false,
-    }
+    is_marks(row_of(kind).orders)
 }
 
 // Whether an event is a `load` or a `store`.
@@ -281,11 +245,7 @@ pub fn is_plain(e: Event) -> bool
     ensures { result ≡ plain e }
 {
     let row = row_of(e.kind);
-    let place = row.place;
-    if is_location(place) {
-        return !row.sync;
-    }
-    false
+    row.place == Place::Location && !row.sync
 }
 
 // Whether an event is of the layout.
