@@ -16,6 +16,7 @@ pub struct Memory {
 }
 
 // The memory after an event, and whether the event's value is the latest.
+// No Option of a memory: an event whose value is not the latest has a memory after it too (`stepped`).
 #[derive(Clone, Copy)]
 pub struct Stepped {
     pub memory: Memory,
@@ -26,10 +27,11 @@ pub struct Stepped {
 fn sum_64(a: Word, b: Word) -> Word
     ensures { result ≡ wrap_sum 64 a b }
 {
-    std::num::wrapping_add_u64(a, b)
+    a.wrapping_add(b)
 }
 
 // The sum of two of 32 bits is what is left of that.
+#[tactic(auto, using(crate::proofs::Wrap::wraps_narrow))]
 fn sum_32(a: Word, b: Word) -> Word
     ensures { result ≡ wrap_sum 32 a b }
 {
@@ -62,10 +64,7 @@ fn left_by(sets: Sets, width: Width, was: Word, first: Word, second: Word) -> Wo
 fn is_latest(reads: bool, first: Word, was: Word) -> bool
     ensures { result ≡ (if reads then (first == was) else true) }
 {
-    if reads {
-        return first == was;
-    }
-    true
+    !reads || first == was
 }
 
 impl Memory {
@@ -75,6 +74,7 @@ impl Memory {
         Memory { cells: [0; PLACES] }
     }
 
+    #[tactic(auto, using(kinds::proofs::Lawful::place_below), unfolding(crate::specs::Memory::stepped, crate::specs::Memory::latest, crate::specs::Memory::after))]
     pub fn step(mut self, e: Event) -> Stepped
         ensures { result ≡ stepped self e }
     {
@@ -88,9 +88,7 @@ impl Memory {
         let was = self.cells[at];
         let row = row_of(e.kind);
         let right = is_latest(row.reads, e.first, was);
-        let sets = row.sets;
-        let width = row.width;
-        let left = left_by(sets, width, was, e.first, e.second);
+        let left = left_by(row.sets, row.width, was, e.first, e.second);
         if left == was {
             return Stepped {
                 memory: self,

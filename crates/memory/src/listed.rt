@@ -12,18 +12,12 @@ pub type Listed = [bool; PLACES];
 pub fn is_listed(listed: &Listed, place: Word) -> bool
     ensures { result ≡ is_in_list listed.now place }
 {
-    if LAST_PLACE < place {
-        return false;
-    }
-    listed[index_of(place)]
+    place <= LAST_PLACE && listed[index_of(place)]
 }
 
 // Whether an event is a plain access to a listed location. A fence has no location and a lock's mutex is none, whatever number stands there.
 pub fn is_register(listed: &Listed, e: Event) -> bool
     ensures { result ≡ is_register listed.now e }
 {
-    if is_plain(e) {
-        return is_listed(listed, e.place);
-    }
-    false
+    is_plain(e) && is_listed(listed, e.place)
 }

@@ -1,7 +1,7 @@
 // What the rules see of an event, and whether its entry says that it is gone.
 #![tactic(auto)]
 
-ghost use Rattle.std.specs.Prelude.{◌≡◌, ◌&&◌, ◌||◌};
+ghost use Rattle.std.specs.Prelude.{◌≡◌, ◌&&◌};
 ghost use Rattle.rules.specs.Fault.{is_gone};
 ghost use Rattle.rules.specs.View.{view, view_in, same, is_wall, is_load};
 
@@ -16,17 +16,11 @@ pub fn is_gone(entry: Entry) -> bool
     entry == 0
 }
 
-// Both of two tests.
+// Both of two tests. docs/CONTRACTS.md names it, so it stands; `&&` says the same.
 pub fn both(a: bool, b: bool) -> bool
     ensures { result ≡ (a && b) }
 {
     a && b
-}
-
-fn either(a: bool, b: bool) -> bool
-    ensures { result ≡ (a || b) }
-{
-    a || b
 }
 
 pub fn is_wall(e: Event) -> bool
@@ -38,46 +32,29 @@ pub fn is_wall(e: Event) -> bool
 pub fn is_load(e: Event) -> bool
     ensures { result ≡ is_load (view e) }
 {
-    if is_plain(e) {
-        return row_of(e.kind).reads;
-    }
-    false
+    is_plain(e) && row_of(e.kind).reads
 }
 
 // The same under a list: a plain access to a listed location is a wall, and no load.
 pub fn is_wall_in(listed: &Listed, e: Event) -> bool
     ensures { result ≡ is_wall (view_in listed.now e) }
 {
-    if is_register(listed, e) {
-        return true;
-    }
-    is_wall(e)
+    is_register(listed, e) || is_wall(e)
 }
 
 pub fn is_load_in(listed: &Listed, e: Event) -> bool
     ensures { result ≡ is_load (view_in listed.now e) }
 {
-    if is_register(listed, e) {
-        return false;
-    }
-    is_load(e)
+    !is_register(listed, e) && is_load(e)
 }
 
 // Whether two events are the same, the marks of loads and the code lines apart.
 pub fn is_same(e: Event, f: Event) -> bool
     ensures { result ≡ same e f }
 {
-    both(
-        e.kind == f.kind,
-        both(
-            e.place == f.place,
-            both(
-                e.first == f.first,
-                both(
-                    e.second == f.second,
-                    either(is_load_kind(e.kind), e.order == f.order),
-                ),
-            ),
-        ),
-    )
+    e.kind == f.kind
+        && e.place == f.place
+        && e.first == f.first
+        && e.second == f.second
+        && (is_load_kind(e.kind) || e.order == f.order)
 }
