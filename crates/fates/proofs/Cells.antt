@@ -1,15 +1,15 @@
 -- The fault of an event from what the arrays hold at its location: each test of a fault, with its fold in place. A gone event crosses nothing, and a
 -- kept one is not removed. Assumes nothing.
-use mathlib.Core.Path.{◌≡◌, refl, sym}
-use mathlib.Core.Bool.{Bool, true, false, not, cond, ◌&&◌, false≢true}
+use mathlib.Core.Path.{◌≡◌, refl}
+use mathlib.Core.Bool.{Bool, false}
 use mathlib.Core.Option.{Option}
 use mathlib.Core.List.{List}
 use Prim.Native.Nat.{ℕ, zero, suc}
 use Rattle.event.specs.declared.Event.{Event}
-use Rattle.rules.specs.Fault.{Item, closing, fate, group, is, is_none, item, near, witness}
-use Rattle.rules.specs.View.{View, load, store, is_load, is_wall}
+use Rattle.rules.specs.Fault.{Item, closing, fate, group, is_none, item, near, witness}
+use Rattle.rules.specs.View.{View, load, store, is_wall}
 use Rattle.rules.specs.Verdict.{keep_fault, removal_fault, source_fault}
-use Rattle.fates.specs.Pass.{source_fault_by, gone_fault, keep_fault_by, removal_fault_by}
+use Rattle.fates.specs.Pass.{source_fault_by, keep_fault_by, removal_fault_by}
 use Rattle.fates.specs.declared.source.Cell.{Cell}
 use Rattle.fates.specs.declared.source.Tops.{Tops}
 use Rattle.fates.proofs.Passes.{any, crossed_gone, crossed_plain, crossed_wall, is_at, plain_load, plain_store, top_by}
@@ -46,21 +46,3 @@ module _ (t : List Event) (e : Event) (b a : List Item) (c : Cell) (o : Option �
   pub fault_at_lem : {v : View} {p x : ℕ} {u : Bool} (n : ℕ) → Sees v p x u → Right b a p c o s
       → source_fault t b e (item v (fate n)) a ≡ source_fault_by t e v n c o s
   fault_at_lem n s r = rw (keep_at n s r, removal_at n s r)
-
--- what a gone event shows, by what is seen of it
-module _ (c : Cell) (o : Option ℕ) where
-  pub gone_wall : {v : View} {p x : ℕ} {u : Bool} → Sees v p x u → is_wall v ≡ true → gone_fault v c o ≡ 0
-  gone_wall a_wall_lem h = refl
-  gone_wall a_load_lem h = absurd (false≢true h)
-  gone_wall a_store h = absurd (false≢true h)
-
-  pub gone_load_lem : {v : View} {p x : ℕ} {u : Bool} → Sees v p x u → is_load v ≡ true → gone_fault v c o ≡ cond (u && c.fresh) 13 0
-  gone_load_lem a_wall_lem h = absurd (false≢true h)
-  gone_load_lem a_load_lem h = refl
-  gone_load_lem a_store h = absurd (false≢true h)
-
-  pub gone_store_lem : {v : View} {p x : ℕ} {u : Bool} → Sees v p x u → is_wall v ≡ false → is_load v ≡ false
-      → gone_fault v c o ≡ cond (c.closing && not (is x o)) 14 0
-  gone_store_lem a_wall_lem w l = absurd (false≢true (sym w))
-  gone_store_lem a_load_lem w l = absurd (false≢true (sym l))
-  gone_store_lem a_store w l = refl

@@ -6,18 +6,18 @@ use mathlib.Core.List.{List, [], ◌∷◌}
 use Prim.Native.Nat.{ℕ, ◌+◌, ◌-◌, ◌≤◌, ◌<◌}
 use native.Mathlib.Omega.{arith}
 use lib.Dec.{eqb}
-use lib.ListN.{length, get_or, set, replicate, get_or-replicate}
+use lib.ListN.{length, get_or, set, replicate, get_or-replicate, length-set}
 use lib.Seq.{get_or-set_same, get_or-set_other}
 use borrow.Author.Tests.{eqb-false, eqb-true}
 use Rattle.laws.proofs.Cases.{cases, either}
-use Rattle.event.specs.Room.{event_at, onward, capacity}
+use Rattle.event.specs.Room.{Placed, event_at, onward, capacity}
 use Rattle.event.specs.declared.Event.{Event}
-use Rattle.event.specs.Limit.{places}
+use Rattle.event.specs.Limit.{places, event_limit}
 use Rattle.rules.specs.View.{View, view_in, is_load, is_wall}
 use Rattle.rules.specs.Fault.{Fate, Item, closing, fate, group, item}
 use Rattle.fates.specs.Pass.{closing_after, closing_at, items_from}
 use Rattle.fates.proofs.Arrays.{ArrayOf, array_all, array_at}
-use Rattle.sight.proofs.Events.{drop_next, onward_next}
+use Rattle.sight.proofs.Events.{drop_next, onward_next, place_in}
 use Rattle.fates.proofs.Passes.{PlainAt, closing_at_lem, walled}
 
 -- the items of a room
@@ -70,3 +70,43 @@ flags_next flags f j n {i} {w} z h g m k a b =
   where
     above : (k ≡ j → ⊥) → i ≤ k
     above d = omega arith
+
+-- ---- the events from an index on are passed: the array and the flags are right of them
+pub record Passed (regs : List Bool) (l ns : List ℕ) (cells flags : List Bool) (i : ℕ) : Type 0 where
+  pub cells_size : length cells ≡ places
+  pub flags_size : length flags ≡ event_limit
+  pub closed : Closed cells (items_from regs l ns i)
+  pub flagged : (k : ℕ) → i ≤ k → k < capacity l → get_or flags k false ≡ closing_at regs l ns k
+
+module _ (regs : List Bool) (l ns : List ℕ) (size : length ns ≡ capacity l) where
+  pub passed_start : Passed regs l ns (replicate places true) (replicate event_limit false) (length ns)
+  passed_start = record {
+    cells_size = refl;
+    flags_size = refl;
+    closed = closed_is (replicate places true) (items_end regs l ns size (length ns) size) closed_start;
+    flagged = λ k h i. absurd (omega arith);
+  }
+
+-- one event before, at the location p
+module _ {regs : List Bool} {l ns : List ℕ} (size : length ns ≡ capacity l) where
+  module _ (low : Placed l) (room : capacity l ≤ event_limit) {cells flags : List Bool} {i : ℕ} (t : Passed regs l ns cells flags i) (some_left : 0 < i)
+      (in_room : i ≤ length ns) (e : Event) (h : e ≡ event_at l (i - 1)) {p : ℕ} (q : p ≡ e.place) where
+    here : i - 1 < capacity l
+    here = omega arith
+
+    pub place_below : p < places
+    place_below = place_in l low (i - 1) here e h q
+
+    pub passed_next : (next : List Bool) → length next ≡ places → Closed next (item (view_in regs e) (fate (get_or ns (i - 1) 0)) ∷ items_from regs l ns i)
+        → Passed regs l ns next (set flags (i - 1) (get_or cells p false)) (i - 1)
+    passed_next next s m =
+        let z : i ≡ i - 1 + 1 = omega arith in
+        let f : i - 1 < length flags = omega (arith, t.flags_size, here) in
+        record {
+          cells_size = s;
+          flags_size = simp length-set t.flags_size;
+          closed = closed_is next (items_before regs l ns size (i - 1) i e (get_or ns (i - 1) 0) z here h refl) m;
+          flagged =
+              flags_next flags (closing_at regs l ns) (i - 1) (capacity l) z f
+              (flag_is regs l ns (i - 1) e z h q (t.closed p place_below)) t.flagged;
+        }

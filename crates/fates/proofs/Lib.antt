@@ -8,4 +8,5 @@ pub mod Onward
 pub mod Arrays
 pub mod Closed
 pub mod Tallied
+pub mod Pass
 pub mod Unique

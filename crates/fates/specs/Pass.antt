@@ -1,13 +1,12 @@
 -- The judge's small decisions: what it asks of an event, of the cells at its location and of its entry; and what its flags say.
 -- Assumes nothing.
-use Rattle.std.specs.Prelude.{◌≡◌, Bool, false, not, cond, ◌&&◌, ◌||◌, List, ℕ, ◌+◌, ◌-◌, ◌<◌, ltb, get_or, drop}
-use Rattle.std.proofs.Math.Option.{Option, none, some}
+use Rattle.std.specs.Prelude.{◌≡◌, Bool, false, not, cond, ◌&&◌, ◌||◌, List, ℕ, ◌+◌, ◌-◌, ◌<◌, eqb, ltb, get_or, drop, Option, None, Some}
+use Rattle.std.proofs.Math.Option.{Option as Maybe, none, some}
 use Rattle.event.specs.Room.{event_at, onward, capacity}
 use Rattle.rules.specs.View.{View, wall, load, store, view_in, is_wall}
 use Rattle.rules.specs.Fault.{Item, closing, fate, group, is, is_gone, unlike}
 use Rattle.fates.specs.declared.source.Cell.{Cell}
 use Rattle.fates.specs.declared.source.Tops.{Tops}
-use Rattle.fates.specs.declared.source.Witness.{Witness}
 use Rattle.event.specs.declared.Event.{Event}
 use Rattle.rules.specs.Verdict.{first_fault, items}
 
@@ -43,18 +42,20 @@ Flagged regs flags l ns = (i : ℕ) → i < capacity l → get_or flags i false 
 abbrev pub cell_of : Bool → Bool → Cell
 cell_of fresh closing = record { fresh = fresh; closing = closing }
 
-abbrev pub witness_of : Bool → ℕ → Witness
-witness_of present value = record { present = present; value = value }
-
 abbrev pub tops_of : ℕ → ℕ → ℕ → Tops
 tops_of all walls here = record { all = all; walls = walls; here = here }
 
--- a location's witness
-abbrev pub witnessed : Witness → Option ℕ
-witnessed w = cond w.present (some w.value) none
+-- a location's witness, as the rules have it
+abbrev pub witnessed : Option ℕ → Maybe ℕ
+witnessed None = none
+witnessed (Some value) = some value
+
+-- the fault of a number, which 0 is not
+abbrev pub fault_of : ℕ → Option ℕ
+fault_of k = cond (eqb k 0) None (Some k)
 
 -- 13 or 14 of a gone event, or 0
-abbrev pub gone_fault : View → Cell → Option ℕ → ℕ
+abbrev pub gone_fault : View → Cell → Maybe ℕ → ℕ
 gone_fault wall c o = 0
 gone_fault (load p v u) c o = cond (u && c.fresh) 13 0
 gone_fault (store p v) c o = cond (c.closing && not (is v o)) 14 0
@@ -68,9 +69,9 @@ abbrev pub keep_fault_by : List Event → Event → View → ℕ → Tops → �
 keep_fault_by t e v n s = cond (is_gone n) (cond (is_wall v) 11 0) (cond (unlike t e (fate n)) 10 (cond (crossed_by v n s) 12 0))
 
 -- 13 or 14 of a source event, or 0
-abbrev pub removal_fault_by : View → ℕ → Cell → Option ℕ → ℕ
+abbrev pub removal_fault_by : View → ℕ → Cell → Maybe ℕ → ℕ
 removal_fault_by v n c o = cond (is_gone n) (gone_fault v c o) 0
 
 -- 10 to 14 of a source event, or 0
-abbrev pub source_fault_by : List Event → Event → View → ℕ → Cell → Option ℕ → Tops → ℕ
+abbrev pub source_fault_by : List Event → Event → View → ℕ → Cell → Maybe ℕ → Tops → ℕ
 source_fault_by t e v n c o s = first_fault (keep_fault_by t e v n s) (removal_fault_by v n c o)

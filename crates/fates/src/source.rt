@@ -1,30 +1,23 @@
 // Answers 10 to 14: the source events with the fates that their entries name.
-ghost use Rattle.std.specs.Prelude.{◌≡◌, false, cond, [], ◌≤◌, ◌<◌, length};
-ghost use Rattle.std.proofs.Math.Option.{some};
+ghost use Rattle.std.specs.Prelude.{◌≡◌, false, cond, [], ◌≤◌, length, None, Some};
 ghost use Rattle.event.specs.Room.{Placed, whole_events, capacity};
 ghost use Rattle.rules.specs.View.{view_in};
 ghost use Rattle.rules.specs.Fault.{fate, is, is_gone, unlike};
 ghost use Rattle.rules.specs.Verdict.{source_answer};
-ghost use Rattle.fates.specs.Pass.{Flagged, cell_of, closing_after, crossed_by, source_fault_by, gone_fault, keep_fault_by, removal_fault_by, takes_over, top_after, tops_of, witness_of, witnessed};
+ghost use Rattle.fates.specs.Pass.{Flagged, closing_after, crossed_by, fault_of, source_fault_by, gone_fault, keep_fault_by, removal_fault_by, takes_over, top_after, witnessed};
 ghost use Rattle.event.specs.Limit.{event_limit};
 
 use event::room::get;
 use event::{Answer, EVENT_LIMIT, Entry, Event, Number, PLACES, Word, index_of, number_index};
 use kinds::USED;
 use memory::listed::Listed;
-use sight::{both, is_gone, is_load_in, is_same, is_wall_in};
+use sight::{is_gone, is_load_in, is_same, is_wall_in};
 
 // Whether a store before a plain event is closing, by whether one after the event is.
 fn closing_after(load: bool, entry: Entry, closing: bool) -> bool
     ensures { result ≡ closing_after load entry closing }
 {
-    if load {
-        if is_gone(entry) {
-            return closing;
-        }
-        return true;
-    }
-    false
+    load && (!is_gone(entry) || closing)
 }
 
 // For each source event, whether a store to its location there is closing.
@@ -36,9 +29,7 @@ fn closing_flags(listed: &Listed, source: &[Word], entries: &[Entry]) -> [bool; 
 {
     let mut closing: [bool; PLACES] = [true; PLACES];
     let mut flags: [bool; EVENT_LIMIT] = [false; EVENT_LIMIT];
-    let mut i = entries.len();
-    while 0 < i {
-        i -= 1;
+    for i in (0..entries.len()).rev() {
         let e = get(source, i);
         let place = index_of(e.place);
         let was = closing[place];
@@ -56,23 +47,14 @@ fn closing_flags(listed: &Listed, source: &[Word], entries: &[Entry]) -> [bool; 
 fn takes_over(load: bool, entry: Entry, fresh: bool) -> bool
     ensures { result ≡ takes_over load entry fresh }
 {
-    if is_gone(entry) {
-        return load && fresh;
-    }
-    true
+    !is_gone(entry) || (load && fresh)
 }
 
 // The greatest target number so far after an entry.
 fn top_after(n: Entry, top: Entry) -> Entry
     ensures { result ≡ top_after n top }
 {
-    if is_gone(n) {
-        return top;
-    }
-    if top < n {
-        return n;
-    }
-    top
+    top.max(n)
 }
 
 // What the arrays hold of an event's location: no access since the last synchronising event; a store there is closing.
@@ -82,28 +64,8 @@ pub struct Cell {
     pub closing: bool,
 }
 
-impl Cell {
-    fn new(fresh: bool, closing: bool) -> Self
-        ensures { result ≡ cell_of fresh closing }
-    {
-        Cell { fresh, closing }
-    }
-}
-
-// A location's witness: whether there is one, and its value.
-#[derive(Clone, Copy)]
-pub struct Witness {
-    pub present: bool,
-    pub value: Word,
-}
-
-impl Witness {
-    fn new(present: bool, value: Word) -> Self
-        ensures { result ≡ witness_of present value }
-    {
-        Witness { present, value }
-    }
-}
+// A location's witness: its value, if there is one.
+pub type Witness = Option<Word>;
 
 // The greatest target numbers so far: of all kept events, of the synchronising ones, and of those at the event's location.
 #[derive(Clone, Copy)]
@@ -113,54 +75,33 @@ pub struct Tops {
     pub here: Entry,
 }
 
-impl Tops {
-    fn new(all: Entry, walls: Entry, here: Entry) -> Self
-        ensures { result ≡ tops_of all walls here }
-    {
-        Tops { all, walls, here }
-    }
-}
-
-// Whether there is a witness of a value.
-fn is_witness(value: Word, witness: Witness) -> bool
-    ensures { result ≡ is value (witnessed witness) }
-{
-    if witness.present {
-        return witness.value == value;
-    }
-    false
-}
-
-// 13 or 14 of a gone event, or 0.
-fn gone_fault(listed: &Listed, e: Event, cell: Cell, witness: Witness) -> Number
-    ensures { result ≡ gone_fault (view_in listed.now e) cell (witnessed witness) }
+// 13 or 14 of a gone event, if it shows one.
+fn gone_fault(listed: &Listed, e: Event, cell: Cell, witness: Witness) -> Option<Number>
+    ensures { result ≡ fault_of (gone_fault (view_in listed.now e) cell (witnessed witness)) }
 {
     if is_wall_in(listed, e) {
-        return 0;
+        return None;
     }
     if is_load_in(listed, e) {
-        if both(e.order == USED, cell.fresh) {
-            return 13;
-        }
-        return 0;
+        return (e.order == USED && cell.fresh).then_some(13);
     }
-    if cell.closing {
-        if is_witness(e.first, witness) {
-            return 0;
-        }
-        return 14;
-    }
-    0
+    (cell.closing && witness != Some(e.first)).then_some(14)
 }
 
-// 13 or 14 of a source event, or 0.
-fn removal_fault(listed: &Listed, e: Event, n: Entry, cell: Cell, witness: Witness) -> Number
-    ensures { result ≡ removal_fault_by (view_in listed.now e) n cell (witnessed witness) }
+// 13 or 14 of a source event, if it shows one.
+fn removal_fault(
+    listed: &Listed,
+    e: Event,
+    n: Entry,
+    cell: Cell,
+    witness: Witness,
+) -> Option<Number>
+    ensures { result ≡ fault_of (removal_fault_by (view_in listed.now e) n cell (witnessed witness)) }
 {
-    if is_gone(n) {
-        return gone_fault(listed, e, cell, witness);
+    if !is_gone(n) {
+        return None;
     }
-    0
+    gone_fault(listed, e, cell, witness)
 }
 
 // 10: whether a kept event differs from its target event.
@@ -181,26 +122,20 @@ fn is_crossed(listed: &Listed, e: Event, n: Entry, tops: Tops) -> bool
     n < tops.walls || n < tops.here
 }
 
-// 10 to 12 of a source event, or 0.
-fn keep_fault(listed: &Listed, target: &[Word], e: Event, n: Entry, tops: Tops) -> Number
-    ensures { result ≡ keep_fault_by (whole_events target.now) e (view_in listed.now e) n tops }
+// 10 to 12 of a source event, if it shows one.
+fn keep_fault(listed: &Listed, target: &[Word], e: Event, n: Entry, tops: Tops) -> Option<Number>
+    ensures { result ≡ fault_of (keep_fault_by (whole_events target.now) e (view_in listed.now e) n tops) }
 {
     if is_gone(n) {
-        if is_wall_in(listed, e) {
-            return 11;
-        }
-        return 0;
+        return is_wall_in(listed, e).then_some(11);
     }
     if differs(target, e, n) {
-        return 10;
+        return Some(10);
     }
-    if is_crossed(listed, e, n, tops) {
-        return 12;
-    }
-    0
+    is_crossed(listed, e, n, tops).then_some(12)
 }
 
-// 10 to 14 of a source event, or 0.
+// 10 to 14 of a source event, if it shows one.
 fn event_fault(
     listed: &Listed,
     target: &[Word],
@@ -209,25 +144,28 @@ fn event_fault(
     cell: Cell,
     witness: Witness,
     tops: Tops,
-) -> Number
-    ensures { result ≡ source_fault_by (whole_events target.now) e (view_in listed.now e) n cell (witnessed witness) tops }
+) -> Option<Number>
+    ensures { result ≡ fault_of (source_fault_by (whole_events target.now) e (view_in listed.now e) n cell (witnessed witness) tops) }
 {
-    let fault = keep_fault(listed, target, e, n, tops);
-    if fault != 0 {
-        return fault;
+    keep_fault(listed, target, e, n, tops).or(removal_fault(listed, e, n, cell, witness))
+}
+
+// The witness of a location, of which the array says what it was at the last access: none where no access came since a synchronising event.
+fn witness_here(fresh: bool, last: Witness) -> Witness
+    ensures { result ≡ cond fresh None last }
+{
+    if fresh {
+        return None;
     }
-    removal_fault(listed, e, n, cell, witness)
+    last
 }
 
 // The witness of a location after a plain event there, which takes over or does not.
 fn witness_after(over: bool, value: Word, witness: Witness) -> Witness
-    ensures { witnessed result ≡ cond over (some value) (witnessed witness) }
+    ensures { result ≡ cond over (Some value) witness }
 {
     if over {
-        return Witness {
-            present: true,
-            value,
-        };
+        return Some(value);
     }
     witness
 }
@@ -248,45 +186,42 @@ fn source_pass(
         (whole_events target.now) 1 [] (whole_events source.now) entries.now }
 {
     let mut fresh: [bool; PLACES] = [true; PLACES];
-    let mut present: [bool; PLACES] = [false; PLACES];
-    let mut value: [Word; PLACES] = [0; PLACES];
+    let mut witnesses: [Witness; PLACES] = [None; PLACES];
     let mut here: [Entry; PLACES] = [0; PLACES];
     let mut all: Entry = 0;
     let mut walls: Entry = 0;
-    let mut i: usize = 0;
-    while i < entries.len() {
+    for (i, &n) in entries.iter().enumerate() {
         let e = get(source, i);
-        let n = entries[i];
         let at = index_of(e.place);
         let first = fresh[at];
-        let witness = Witness::new(present[at], value[at]);
-        let cell = Cell::new(first, flags[i]);
-        let tops = Tops::new(all, walls, here[at]);
-        let fault = event_fault(listed, target, e, n, cell, witness, tops);
-        i += 1;
-        if fault != 0 {
-            return Answer::new(fault, 1, i);
+        let witness = witness_here(first, witnesses[at]);
+        let cell = Cell {
+            fresh: first,
+            closing: flags[i],
+        };
+        let tops = Tops {
+            all,
+            walls,
+            here: here[at],
+        };
+        if let Some(fault) = event_fault(listed, target, e, n, cell, witness, tops) {
+            return Answer::new(fault, 1, i + 1);
         }
         all = top_after(n, all);
         if is_wall_in(listed, e) {
             walls = top_after(n, walls);
             fresh = [true; PLACES];
-            present = [false; PLACES];
             continue;
         }
-        let after = witness_after(
-            takes_over(is_load_in(listed, e), n, first),
-            e.first,
-            witness,
-        );
+        let over = takes_over(is_load_in(listed, e), n, first);
         fresh[at] = false;
-        present[at] = after.present;
-        value[at] = after.value;
+        witnesses[at] = witness_after(over, e.first, witness);
         here[at] = top_after(n, here[at]);
     }
     Answer::new(0, 0, 0)
 }
 
+// The four parts travel together through these three functions alone, and the contract that docs/CONTRACTS.md names holds them apart: no struct is plainer.
 pub fn source_answer(listed: &Listed, source: &[Word], target: &[Word], entries: &[Entry]) -> Answer
     requires source_bound { capacity source.now ≤ event_limit }
     requires placed { Placed source.now }

@@ -1,6 +1,6 @@
 -- What the rules see of an event, with its location, its value and whether it is used. Assumes nothing.
-use mathlib.Core.Path.{◌≡◌, refl}
-use mathlib.Core.Bool.{Bool, true, false, not, cond}
+use mathlib.Core.Path.{◌≡◌}
+use mathlib.Core.Bool.{Bool, true, false, cond}
 use mathlib.Core.List.{List}
 use Prim.Native.Nat.{ℕ}
 use lib.Dec.{eqb}
@@ -8,7 +8,7 @@ use Rattle.kinds.specs.Kind.{used, row, plain}
 use Rattle.memory.specs.Listed.{is_register}
 use Rattle.event.specs.declared.Event.{Event}
 use Rattle.laws.proofs.Cases.{by_cond}
-use Rattle.rules.specs.View.{View, wall, load, store, view, view_in, is_load, is_wall}
+use Rattle.rules.specs.View.{View, wall, load, store, view, view_in}
 
 pub data Sees : View → ℕ → ℕ → Bool → Type 0 where
   a_wall_lem : {p v : ℕ} {u : Bool} → Sees wall p v u
@@ -31,17 +31,3 @@ sees_in regs e = by_cond (λ v. Sees v e.place e.first (eqb e.order used)) (is_r
 
 pub sees_at : (regs : List Bool) (e : Event) {i : ℕ} → i ≡ e.place → Sees (view_in regs e) i e.first (eqb e.order used)
 sees_at regs e h = rw h (sees_in regs e)
-
--- what is not plain is a wall; what is plain and reads is a load
-module _ (p v : ℕ) (u : Bool) where
-  not_plain : (c d : Bool) → is_wall (cond c (cond d (load p v u) (store p v)) wall) ≡ not c
-  not_plain true true = refl
-  not_plain true false = refl
-  not_plain false d = refl
-
-  pub load_reads : (d : Bool) → is_load (cond d (load p v u) (store p v)) ≡ d
-  load_reads true = refl
-  load_reads false = refl
-
-pub wall_not_plain : (e : Event) → is_wall (view e) ≡ not (plain e)
-wall_not_plain e = not_plain e.place e.first (eqb e.order used) (plain e) (row e.kind).reads
