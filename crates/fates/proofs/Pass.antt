@@ -26,14 +26,14 @@ use Rattle.fates.proofs.Onward.{source_goes, source_stops}
 use Rattle.fates.proofs.Tallied.{Tallied, right, tallied_start, witness_in}
 
 -- a fault that there is, and none
-some_fault : (k : ℕ) {f : ℕ} → Some f ≡ fault_of k → (k ≡ f) × (f ≡ 0 → ⊥)
+pub some_fault : (k : ℕ) {f : ℕ} → Some f ≡ fault_of k → (k ≡ f) × (f ≡ 0 → ⊥)
 some_fault k {f} h = go (eqb k 0) refl h
   where
     go : (c : Bool) → eqb k 0 ≡ c → Some f ≡ cond c None (Some k) → (k ≡ f) × (f ≡ 0 → ⊥)
     go true e g = let z : Some f ≡ None = g in absurd cc
     go false e g = let z : Some f ≡ Some k = g in let y : k ≡ f = cc in (y, λ x. eqb-false k 0 e (y ∙ x))
 
-no_fault : (k : ℕ) → None ≡ fault_of k → k ≡ 0
+pub no_fault : (k : ℕ) → None ≡ fault_of k → k ≡ 0
 no_fault k h = go (eqb k 0) refl h
   where
     go : (c : Bool) → eqb k 0 ≡ c → None ≡ cond c None (Some k) → k ≡ 0

@@ -6,4 +6,10 @@ pub mod Onward
 pub mod Bit
 pub mod Marking
 pub mod Marked
+-- one more entry, target event or cell
+pub mod Named
+pub mod Sourced
+pub mod Cells
+-- the answers in their order
+pub mod Order
 pub mod Unique

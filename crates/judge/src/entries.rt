@@ -1,34 +1,28 @@
 // Answer 9: the target numbers that the entries name.
-ghost use Rattle.std.specs.Prelude.{◌≡◌, [], ◌≤◌, replicate};
+ghost use Rattle.std.specs.Prelude.{◌≡◌, [], ◌≤◌};
 ghost use Rattle.rules.specs.Verdict.{entry_answer};
-ghost use Rattle.judge.specs.Pass.{Marked};
+ghost use Rattle.judge.specs.Pass.{Names};
 ghost use Rattle.event.specs.Limit.{event_limit};
 
-use crate::marks::{is_marked, mark};
+use crate::marks::Marks;
 use event::{Answer, Entry, number_index};
 use sight::is_gone;
 
-// The answer; where it is no refusal, the numbers that the entries name are marked.
-pub(crate) fn entry_answer(entries: &[Entry], targets: usize, marks: &mut [u64; 13]) -> Answer
+// The marks of the numbers that the entries name, or the answer that refuses one of them.
+pub(crate) fn entry_answer(entries: &[Entry], targets: usize) -> Result<Marks, Answer>
     requires targets_le_event_limit { targets ≤ event_limit }
-    requires marks_value { marks.old ≡ replicate 13 0 }
-    ensures { (result ≡ entry_answer targets 1 [] entries.now) × (result.number ≡ 0 → Marked marks.new entries.now) }
+    ensures { Names (entry_answer targets 1 [] entries.now) entries.now result }
 {
-    let mut i: usize = 0;
-    while i < entries.len() {
-        let entry = entries[i];
-        i += 1;
+    let mut marks = Marks::none();
+    for (i, &entry) in entries.iter().enumerate() {
         if is_gone(entry) {
             continue;
         }
         let at = number_index(entry);
-        if targets < at {
-            return Answer::new(9, 3, i);
+        if targets < at || marks.has(at) {
+            return Err(Answer::new(9, 3, i + 1));
         }
-        if is_marked(marks, at) {
-            return Answer::new(9, 3, i);
-        }
-        mark(marks, at);
+        marks.add(at);
     }
-    Answer::new(0, 0, 0)
+    Ok(marks)
 }

@@ -9,6 +9,7 @@ pub mod target;
 ghost use Rattle.std.specs.Prelude.{◌≡◌, ◌≤◌};
 ghost use Rattle.event.specs.Room.{Placed, whole_events, capacity};
 ghost use Rattle.rules.specs.Verdict.{verdict_in};
+ghost use Rattle.judge.specs.Pass.{Told};
 ghost use Rattle.event.specs.Limit.{event_limit};
 
 use entries::entry_answer;
@@ -18,6 +19,35 @@ use memory::Memory;
 use memory::listed::Listed;
 use start::start_answer;
 use target::target_answer;
+
+// The first answer that refuses, in the order of their numbers. Each is asked only where none before it refuses.
+fn refusal(
+    listed: &Listed,
+    start: Memory,
+    target_start: Memory,
+    source: &[Word],
+    target: &[Word],
+    entries: &[Entry],
+) -> Result<(), Answer>
+    requires source_bound { capacity source.now ≤ event_limit }
+    requires placed { Placed source.now }
+    requires target_bound { capacity target.now ≤ event_limit }
+    requires placed_2 { Placed target.now }
+    ensures { Told (verdict_in listed.now start.cells target_start.cells
+        (whole_events source.now) (whole_events target.now) entries.now) result }
+{
+    start_answer(listed, start, target_start)?;
+    let count = entries.len();
+    if count != source.len() / WORDS {
+        return Err(Answer::new(8, 3, count));
+    }
+    let marks = entry_answer(entries, target.len() / WORDS)?;
+    let found = source_answer(listed, source, target, entries);
+    if found.number != 0 {
+        return Err(found);
+    }
+    target_answer(listed, target, &marks)
+}
 
 // The rooms are the parts that hold the events and the entries.
 pub fn judge(
@@ -35,22 +65,8 @@ pub fn judge(
     ensures { result ≡ verdict_in listed.now start.cells target_start.cells
         (whole_events source.now) (whole_events target.now) entries.now }
 {
-    let begun = start_answer(listed, start, target_start);
-    if begun.number != 0 {
-        return begun;
+    match refusal(listed, start, target_start, source, target, entries) {
+        Ok(()) => Answer::new(0, 0, 0),
+        Err(refused) => refused,
     }
-    let count = entries.len();
-    if count != source.len() / WORDS {
-        return Answer::new(8, 3, count);
-    }
-    let mut marks: [u64; 13] = [0; 13];
-    let named = entry_answer(entries, target.len() / WORDS, &mut marks);
-    if named.number != 0 {
-        return named;
-    }
-    let found = source_answer(listed, source, target, entries);
-    if found.number != 0 {
-        return found;
-    }
-    target_answer(listed, target, &marks)
 }

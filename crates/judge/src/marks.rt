@@ -1,22 +1,36 @@
 // Marks of the numbers 0 to 831, packed 64 to a word.
-ghost use Rattle.std.specs.Prelude.{◌≡◌, ◌<◌};
+ghost use Rattle.std.specs.Prelude.{◌≡◌, ◌<◌, replicate};
 ghost use Rattle.judge.specs.Marks.{in_words, marking};
 
 // So many marks to a word.
 const BITS: usize = 64;
 
-// Whether a number is marked.
-pub(crate) fn is_marked(words: &[u64; 13], k: usize) -> bool
-    requires { k < 832 }
-    ensures { result ≡ in_words words.now k }
-{
-    (words[k / BITS] >> (k % BITS)) % 2 == 1
+#[derive(Clone, Copy)]
+pub(crate) struct Marks {
+    pub(crate) words: [u64; 13],
 }
 
-// Marks a number, which may be marked before.
-pub(crate) fn mark(words: &mut [u64; 13], k: usize)
-    requires { k < 832 }
-    ensures { words.new ≡ marking words.old k }
-{
-    words[k / BITS] = words[k / BITS] | (1 << (k % BITS));
+impl Marks {
+    // No number is marked.
+    pub(crate) fn none() -> Self
+        ensures { result.words ≡ replicate 13 0 }
+    {
+        Marks { words: [0; 13] }
+    }
+
+    // Whether a number is marked.
+    pub(crate) fn has(&self, k: usize) -> bool
+        requires { k < 832 }
+        ensures { result ≡ in_words self.now.words k }
+    {
+        (self.words[k / BITS] >> (k % BITS)) % 2 == 1
+    }
+
+    // Marks a number, which may be marked before.
+    pub(crate) fn add(&mut self, k: usize)
+        requires { k < 832 }
+        ensures { self.new.words ≡ marking self.old.words k }
+    {
+        self.words[k / BITS] |= 1 << (k % BITS);
+    }
 }

@@ -1,27 +1,23 @@
 // Answer 7: the starting values of the two traces, but for listed locations.
-ghost use Rattle.std.specs.Prelude.{◌≡◌};
 ghost use Rattle.rules.specs.Verdict.{start_answer_in};
+ghost use Rattle.judge.specs.Pass.{Told};
 
 use event::{Answer, PLACES};
 use memory::Memory;
 use memory::listed::Listed;
 
-pub(crate) fn start_answer(listed: &Listed, start: Memory, target_start: Memory) -> Answer
-    ensures { result ≡ start_answer_in listed.now 0 start.cells target_start.cells }
+// The first location that is not listed and at which they differ, as an answer that refuses.
+pub(crate) fn start_answer(
+    listed: &Listed,
+    start: Memory,
+    target_start: Memory,
+) -> Result<(), Answer>
+    ensures { Told (start_answer_in listed.now 0 start.cells target_start.cells) result }
 {
-    let cells = start.cells;
-    let target_cells = target_start.cells;
-    let mut i: usize = 0;
-    while i < PLACES {
-        let at = i;
-        i += 1;
-        if cells[at] == target_cells[at] {
-            continue;
+    for at in 0..PLACES {
+        if start.cells[at] != target_start.cells[at] && !listed[at] {
+            return Err(Answer::new(7, 2, at));
         }
-        if listed[at] {
-            continue;
-        }
-        return Answer::new(7, 2, at);
     }
-    Answer::new(0, 0, 0)
+    Ok(())
 }

@@ -1,12 +1,13 @@
 // Answers 15 and 16: the target events without a source.
-ghost use Rattle.std.specs.Prelude.{◌≡◌, List, [], ℕ, ◌≤◌, ◌<◌};
+ghost use Rattle.std.specs.Prelude.{◌≡◌, List, [], ℕ, ◌≤◌};
 ghost use Rattle.event.specs.Room.{Placed, whole_events, capacity};
 ghost use Rattle.rules.specs.View.{view_in};
 ghost use Rattle.rules.specs.Verdict.{target_answer};
-ghost use Rattle.judge.specs.Pass.{Marked, target_fault_by, unsupported_by};
+ghost use Rattle.fates.specs.Pass.{fault_of};
+ghost use Rattle.judge.specs.Pass.{Marked, Told, target_fault_by, unsupported_by};
 ghost use Rattle.event.specs.Limit.{event_limit};
 
-use crate::marks::is_marked;
+use crate::marks::Marks;
 use event::room::get;
 use event::{Answer, Number, PLACES, WORDS, Word, index_of};
 use kinds::is_load_kind;
@@ -18,50 +19,42 @@ use sight::{is_load_in, is_wall_in};
 fn is_unsupported(sourced: bool, load: bool, fresh: bool) -> bool
     ensures { result ≡ unsupported_by sourced load fresh }
 {
-    if sourced {
-        return false;
-    }
-    if load {
-        return fresh;
-    }
-    true
+    !sourced && (!load || fresh)
 }
 
-// 15 or 16 of a target event of a kind, or 0.
-fn target_fault(kind: Word, unsupported: bool) -> Number
-    ensures { result ≡ target_fault_by kind unsupported }
+// 15 or 16 of a target event of a kind, if it shows one.
+fn target_fault(kind: Word, unsupported: bool) -> Option<Number>
+    ensures { result ≡ fault_of (target_fault_by kind unsupported) }
 {
-    if unsupported {
-        if is_load_kind(kind) {
-            return 16;
-        }
-        return 15;
+    if !unsupported {
+        return None;
     }
-    0
+    if is_load_kind(kind) {
+        return Some(16);
+    }
+    Some(15)
 }
 
-pub(crate) fn target_answer(listed: &Listed, target: &[Word], marks: &[u64; 13]) -> Answer
+// The first target event that shows one, as an answer that refuses.
+pub(crate) fn target_answer(listed: &Listed, target: &[Word], marks: &Marks) -> Result<(), Answer>
     requires target_bound { capacity target.now ≤ event_limit }
     requires placed { Placed target.now }
-    ensures { (ns : List ℕ) → Marked marks.now ns
-        → result ≡ target_answer (view_in listed.now) ns 1 [] (whole_events target.now) }
+    ensures { (ns : List ℕ) → Marked marks.now.words ns
+        → Told (target_answer (view_in listed.now) ns 1 [] (whole_events target.now)) result }
 {
     let mut fresh: [bool; PLACES] = [true; PLACES];
-    let mut k: usize = 0;
-    while k < target.len() / WORDS {
+    for k in 0..target.len() / WORDS {
         let e = get(target, k);
         let at = index_of(e.place);
-        let unsupported = is_unsupported(is_marked(marks, k + 1), is_load_in(listed, e), fresh[at]);
-        let fault = target_fault(e.kind, unsupported);
-        if fault != 0 {
-            return Answer::new(fault, 2, k + 1);
+        let unsupported = is_unsupported(marks.has(k + 1), is_load_in(listed, e), fresh[at]);
+        if let Some(fault) = target_fault(e.kind, unsupported) {
+            return Err(Answer::new(fault, 2, k + 1));
         }
-        k += 1;
         if is_wall_in(listed, e) {
             fresh = [true; PLACES];
             continue;
         }
         fresh[at] = false;
     }
-    Answer::new(0, 0, 0)
+    Ok(())
 }
