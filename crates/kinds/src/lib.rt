@@ -36,14 +36,14 @@ pub enum Place {
 }
 
 // How wide a value is.
-#[derive(Clone, Copy, PartialEq, Eq)]
+#[derive(Clone, Copy)]
 pub enum Width {
     Bits32,
     Bits64,
 }
 
 // What an event sets its cell to.
-#[derive(Clone, Copy, PartialEq, Eq)]
+#[derive(Clone, Copy)]
 pub enum Sets {
     Nothing,
     First,
