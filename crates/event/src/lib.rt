@@ -25,7 +25,7 @@ pub const EVENT_LIMIT: usize = 800;
 pub const WORDS: usize = 6;
 
 // An event. `place` is a location or a mutex; `order` an order's number or a load's mark; a field that the kind lacks is 0.
-#[derive(Clone, Copy)]
+#[derive(Clone, Copy, Default)]
 pub struct Event {
     pub kind: Word,
     pub place: Word,
@@ -55,7 +55,7 @@ impl Answer {
     }
 }
 
-// A word as an index.
+// A word as an index: no From, which the library does not have between these types.
 pub fn index_of(w: Word) -> usize
     ensures { result ≡ w }
 {

@@ -1,22 +1,16 @@
-// Events in a room: six words each, in the order of the struct's fields.
+// Events in a room: six words each, in the order of the struct's fields. No slice of events: C lends rooms of words.
 ghost use Rattle.std.specs.Prelude.{◌≡◌};
 ghost use Rattle.event.specs.Room.{event_at, put_at};
 
 use crate::{Event, WORDS, Word};
 
 // The event at an index; no event, all 0, where the room does not hold it whole.
+#[tactic(auto, unfolding(crate::specs::Room::event_at))]
 pub fn get(room: &[Word], i: usize) -> Event
     ensures { result ≡ event_at room.now i }
 {
     if room.len() / WORDS <= i {
-        return Event {
-            kind: 0,
-            place: 0,
-            order: 0,
-            first: 0,
-            second: 0,
-            code: 0,
-        };
+        return Event::default();
     }
     let at = i * WORDS;
     Event {
