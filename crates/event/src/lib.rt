@@ -10,6 +10,7 @@ ghost use Rattle.event.specs.Answer.{answer};
 pub type Word = u64;
 
 // A number that is no value: an answer's, a side's, a target event's.
+// Kinds, orders, entries and answers are numbers and no enums: rooms and C's arrays hold them (the C interface), and the pages of `rules` say them.
 pub type Number = u32;
 
 // An entry of a matching: the target number that a source event is kept as, or 0 for gone.

@@ -185,6 +185,7 @@ fn source_pass(
     ensures { result ≡ source_answer (view_in listed.now)
         (whole_events target.now) 1 [] (whole_events source.now) entries.now }
 {
+    // Arrays apart: a synchronising event begins `fresh` anew in one store, where the cells of an array of structs would take a loop, which is no plainer.
     let mut fresh: [bool; PLACES] = [true; PLACES];
     let mut witnesses: [Witness; PLACES] = [None; PLACES];
     let mut here: [Entry; PLACES] = [0; PLACES];

@@ -21,6 +21,7 @@ use start::start_answer;
 use target::target_answer;
 
 // The first answer that refuses, in the order of their numbers. Each is asked only where none before it refuses.
+// It takes what `judge` takes, whose parameters and clauses docs/CONTRACTS.md names: a struct of them would be made for this call alone.
 fn refusal(
     listed: &Listed,
     start: Memory,
