@@ -13,9 +13,11 @@ pub loop-at-preserved : goal.loop-at-preserved
 loop-at-preserved c =
     elim c.else-start-at.branch [
       | else-start-at-via-then-start-at+else-not-listed-at w ↦
-          passed_listed _ _ _ c.well_formed.1.0.1.1.0.1.0.1 c.well_formed.1.1.0.1.1.0.1.0.1 c.loop-at.at c.loop-at.invariant (omega arith) w.if-not-listed-at.false
+          passed_listed _ _ _ c.well_formed.1.0.1.1.0.1.0.1 c.well_formed.1.1.0.1.1.0.1.0.1 c.loop-at.at c.loop-at.invariant (omega arith)
+          w.if-not-listed-at.false
       | else-start-at-via-else-start-at w ↦
-          passed_equal _ _ _ c.well_formed.1.0.1.1.0.1.0.1 c.well_formed.1.1.0.1.1.0.1.0.1 c.loop-at.at c.loop-at.invariant (omega arith) w.if-start-at.false
+          passed_equal _ _ _ c.well_formed.1.0.1.1.0.1.0.1 c.well_formed.1.1.0.1.1.0.1.0.1 c.loop-at.at c.loop-at.invariant (omega arith)
+          w.if-start-at.false
     ]
 
 pub returns : goal.returns
