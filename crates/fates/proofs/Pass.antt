@@ -7,10 +7,11 @@ use Prim.Native.Nat.{ℕ, ◌+◌, ◌-◌, ◌≤◌, ◌<◌}
 use native.Mathlib.Numerals.{add-one}
 use native.Mathlib.Omega.{arith}
 use lib.Dec.{eqb}
-use borrow.Author.Tests.{eqb-true, eqb-false}
+use borrow.Author.Tests.{eqb-true, eqb-false, ne_eqb}
 use lib.ListN.{length, get_or, drop, replicate}
 use Rattle.std.specs.Prelude.{Option, None, Some}
 use Rattle.event.specs.Answer.{answer, done}
+use Rattle.event.specs.Told.{Refuses}
 use Rattle.event.specs.declared.Answer.{Answer}
 use Rattle.event.specs.declared.Event.{Event}
 use Rattle.event.specs.Room.{Placed, event_at, onward, capacity, whole_events}
@@ -96,10 +97,10 @@ module _ {regs : List Bool} {source target ns : List ℕ} (size : length ns ≡ 
           fault_at_lem (whole_events target) e t.behind ahead _ _ _ entry (sees_at regs e r) (right t.tallied ahead p place_below f refl v refl)
 
       pub passed_stops : {flag : Bool} → flag ≡ closing_at regs source ns i → {w : Option ℕ} → w ≡ witness_in fresh last p
-          → {k : ℕ} → Some k ≡ fault_of (by flag w) → {a : Answer} → a ≡ answer k 1 (i + 1) → a ≡ whole regs source target ns
+          → {k : ℕ} → Some k ≡ fault_of (by flag w) → {a : Answer} → a ≡ answer k 1 (i + 1) → Refuses a × (a ≡ whole regs source target ns)
       passed_stops {flag} g {w} v f m =
           let z = some_fault (by flag w) f in
-          m ∙ sym (from_here ∙ source_stops (view_in regs) _ _ _ _ _ _ _ z.1 (fault_by g v ∙ z.0))
+          (rw (m, ne_eqb _ 0 z.1), m ∙ sym (from_here ∙ source_stops (view_in regs) _ _ _ _ _ _ _ z.1 (fault_by g v ∙ z.0)))
 
       pub passed_next : {flag : Bool} → flag ≡ closing_at regs source ns i → {w : Option ℕ} → w ≡ witness_in fresh last p → None ≡ fault_of (by flag w)
           → {fresh' : List Bool} {last' : List (Option ℕ)} {here' : List ℕ} {all' walls' : ℕ}

@@ -3,6 +3,7 @@ ghost use Rattle.std.specs.Prelude.{◌≡◌, false, cond, [], ◌≤◌, lengt
 ghost use Rattle.event.specs.Room.{Placed, whole_events, capacity};
 ghost use Rattle.rules.specs.View.{view_in};
 ghost use Rattle.rules.specs.Fault.{fate, is, is_gone, unlike};
+ghost use Rattle.event.specs.Told.{Passes};
 ghost use Rattle.rules.specs.Verdict.{source_answer};
 ghost use Rattle.fates.specs.Pass.{Flagged, closing_after, crossed_by, fault_of, source_fault_by, gone_fault, keep_fault_by, removal_fault_by, takes_over, top_after, witnessed};
 ghost use Rattle.event.specs.Limit.{event_limit};
@@ -177,13 +178,13 @@ fn source_pass(
     target: &[Word],
     entries: &[Entry],
     flags: &[bool; EVENT_LIMIT],
-) -> Answer
+) -> Result<(), Answer>
     requires source_bound { capacity source.now ≤ event_limit }
     requires placed { Placed source.now }
     requires entries_len { length entries.now ≡ capacity source.now }
     requires flagged { Flagged listed.now flags.now source.now entries.now }
-    ensures { result ≡ source_answer (view_in listed.now)
-        (whole_events target.now) 1 [] (whole_events source.now) entries.now }
+    ensures { Passes (source_answer (view_in listed.now)
+        (whole_events target.now) 1 [] (whole_events source.now) entries.now) result }
 {
     // Arrays apart: a synchronising event begins `fresh` anew in one store, where the cells of an array of structs would take a loop, which is no plainer.
     let mut fresh: [bool; PLACES] = [true; PLACES];
@@ -206,7 +207,7 @@ fn source_pass(
             here: here[at],
         };
         if let Some(fault) = event_fault(listed, target, e, n, cell, witness, tops) {
-            return Answer::new(fault, 1, i + 1);
+            return Err(Answer::new(fault, 1, i + 1));
         }
         all = top_after(n, all);
         if is_wall_in(listed, e) {
@@ -219,16 +220,21 @@ fn source_pass(
         witnesses[at] = witness_after(over, e.first, witness);
         here[at] = top_after(n, here[at]);
     }
-    Answer::new(0, 0, 0)
+    Ok(())
 }
 
 // The four parts travel together through these three functions alone, and the contract that docs/CONTRACTS.md names holds them apart: no struct is plainer.
-pub fn source_answer(listed: &Listed, source: &[Word], target: &[Word], entries: &[Entry]) -> Answer
+pub fn source_answer(
+    listed: &Listed,
+    source: &[Word],
+    target: &[Word],
+    entries: &[Entry],
+) -> Result<(), Answer>
     requires source_bound { capacity source.now ≤ event_limit }
     requires placed { Placed source.now }
     requires entries_len { length entries.now ≡ capacity source.now }
-    ensures { result ≡ source_answer (view_in listed.now)
-        (whole_events target.now) 1 [] (whole_events source.now) entries.now }
+    ensures { Passes (source_answer (view_in listed.now)
+        (whole_events target.now) 1 [] (whole_events source.now) entries.now) result }
 {
     let flags = closing_flags(listed, source, entries);
     source_pass(listed, source, target, entries, &flags)

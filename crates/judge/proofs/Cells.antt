@@ -9,6 +9,7 @@ use lib.ListN.{length, drop, get_or}
 use lib.Seq.{drop-cons, drop-length}
 use borrow.Author.Tests.{le-leb}
 use Rattle.event.specs.Answer.{answer, done}
+use Rattle.event.specs.Told.{is_done, Refuses}
 use Rattle.event.specs.declared.Answer.{Answer}
 use Rattle.event.specs.Limit.{last_place, places}
 use Rattle.memory.specs.Listed.{listed}
@@ -24,9 +25,9 @@ module _ (regs : List Bool) (m n : List ℕ) where
   Passed i = whole ≡ start_answer_in regs i (drop i m) (drop i n)
 
   module _ (mm : length m ≡ places) (nn : length n ≡ places) (i : ℕ) (t : Passed i) where
-    pub passed_all : i ≡ places → whole ≡ done
+    pub passed_all : i ≡ places → done ≡ whole
     unfolding start_answer_in
-    passed_all e = let a : i ≡ length m = omega arith in t ∙ rw (a, drop-length m)
+    passed_all e = let a : i ≡ length m = omega arith in sym (t ∙ rw (a, drop-length m))
 
     module _ (h : i < places) where
       from_here : whole ≡ start_answer_in regs i (get_or m i 0 ∷ drop (i + 1) m) (get_or n i 0 ∷ drop (i + 1) n)
@@ -45,8 +46,5 @@ module _ (regs : List Bool) (m n : List ℕ) where
       passed_listed g = from_here ∙ (start_skips _ _ _ _ _ _ (marked g) ∙ rw (add-one i))
 
       pub passed_stops : (get_or m i 0 ≡ get_or n i 0 → ⊥) → get_or regs i false ≡ false → {a : Answer} → a ≡ answer 7 2 i
-          → (a ≡ whole) × (a.number ≡ 0 → ⊥)
-      passed_stops ne g e = (
-        e ∙ sym (from_here ∙ start_stops _ _ _ _ _ _ ne (marked g)),
-        λ z. let y : ◌≡◌ {A = ℕ} 7 0 = ap (λ (a : Answer). a.number) (sym e) ∙ z in omega arith,
-      )
+          → Refuses a × (a ≡ whole)
+      passed_stops ne g e = (ap is_done e, e ∙ sym (from_here ∙ start_stops _ _ _ _ _ _ ne (marked g)))

@@ -12,6 +12,7 @@ use lib.Seq.{drop-length}
 use borrow.Author.Tests.{lt-ltb, le-ltb}
 use Rattle.event.specs.Answer.{answer, done}
 use Rattle.event.specs.Limit.{event_limit}
+use Rattle.event.specs.Told.{is_done, Refuses}
 use Rattle.event.specs.declared.Answer.{Answer}
 use Rattle.laws.specs.Has.{has}
 use Rattle.rules.specs.Fault.{is_gone}
@@ -42,10 +43,10 @@ join false true z = refl
 join false false z = refl
 
 module _ {entries : List ℕ} {targets : ℕ} {marks : List ℕ} {i : ℕ} (t : Passed entries targets marks i) where
-  pub passed_all : i ≡ length entries → (entry_answer targets 1 [] entries ≡ done) × Marked marks entries
+  pub passed_all : i ≡ length entries → (done ≡ entry_answer targets 1 [] entries) × Marked marks entries
   unfolding entry_answer
   passed_all e =
-      (t.answers ∙ rw (e, drop-length entries), λ k p h. t.marked k p h ∙ sym (t.named k ∙ rw (e, drop-length entries, or-false)))
+      (sym (t.answers ∙ rw (e, drop-length entries)), λ k p h. t.marked k p h ∙ sym (t.named k ∙ rw (e, drop-length entries, or-false)))
 
   module _ (h : i < length entries) where
     abbrev entry : ℕ
@@ -75,15 +76,12 @@ module _ {entries : List ℕ} {targets : ℕ} {marks : List ℕ} {i : ℕ} (t : 
     pub passed_gone : is_gone entry ≡ true → Passed entries targets marks (i + 1)
     passed_gone g = passed (rw g) marks t.size (marked_gone marks t.behind entry g t.marked)
 
-    refused : refuses ≡ true → {a : Answer} → a ≡ answer 9 3 (i + 1) → (a ≡ entry_answer targets 1 [] entries) × (a.number ≡ 0 → ⊥)
-    refused r e = (
-      e ∙ sym (from_here ∙ entry_stops _ _ _ _ _ r),
-      λ z. let n : ◌≡◌ {A = ℕ} 9 0 = ap (λ (a : Answer). a.number) (sym e) ∙ z in omega arith,
-    )
+    refused : refuses ≡ true → {a : Answer} → a ≡ answer 9 3 (i + 1) → Refuses a × (a ≡ entry_answer targets 1 [] entries)
+    refused r e = (ap is_done e, e ∙ sym (from_here ∙ entry_stops _ _ _ _ _ r))
 
     -- a kept number beyond the target
     pub refused_beyond : is_gone entry ≡ false → targets < entry → {a : Answer} → a ≡ answer 9 3 (i + 1)
-        → (a ≡ entry_answer targets 1 [] entries) × (a.number ≡ 0 → ⊥)
+        → Refuses a × (a ≡ entry_answer targets 1 [] entries)
     refused_beyond g b = refused (rw (g, lt-ltb _ _ b))
 
     -- and one within it, which is marked or not
@@ -92,7 +90,7 @@ module _ {entries : List ℕ} {targets : ℕ} {marks : List ℕ} {i : ℕ} (t : 
       again = rw (g, le-ltb _ _ b) (sym (t.marked entry (kept_number entry g) (omega arith)))
 
       pub refused_again : in_words marks entry ≡ true → {a : Answer} → a ≡ answer 9 3 (i + 1)
-          → (a ≡ entry_answer targets 1 [] entries) × (a.number ≡ 0 → ⊥)
+          → Refuses a × (a ≡ entry_answer targets 1 [] entries)
       refused_again m = refused (again ∙ m)
 
       pub passed_named : in_words marks entry ≡ false → {next : List ℕ} → next ≡ marking marks entry → Passed entries targets next (i + 1)

@@ -6,9 +6,11 @@ use mathlib.Core.List.{List, [], ◌∷◌}
 use mathlib.Core.Path.{◌≡◌, refl, sym, ◌∙◌, ap}
 use native.Mathlib.Numerals.{add-one}
 use native.Mathlib.Omega.{arith}
+use borrow.Author.Tests.{ne_eqb}
 use lib.ListN.{length, length-set, replicate, set, get_or}
 use Rattle.std.specs.Prelude.{None, Some}
 use Rattle.event.specs.Answer.{answer, done}
+use Rattle.event.specs.Told.{Refuses}
 use Rattle.event.specs.declared.Answer.{Answer}
 use Rattle.event.specs.declared.Event.{Event}
 use Rattle.laws.specs.Has.{has}
@@ -61,9 +63,9 @@ fault_told regs b ns k e p q i g u =
     ap (target_fault_by e.kind) (unsupported_at b (has k ns) k (sees_in regs e) ∙ sym (u ∙ rw (p, q, g, i)))
 
 module _ {regs : List Bool} {room marks : List ℕ} {fresh : List Bool} {k : ℕ} (t : Along regs room marks fresh k) where
-  pub along_all : capacity room ≤ k → (ns : List ℕ) → Marked marks ns → whole regs ns room ≡ done
+  pub along_all : capacity room ≤ k → (ns : List ℕ) → Marked marks ns → done ≡ whole regs ns room
   unfolding onward target_answer
-  along_all h ns m = let e : capacity room - k ≡ 0 = omega arith in (t.passed ns m).answers ∙ rw e
+  along_all h ns m = let e : capacity room - k ≡ 0 = omega arith in sym ((t.passed ns m).answers ∙ rw e)
 
   -- the event at the index, at the location p
   module _ (low : Placed room) (few : capacity room ≤ event_limit) (h : k < capacity room) (e : Event) (q : e ≡ event_at room k) {p : ℕ} (r : p ≡ e.place)
@@ -95,10 +97,10 @@ module _ {regs : List Bool} {room marks : List ℕ} {fresh : List Bool} {k : ℕ
       }
 
       pub along_stops : {f : ℕ} → Some f ≡ fault_of (target_fault_by e.kind unfit) → {a : Answer} → a ≡ answer f 2 (k + 1)
-          → (a ≡ whole regs ns room) × (a.number ≡ 0 → ⊥)
+          → Refuses a × (a ≡ whole regs ns room)
       along_stops z g =
           let y = some_fault (target_fault_by e.kind unfit) z in
-          (g ∙ sym (from_here ∙ target_stops (view_in regs) ns _ _ _ _ y.1 (told ∙ y.0)), λ x. y.1 (ap (λ (a : Answer). a.number) (sym g) ∙ x))
+          (rw (g, ne_eqb _ 0 y.1), g ∙ sym (from_here ∙ target_stops (view_in regs) ns _ _ _ _ y.1 (told ∙ y.0)))
 
     module _ (z : None ≡ fault_of (target_fault_by e.kind unfit)) where
       pub along_wall : is_wall (view_in regs e) ≡ true → Along regs room marks (replicate places true) (k + 1)

@@ -1,10 +1,11 @@
 -- What the judge's marks say, and its small decisions about a target event. Assumes nothing.
-use Rattle.std.specs.Prelude.{◌≡◌, Bool, not, cond, ◌&&◌, ◌||◌, List, ℕ, suc, ◌<◌, ⊤, Result, Ok, Err}
+use Rattle.std.specs.Prelude.{◌≡◌, Bool, not, cond, ◌&&◌, ◌||◌, List, ℕ, suc, ◌<◌, Result, Ok, Err}
 use Rattle.laws.specs.Has.{has}
 use Rattle.kinds.specs.Kind.{is_load_kind}
 use Rattle.judge.specs.Marks.{in_words}
 use Rattle.event.specs.Limit.{event_limit}
 use Rattle.event.specs.Answer.{done}
+use Rattle.event.specs.Told.{Refuses}
 use Rattle.event.specs.declared.Answer.{Answer}
 use Rattle.judge.specs.declared.marks.Marks.{Marks}
 
@@ -20,12 +21,7 @@ unsupported_by sourced is_load fresh = not sourced && (not is_load || fresh)
 abbrev pub target_fault_by : ℕ → Bool → ℕ
 target_fault_by kind unsupported = cond unsupported (cond (is_load_kind kind) 16 15) 0
 
--- an answer as what the code makes of it: nothing, or the answer, which refuses
-abbrev pub Told : Answer → Result ⊤ Answer → Type 0
-Told a (Ok x) = a ≡ done
-Told a (Err r) = (r ≡ a) × (r.number ≡ 0 → ⊥)
-
--- the same of 9, where what is no refusal is the marks of the numbers that the entries name
+-- what 9 comes to: the marks of the numbers that the entries name, or the answer that refuses
 abbrev pub Names : Answer → List ℕ → Result Marks Answer → Type 0
-Names a ns (Ok marks) = (a ≡ done) × Marked marks.words ns
-Names a ns (Err r) = (r ≡ a) × (r.number ≡ 0 → ⊥)
+Names a ns (Ok marks) = (done ≡ a) × Marked marks.words ns
+Names a ns (Err r) = Refuses r × (r ≡ a)

@@ -9,7 +9,7 @@ pub mod target;
 ghost use Rattle.std.specs.Prelude.{◌≡◌, ◌≤◌};
 ghost use Rattle.event.specs.Room.{Placed, whole_events, capacity};
 ghost use Rattle.rules.specs.Verdict.{verdict_in};
-ghost use Rattle.judge.specs.Pass.{Told};
+ghost use Rattle.event.specs.Told.{Passes};
 ghost use Rattle.event.specs.Limit.{event_limit};
 
 use entries::entry_answer;
@@ -34,7 +34,7 @@ fn refusal(
     requires placed { Placed source.now }
     requires target_bound { capacity target.now ≤ event_limit }
     requires placed_2 { Placed target.now }
-    ensures { Told (verdict_in listed.now start.cells target_start.cells
+    ensures { Passes (verdict_in listed.now start.cells target_start.cells
         (whole_events source.now) (whole_events target.now) entries.now) result }
 {
     start_answer(listed, start, target_start)?;
@@ -43,10 +43,7 @@ fn refusal(
         return Err(Answer::new(8, 3, count));
     }
     let marks = entry_answer(entries, target.len() / WORDS)?;
-    let found = source_answer(listed, source, target, entries);
-    if found.number != 0 {
-        return Err(found);
-    }
+    source_answer(listed, source, target, entries)?;
     target_answer(listed, target, &marks)
 }
 

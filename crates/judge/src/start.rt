@@ -1,6 +1,6 @@
 // Answer 7: the starting values of the two traces, but for listed locations.
 ghost use Rattle.rules.specs.Verdict.{start_answer_in};
-ghost use Rattle.judge.specs.Pass.{Told};
+ghost use Rattle.event.specs.Told.{Passes};
 
 use event::{Answer, PLACES};
 use memory::Memory;
@@ -12,7 +12,7 @@ pub(crate) fn start_answer(
     start: Memory,
     target_start: Memory,
 ) -> Result<(), Answer>
-    ensures { Told (start_answer_in listed.now 0 start.cells target_start.cells) result }
+    ensures { Passes (start_answer_in listed.now 0 start.cells target_start.cells) result }
 {
     for at in 0..PLACES {
         if start.cells[at] != target_start.cells[at] && !listed[at] {

@@ -4,7 +4,8 @@ ghost use Rattle.event.specs.Room.{Placed, whole_events, capacity};
 ghost use Rattle.rules.specs.View.{view_in};
 ghost use Rattle.rules.specs.Verdict.{target_answer};
 ghost use Rattle.fates.specs.Pass.{fault_of};
-ghost use Rattle.judge.specs.Pass.{Marked, Told, target_fault_by, unsupported_by};
+ghost use Rattle.event.specs.Told.{Passes};
+ghost use Rattle.judge.specs.Pass.{Marked, target_fault_by, unsupported_by};
 ghost use Rattle.event.specs.Limit.{event_limit};
 
 use crate::marks::Marks;
@@ -40,7 +41,7 @@ pub(crate) fn target_answer(listed: &Listed, target: &[Word], marks: &Marks) -> 
     requires target_bound { capacity target.now ≤ event_limit }
     requires placed { Placed target.now }
     ensures { (ns : List ℕ) → Marked marks.now.words ns
-        → Told (target_answer (view_in listed.now) ns 1 [] (whole_events target.now)) result }
+        → Passes (target_answer (view_in listed.now) ns 1 [] (whole_events target.now)) result }
 {
     let mut fresh: [bool; PLACES] = [true; PLACES];
     for k in 0..target.len() / WORDS {

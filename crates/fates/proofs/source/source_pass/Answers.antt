@@ -34,4 +34,4 @@ loop-i-preserved c =
     (rw (← c.witness_here-witness.ensures, ← c.is_load_in.ensures, ← c.takes_over-over.ensures) c.witness_after.ensures))
 
 pub returns : goal.returns
-returns c = c.new-2.ensures ∙ passed_all c.requires.entries_len c.loop-i.invariant (omega arith)
+returns c = passed_all c.requires.entries_len c.loop-i.invariant (omega arith)
