@@ -9,13 +9,13 @@ use lib.ListN.{length, get_or, drop}
 use borrow.Author.Tests.{eq-eqb, ne_eqb, le-ltb, lt-ltb}
 use Rattle.kinds.specs.Kind.{used}
 use Rattle.event.specs.declared.Event.{Event}
-use Rattle.rules.specs.View.{View, wall, load, store, view_in, apart, is_load, is_wall, value_of}
+use Rattle.rules.specs.View.{View, wall, load, store, view_in, is_load, is_wall, value_of}
 use Rattle.rules.specs.Moves.{extend, group, near}
 use Rattle.rules.specs.Run.{Traced, event_of, viewed}
 use Rattle.sight.proofs.Sight.{Sees, sees_in, a_load_lem, a_store, a_wall_lem}
 use Rattle.changes.specs.Apply.{removable_at}
 use Rattle.changes.specs.Allowed.{holds, stores, may_insert, may_remove}
-use Rattle.changes.specs.Tags.{behind, event_for, trace, traced_for}
+use Rattle.changes.specs.Tags.{behind, event_for, trace}
 
 -- ---- of one event more
 
@@ -52,17 +52,6 @@ module _ (regs : List Bool) (l : ℕ) (x : Traced) (b : List Traced) where
   pub near_past : is_wall (viewed (view_in regs) x) ≡ false → ((event_of x).place ≡ l → ⊥) → near (viewed (view_in regs)) l (x ∷ b) ≡ near (viewed (view_in regs)) l b
   unfolding first
   near_past h e = past₁ (sees_in regs (event_of x)) h (ne_eqb l (event_of x).place (λ q. e (sym q)))
-
--- the same of an event that was looked up
-module _ (regs : List Bool) (s t : List Event) (k l : ℕ) (g b : List Traced) (c : g ≡ traced_for s t k ∷ b) (e : Event) (p : e ≡ event_for s t k) where
-  pub stops : is_wall (view_in regs e) ≡ true → near (viewed (view_in regs)) l g ≡ none
-  stops h = rw c (near_wall regs l (traced_for s t k) b (rw (← p) h))
-
-  pub finds : is_wall (view_in regs e) ≡ false → e.place ≡ l → near (viewed (view_in regs)) l g ≡ some (view_in regs e)
-  finds h q = rw (c, p) (near_here regs l (traced_for s t k) b (rw (← p) h) (rw (← p) q))
-
-  pub passes : is_wall (view_in regs e) ≡ false → (e.place ≡ l → ⊥) → near (viewed (view_in regs)) l g ≡ near (viewed (view_in regs)) l b
-  passes h q = rw c (near_past regs l (traced_for s t k) b (rw (← p) h) (rw (← p) q))
 
 -- ---- what an access says
 
@@ -128,6 +117,9 @@ module _ (regs : List Bool) (b a : List Traced) where
       → may (view_in regs e) ≡ (holds e.first (near (viewed (view_in regs)) e.place b) || stores (near (viewed (view_in regs)) e.place a))
   remove_store e h q = store₂ (sees_in regs e) h q
 
+-- what may be removed, by what it is seen as
+pub ruleset removable = (removable_in, removable_past, remove_wall, remove_used, remove_unused, remove_store)
+
 insert₁ : (regs : List Bool) (b : List Traced) {v : View} {p w : ℕ} {u : Bool} → Sees v p w u → is_load v ≡ true
     → may_insert (viewed (view_in regs)) b v ≡ holds w (near (viewed (view_in regs)) p b)
 insert₁ regs b a_wall_lem h = absurd (false≢true h)
@@ -143,31 +135,4 @@ insert_other regs b wall h = refl
 insert_other regs b (load p v u) h = absurd (false≢true (sym h))
 insert_other regs b (store p v) h = refl
 
--- ---- two events
-
-pub apart_wall : (v w : View) → is_wall v ≡ true → apart v w ≡ false
-apart_wall wall w h = refl
-apart_wall (load p v u) w h = absurd (false≢true h)
-apart_wall (store p v) w h = absurd (false≢true h)
-
-pub wall_apart : (v w : View) → is_wall w ≡ true → apart v w ≡ false
-wall_apart wall w h = refl
-wall_apart (load p v u) wall h = refl
-wall_apart (load p v u) (load q w z) h = absurd (false≢true h)
-wall_apart (load p v u) (store q w) h = absurd (false≢true h)
-wall_apart (store p v) wall h = refl
-wall_apart (store p v) (load q w z) h = absurd (false≢true h)
-wall_apart (store p v) (store q w) h = absurd (false≢true h)
-
-apart₁ : {v v' : View} {p w p' w' : ℕ} {u u' : Bool} → Sees v p w u → Sees v' p' w' u' → is_wall v ≡ false → is_wall v' ≡ false
-    → apart v v' ≡ not (eqb p p')
-apart₁ a_wall_lem y h k = absurd (false≢true (sym h))
-apart₁ a_load_lem a_wall_lem h k = absurd (false≢true (sym k))
-apart₁ a_load_lem a_load_lem h k = refl
-apart₁ a_load_lem a_store h k = refl
-apart₁ a_store a_wall_lem h k = absurd (false≢true (sym k))
-apart₁ a_store a_load_lem h k = refl
-apart₁ a_store a_store h k = refl
-
-pub apart_plain : (regs : List Bool) (e f : Event) → is_wall (view_in regs e) ≡ false → is_wall (view_in regs f) ≡ false → apart (view_in regs e) (view_in regs f) ≡ not (eqb e.place f.place)
-apart_plain regs e f h k = apart₁ (sees_in regs e) (sees_in regs f) h k
+pub ruleset insertable = (insert_load, insert_other)

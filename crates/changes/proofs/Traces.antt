@@ -9,6 +9,7 @@ use lib.Dec.{ltb}
 use lib.ListN.{length, get_or, take, drop, get_or-map, drop_of_length-le}
 use lib.Seq.{drop-cons}
 use borrow.Author.Tests.{ltb-false}
+use Rattle.std.proofs.lemmas.List.{take_rest}
 use Rattle.event.specs.declared.Event.{Event}
 use Rattle.rules.specs.Run.{old, new}
 use Rattle.changes.specs.Tags.{behind, code, codes, decoded, trace, traced_for}
@@ -46,6 +47,10 @@ module _ (s t : List Event) where
   trace_drop zero ks = refl
   trace_drop (suc n) [] = refl
   trace_drop (suc n) (k ∷ ks) = trace_drop n ks
+
+  -- what a slice from behind an index on holds
+  pub trace_after : (ks : List ℕ) (i : ℕ) → trace s t (take (length ks - (i + 1)) (drop (i + 1) ks)) ≡ drop (suc i) (trace s t ks)
+  trace_after ks i = rw (take_rest ks (i + 1), add-one i) (trace_drop (suc i) ks)
 
   -- ---- by index
 

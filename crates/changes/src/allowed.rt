@@ -1,5 +1,5 @@
 // What the rules of change allow on the trace as it stands, under a list of registers.
-ghost use Rattle.std.specs.Prelude.{◌≡◌, true, cond, [], ◌+◌, ◌-◌, ◌≤◌, ◌<◌, length, take, drop};
+ghost use Rattle.std.specs.Prelude.{◌≡◌, true, cond, [], ◌+◌, ◌-◌, ◌≤◌, ◌<◌, length, drop};
 ghost use Rattle.std.proofs.Math.Option.{none, some};
 ghost use Rattle.event.specs.Room.{whole_events};
 ghost use Rattle.rules.specs.View.{view_in, apart};
@@ -13,65 +13,128 @@ ghost use Rattle.changes.specs.Inner.{exchanged, with_new, without};
 ghost use Rattle.changes.specs.declared.Step.TheVariants.{Remove, Swap, Insert};
 ghost use Rattle.event.specs.Limit.{event_limit};
 
-use crate::tag::{event_of, is_source};
+use crate::tag::{Ground, is_source};
 use event::room::get;
 use event::{EVENT_LIMIT, Event, WORDS, Word};
 use kinds::USED;
 use memory::listed::Listed;
 use sight::{is_load_in, is_wall_in};
 
-// Whether the near access to a location before an index has a value.
-fn holds_before(
-    listed: &Listed,
-    tags: &[usize],
-    source: &[Word],
-    target: &[Word],
-    i: usize,
-    place: Word,
-    value: Word,
-) -> bool
-    requires { i ≤ length tags.now }
-    ensures { result ≡ holds value (near (viewed (view_in listed.now)) place
-        (behind [] (trace (whole_events source.now) (whole_events target.now) tags.now) i)) }
-{
-    let mut j = i;
-    while 0 < j {
-        j -= 1;
-        let e = event_of(source, target, tags[j]);
-        if is_wall_in(listed, e) {
-            return false;
+impl<'a> Ground<'a> {
+    // Whether the near access to a location before an index has a value.
+    fn holds_before(self, tags: &[usize], i: usize, place: Word, value: Word) -> bool
+        requires { i ≤ length tags.now }
+        ensures { result ≡ holds value (near (viewed (view_in self.entry.listed.now)) place
+            (behind [] (trace (whole_events self.entry.source.now) (whole_events self.entry.target.now) tags.now) i)) }
+    {
+        for j in (0..i).rev() {
+            let e = self.event_of(tags[j]);
+            if is_wall_in(self.listed, e) {
+                return false;
+            }
+            if e.place == place {
+                return e.first == value;
+            }
         }
-        if e.place == place {
-            return e.first == value;
-        }
+        false
     }
-    false
-}
 
-// Whether the near access to a location from an index on is a store.
-fn stores_after(
-    listed: &Listed,
-    tags: &[usize],
-    source: &[Word],
-    target: &[Word],
-    i: usize,
-    place: Word,
-) -> bool
-    ensures { result ≡ stores (near (viewed (view_in listed.now)) place
-        (drop i (trace (whole_events source.now) (whole_events target.now) tags.now))) }
-{
-    let mut j = i;
-    while j < tags.len() {
-        let e = event_of(source, target, tags[j]);
-        if is_wall_in(listed, e) {
+    // Whether the near access to a location among those that come after is a store.
+    fn stores_after(self, after: &[usize], place: Word) -> bool
+        ensures { result ≡ stores (near (viewed (view_in self.entry.listed.now)) place
+            (trace (whole_events self.entry.source.now) (whole_events self.entry.target.now) after.now)) }
+    {
+        for tag in after {
+            let e = self.event_of(*tag);
+            if is_wall_in(self.listed, e) {
+                return false;
+            }
+            if e.place == place {
+                return !is_load_in(self.listed, e);
+            }
+        }
+        false
+    }
+
+    // Whether the event at an index may be removed; beyond the end there is none.
+    #[tactic(auto, using(crate::proofs::Near::removable))]
+    fn may_remove(self, tags: &[usize], i: usize) -> bool
+        ensures { result ≡ removable_at self.entry.listed.now (whole_events self.entry.source.now) (whole_events self.entry.target.now) tags.now i }
+    {
+        if tags.len() <= i {
             return false;
         }
-        if e.place == place {
-            return !is_load_in(listed, e);
+        let e = self.event_of(tags[i]);
+        if is_wall_in(self.listed, e) {
+            return false;
         }
-        j += 1;
+        if is_load_in(self.listed, e) {
+            return e.order != USED || self.holds_before(tags, i, e.place, e.first);
+        }
+        self.holds_before(tags, i, e.place, e.first) || self.stores_after(&tags[i + 1..], e.place)
     }
-    false
+
+    // Whether an event may be inserted at an index.
+    #[tactic(auto, using(crate::proofs::Near::insertable))]
+    fn may_insert(self, tags: &[usize], i: usize, e: Event) -> bool
+        requires { i ≤ length tags.now }
+        ensures { result ≡ may_insert (viewed (view_in self.entry.listed.now))
+            (behind [] (trace (whole_events self.entry.source.now) (whole_events self.entry.target.now) tags.now) i) (view_in self.entry.listed.now e) }
+    {
+        is_load_in(self.listed, e) && self.holds_before(tags, i, e.place, e.first)
+    }
+
+    // Whether two adjacent events may be swapped.
+    fn may_swap(self, e: Event, f: Event) -> bool
+        ensures { result ≡ apart (view_in self.entry.listed.now e) (view_in self.entry.listed.now f) }
+    {
+        !is_wall_in(self.listed, e) && !is_wall_in(self.listed, f) && e.place != f.place
+    }
+
+    // Whether the source event of a number may be removed from its place in the trace.
+    pub(crate) fn can_remove(self, tags: &[usize], place: usize, number: usize) -> bool
+        ensures tags_value { applied (view_in self.entry.listed.now) (whole_events self.entry.target.now) (Remove place number)
+            (trace (whole_events self.entry.source.now) (whole_events self.entry.target.now) tags.now)
+            ≡ cond result (some (trace (whole_events self.entry.source.now) (whole_events self.entry.target.now)
+            (without (place - 1) tags.now))) none }
+        ensures place_nonzero { result ≡ true → (0 < place) × (place ≤ length tags.now) }
+    {
+        let Some(i) = place.checked_sub(1) else {
+            return false;
+        };
+        i < tags.len() && is_source(number, tags[i]) && self.may_remove(tags, i)
+    }
+
+    // Whether the events at a place and the next may be swapped.
+    pub(crate) fn can_swap(self, tags: &[usize], place: usize) -> bool
+        ensures tags_value { applied (view_in self.entry.listed.now) (whole_events self.entry.target.now) (Swap place)
+            (trace (whole_events self.entry.source.now) (whole_events self.entry.target.now) tags.now)
+            ≡ cond result (some (trace (whole_events self.entry.source.now) (whole_events self.entry.target.now)
+            (exchanged (place - 1) tags.now))) none }
+        ensures place_nonzero { result ≡ true → (0 < place) × (place < length tags.now) }
+    {
+        let Some(i) = place.checked_sub(1) else {
+            return false;
+        };
+        place < tags.len() && self.may_swap(self.event_of(tags[i]), self.event_of(tags[place]))
+    }
+
+    // Whether the target event of a number may be inserted at that place.
+    pub(crate) fn can_insert(self, tags: &[usize], place: usize) -> bool
+        ensures tags_value { applied (view_in self.entry.listed.now) (whole_events self.entry.target.now) (Insert place)
+            (trace (whole_events self.entry.source.now) (whole_events self.entry.target.now) tags.now)
+            ≡ cond result (some (trace (whole_events self.entry.source.now) (whole_events self.entry.target.now)
+            (with_new (place - 1) (event_limit + (place - 1)) tags.now))) none }
+        ensures place_nonzero { result ≡ true → (0 < place) × (place - 1 ≤ length tags.now) × (length tags.now < event_limit) }
+    {
+        let Some(i) = place.checked_sub(1) else {
+            return false;
+        };
+        i < self.target.len() / WORDS
+            && tags.len() < EVENT_LIMIT
+            && i <= tags.len()
+            && self.may_insert(tags, i, get(self.target, i))
+    }
 }
 
 // Whether the event at an index may be removed; beyond the end there is none.
@@ -84,149 +147,10 @@ pub fn may_remove(
 ) -> bool
     ensures { result ≡ removable_at listed.now (whole_events source.now) (whole_events target.now) tags.now i }
 {
-    if tags.len() <= i {
-        return false;
-    }
-    let e = event_of(source, target, tags[i]);
-    if is_wall_in(listed, e) {
-        return false;
-    }
-    if is_load_in(listed, e) {
-        if e.order == USED {
-            return holds_before(listed, tags, source, target, i, e.place, e.first);
-        }
-        return true;
-    }
-    if holds_before(listed, tags, source, target, i, e.place, e.first) {
-        return true;
-    }
-    stores_after(listed, tags, source, target, i + 1, e.place)
-}
-
-// Whether an event may be inserted at an index.
-pub(crate) fn may_insert(
-    listed: &Listed,
-    tags: &[usize],
-    source: &[Word],
-    target: &[Word],
-    i: usize,
-    e: Event,
-) -> bool
-    requires { i ≤ length tags.now }
-    ensures { result ≡ may_insert (viewed (view_in listed.now))
-        (behind [] (trace (whole_events source.now) (whole_events target.now) tags.now) i) (view_in listed.now e) }
-{
-    if is_load_in(listed, e) {
-        return holds_before(listed, tags, source, target, i, e.place, e.first);
-    }
-    false
-}
-
-// Whether two adjacent events may be swapped.
-pub(crate) fn may_swap(listed: &Listed, e: Event, f: Event) -> bool
-    ensures { result ≡ apart (view_in listed.now e) (view_in listed.now f) }
-{
-    if is_wall_in(listed, e) {
-        return false;
-    }
-    if is_wall_in(listed, f) {
-        return false;
-    }
-    e.place != f.place
-}
-
-// Whether the source event of a number may be removed from its place, of what stands at the front of the tags.
-pub(crate) fn can_remove(
-    listed: &Listed,
-    tags: &[usize],
-    standing: usize,
-    source: &[Word],
-    target: &[Word],
-    place: usize,
-    number: usize,
-) -> bool
-    requires { standing ≤ length tags.now }
-    ensures tags_value { applied (view_in listed.now) (whole_events target.now) (Remove place number)
-        (trace (whole_events source.now) (whole_events target.now) (take standing tags.now))
-        ≡ cond result (some (trace (whole_events source.now) (whole_events target.now)
-        (without (place - 1) (take standing tags.now)))) none }
-    ensures place_nonzero { result ≡ true → (0 < place) × (place ≤ standing) }
-{
-    if place == 0 {
-        return false;
-    }
-    if standing < place {
-        return false;
-    }
-    let i = place - 1;
-    if is_source(number, tags[i]) {
-        return may_remove(listed, &tags[0..standing], source, target, i);
-    }
-    false
-}
-
-// Whether the events at a place and the next may be swapped.
-pub(crate) fn can_swap(
-    listed: &Listed,
-    tags: &[usize],
-    standing: usize,
-    source: &[Word],
-    target: &[Word],
-    place: usize,
-) -> bool
-    requires { standing ≤ length tags.now }
-    ensures tags_value { applied (view_in listed.now) (whole_events target.now) (Swap place)
-        (trace (whole_events source.now) (whole_events target.now) (take standing tags.now))
-        ≡ cond result (some (trace (whole_events source.now) (whole_events target.now)
-        (exchanged (place - 1) (take standing tags.now)))) none }
-    ensures place_nonzero { result ≡ true → (0 < place) × (place < standing) }
-{
-    if place == 0 {
-        return false;
-    }
-    if standing <= place {
-        return false;
-    }
-    let e = event_of(source, target, tags[place - 1]);
-    let f = event_of(source, target, tags[place]);
-    may_swap(listed, e, f)
-}
-
-// Whether the target event of a number may be inserted at that place.
-pub(crate) fn can_insert(
-    listed: &Listed,
-    tags: &[usize],
-    standing: usize,
-    source: &[Word],
-    target: &[Word],
-    place: usize,
-) -> bool
-    requires { standing ≤ length tags.now }
-    ensures tags_value { applied (view_in listed.now) (whole_events target.now) (Insert place)
-        (trace (whole_events source.now) (whole_events target.now) (take standing tags.now))
-        ≡ cond result (some (trace (whole_events source.now) (whole_events target.now)
-        (with_new (place - 1) (event_limit + (place - 1)) (take standing tags.now)))) none }
-    ensures place_nonzero { result ≡ true → (0 < place) × (place - 1 ≤ standing) × (standing < event_limit) }
-{
-    if place == 0 {
-        return false;
-    }
-    let i = place - 1;
-    if target.len() / WORDS <= i {
-        return false;
-    }
-    if EVENT_LIMIT <= standing {
-        return false;
-    }
-    if standing < i {
-        return false;
-    }
-    may_insert(
+    let ground = Ground {
         listed,
-        &tags[0..standing],
         source,
         target,
-        i,
-        get(target, i),
-    )
+    };
+    ground.may_remove(tags, i)
 }

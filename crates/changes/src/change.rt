@@ -1,45 +1,16 @@
 // What a step makes of the numbers that stand at the front of the lent array.
-ghost use Rattle.std.specs.Prelude.{◌≡◌, ◌≤◌, ◌<◌, suc, length, take};
+ghost use Rattle.std.specs.Prelude.{◌≡◌, ◌≤◌, length};
 ghost use Rattle.std.proofs.Math.Option.{none};
 ghost use Rattle.event.specs.Room.{whole_events};
 ghost use Rattle.rules.specs.View.{view_in};
-ghost use Rattle.changes.specs.Inner.{with_new, without};
-ghost use Rattle.changes.specs.Apply.{Applies, applied_of, front, leaving, stands};
+ghost use Rattle.changes.specs.Apply.{Applies, applied_of, leaving, stands};
 ghost use Rattle.changes.specs.Change.{applied};
 ghost use Rattle.changes.specs.declared.Step.TheVariants.{Remove, Swap, Insert};
 ghost use Rattle.event.specs.Limit.{event_limit};
 
-use crate::allowed::{can_insert, can_remove, can_swap};
+use crate::tag::Ground;
 use crate::{Applied, Run};
-use event::{EVENT_LIMIT, Word};
-use memory::listed::Listed;
-
-// The number at an index taken out of those up to `last`.
-fn shift_left(tags: &mut [usize], i: usize, last: usize)
-    requires i_le_last { i ≤ last }
-    requires last_in_bounds { last < length tags.old }
-    ensures { tags.new ≡ front (without i (take (suc last) tags.old)) tags.old }
-{
-    let mut j = i;
-    while j < last {
-        tags[j] = tags[j + 1];
-        j += 1;
-    }
-}
-
-// A number put in at an index of the first `standing` ones.
-fn shift_right(tags: &mut [usize], i: usize, standing: usize, tag: usize)
-    requires i_le_standing { i ≤ standing }
-    requires standing_in_bounds { standing < length tags.old }
-    ensures { tags.new ≡ front (with_new i tag (take standing tags.old)) tags.old }
-{
-    let mut j = standing;
-    while i < j {
-        tags[j] = tags[j - 1];
-        j -= 1;
-    }
-    tags[i] = tag;
-}
+use event::EVENT_LIMIT;
 
 // A step that the rules do not allow.
 pub(crate) fn refuse(run: Run) -> Applied
@@ -64,71 +35,52 @@ fn allow(standing: usize) -> Applied
     }
 }
 
-pub(crate) fn remove(
-    listed: &Listed,
-    run: Run,
-    tags: &mut [usize],
-    source: &[Word],
-    target: &[Word],
-    place: usize,
-    number: usize,
-) -> Applied
-    requires { run.standing ≤ length tags.old }
-    ensures { Applies run tags.old
-        (applied (view_in listed.now) (whole_events target.now) (Remove place number)
-        (stands (whole_events source.now) (whole_events target.now) run tags.old)) result tags.new }
-{
-    let standing = run.standing;
-    if can_remove(listed, tags, standing, source, target, place, number) {
-        shift_left(tags, place - 1, standing - 1);
-        return allow(standing - 1);
+impl<'a> Ground<'a> {
+    // The number at a place taken out.
+    pub(crate) fn remove(self, run: Run, tags: &mut [usize], place: usize, number: usize) -> Applied
+        requires { run.standing ≤ length tags.old }
+        ensures { Applies run tags.old
+            (applied (view_in self.entry.listed.now) (whole_events self.entry.target.now) (Remove place number)
+            (stands (whole_events self.entry.source.now) (whole_events self.entry.target.now) run tags.old)) result tags.new }
+    {
+        let standing = run.standing;
+        if !self.can_remove(&tags[..standing], place, number) {
+            return refuse(run);
+        }
+        tags.copy_within(place..standing, place - 1);
+        allow(standing - 1)
     }
-    refuse(run)
-}
 
-pub(crate) fn swap(
-    listed: &Listed,
-    run: Run,
-    tags: &mut [usize],
-    source: &[Word],
-    target: &[Word],
-    place: usize,
-) -> Applied
-    requires { run.standing ≤ length tags.old }
-    ensures { Applies run tags.old
-        (applied (view_in listed.now) (whole_events target.now) (Swap place)
-        (stands (whole_events source.now) (whole_events target.now) run tags.old)) result tags.new }
-{
-    let standing = run.standing;
-    if can_swap(listed, tags, standing, source, target, place) {
-        let i = place - 1;
-        let tag = tags[i];
-        tags[i] = tags[place];
-        tags[place] = tag;
-        return allow(standing);
+    // The numbers at a place and the next exchanged.
+    pub(crate) fn swap(self, run: Run, tags: &mut [usize], place: usize) -> Applied
+        requires { run.standing ≤ length tags.old }
+        ensures { Applies run tags.old
+            (applied (view_in self.entry.listed.now) (whole_events self.entry.target.now) (Swap place)
+            (stands (whole_events self.entry.source.now) (whole_events self.entry.target.now) run tags.old)) result tags.new }
+    {
+        let standing = run.standing;
+        if !self.can_swap(&tags[..standing], place) {
+            return refuse(run);
+        }
+        tags.swap(place - 1, place);
+        allow(standing)
     }
-    refuse(run)
-}
 
-pub(crate) fn insert(
-    listed: &Listed,
-    run: Run,
-    tags: &mut [usize],
-    source: &[Word],
-    target: &[Word],
-    place: usize,
-) -> Applied
-    requires standing_in_bounds { run.standing ≤ length tags.old }
-    requires event_limit_in_bounds { event_limit ≤ length tags.old }
-    ensures { Applies run tags.old
-        (applied (view_in listed.now) (whole_events target.now) (Insert place)
-        (stands (whole_events source.now) (whole_events target.now) run tags.old)) result tags.new }
-{
-    let standing = run.standing;
-    if can_insert(listed, tags, standing, source, target, place) {
+    // The number of the target event put in at its place.
+    pub(crate) fn insert(self, run: Run, tags: &mut [usize], place: usize) -> Applied
+        requires standing_in_bounds { run.standing ≤ length tags.old }
+        requires event_limit_in_bounds { event_limit ≤ length tags.old }
+        ensures { Applies run tags.old
+            (applied (view_in self.entry.listed.now) (whole_events self.entry.target.now) (Insert place)
+            (stands (whole_events self.entry.source.now) (whole_events self.entry.target.now) run tags.old)) result tags.new }
+    {
+        let standing = run.standing;
+        if !self.can_insert(&tags[..standing], place) {
+            return refuse(run);
+        }
         let i = place - 1;
-        shift_right(tags, i, standing, EVENT_LIMIT + i);
-        return allow(standing + 1);
+        tags.copy_within(i..standing, place);
+        tags[i] = EVENT_LIMIT + i;
+        allow(standing + 1)
     }
-    refuse(run)
 }

@@ -5,15 +5,15 @@ pub mod allowed;
 mod change;
 mod tag;
 
-ghost use Rattle.std.specs.Prelude.{◌≡◌, length};
+ghost use Rattle.std.specs.Prelude.{◌≡◌};
 ghost use Rattle.event.specs.Room.{whole_events};
 ghost use Rattle.rules.specs.View.{view_in};
 ghost use Rattle.changes.specs.Apply.{Applies, is_open, outcome, outcome_by};
-ghost use Rattle.event.specs.Limit.{event_limit};
 
-use change::{insert, refuse, remove, swap};
+use change::refuse;
 use event::{EVENT_LIMIT, PLACES, Word};
 use memory::listed::Listed;
+use tag::Ground;
 
 // A step of a run: places count from 1 in the trace as it stands, `number` is the source event's; an inserted event's place is its target number.
 #[derive(Clone, Copy)]
@@ -43,36 +43,7 @@ pub struct Applied {
 pub fn is_open(run: Run) -> bool
     ensures { result ≡ is_open run }
 {
-    if run.begun {
-        return run.standing <= EVENT_LIMIT;
-    }
-    false
-}
-
-fn apply_in(
-    listed: &Listed,
-    run: Run,
-    tags: &mut [usize],
-    source: &[Word],
-    target: &[Word],
-    step: Step,
-) -> Applied
-    requires { length tags.old ≡ event_limit }
-    ensures { Applies run tags.old
-        (outcome_by (view_in listed.now) (whole_events source.now) (whole_events target.now) run tags.old step) result tags.new }
-{
-    if is_open(run) {
-        return match step {
-            Step::Remove { place, number } => remove(
-                listed, run, tags, source, target, place, number,
-            ),
-            Step::Swap { place } => swap(listed, run, tags, source, target, place),
-            Step::Insert { place } => insert(listed, run, tags, source, target, place),
-            Step::Done => refuse(run),
-            Step::Stuck => refuse(run),
-        };
-    }
-    refuse(run)
+    run.begun && run.standing <= EVENT_LIMIT
 }
 
 // The trace after a step, or that the rules do not allow it under a list of registers: the matching plays no part.
@@ -88,8 +59,20 @@ pub fn apply_listed(
         (outcome_by (view_in listed.now) (whole_events source.now) (whole_events target.now) run tags.old step)
         result tags.new }
 {
-    let t = &mut tags[..];
-    apply_in(listed, run, t, source, target, step)
+    if !is_open(run) {
+        return refuse(run);
+    }
+    let ground = Ground {
+        listed,
+        source,
+        target,
+    };
+    match step {
+        Step::Remove { place, number } => ground.remove(run, tags, place, number),
+        Step::Swap { place } => ground.swap(run, tags, place),
+        Step::Insert { place } => ground.insert(run, tags, place),
+        Step::Done | Step::Stuck => refuse(run),
+    }
 }
 
 // The same without a list: none is listed.

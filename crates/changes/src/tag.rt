@@ -6,23 +6,32 @@ ghost use Rattle.changes.specs.Tags.{decoded, event_for};
 
 use event::room::get;
 use event::{EVENT_LIMIT, Event, Word};
+use memory::listed::Listed;
 
-// The event of a number.
-pub(crate) fn event_of(source: &[Word], target: &[Word], tag: usize) -> Event
-    ensures { result ≡ event_for (whole_events source.now) (whole_events target.now) tag }
-{
-    if tag < EVENT_LIMIT {
-        return get(source, tag);
+// What the numbers of a run are read by: the list of registers, and the rooms of the source and of the target.
+#[derive(Clone, Copy)]
+pub(crate) struct Ground<'a> {
+    pub listed: &'a Listed,
+    pub source: &'a [Word],
+    pub target: &'a [Word],
+}
+
+impl<'a> Ground<'a> {
+    // The event of a number.
+    #[tactic(auto, using(sight::proofs::Events::room_at))]
+    pub(crate) fn event_of(self, tag: usize) -> Event
+        ensures { result ≡ event_for (whole_events self.entry.source.now) (whole_events self.entry.target.now) tag }
+    {
+        if tag < EVENT_LIMIT {
+            return get(self.source, tag);
+        }
+        get(self.target, tag - EVENT_LIMIT)
     }
-    get(target, tag - EVENT_LIMIT)
 }
 
 // Whether its event is the source event of a number.
 pub(crate) fn is_source(number: usize, tag: usize) -> bool
     ensures { result ≡ is_source number (decoded tag) }
 {
-    if tag < EVENT_LIMIT {
-        return tag + 1 == number;
-    }
-    false
+    tag < EVENT_LIMIT && tag + 1 == number
 }
