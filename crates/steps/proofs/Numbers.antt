@@ -1,30 +1,17 @@
--- An event is gone exactly if its target number is 0: an inserted event has one. Assumes nothing.
-use mathlib.Core.Path.{◌≡◌, refl, sym}
+-- A gone event is the source's, and its number that of its index. Assumes nothing.
+use mathlib.Core.Path.{◌≡◌, refl}
 use mathlib.Core.Bool.{Bool, true, false, cond, false≢true}
 use Prim.Native.Nat.{ℕ, zero, suc, ◌-◌, ◌<◌}
 use mathlib.Core.List.{List, [], ◌∷◌}
-use lib.Dec.{eqb, ltb, eqb-suc-zero}
+use lib.Dec.{ltb}
 use native.Mathlib.Omega.{arith}
 use lib.ListN.{get_or, length}
 use borrow.Author.Tests.{ltb-true}
 use Rattle.event.specs.declared.Event.{Event}
-use Rattle.rules.specs.Fault.{is_gone}
 use Rattle.rules.specs.Run.{old, new}
 use Rattle.changes.specs.Tags.{decoded, trace}
-use Rattle.course.specs.Step.{leaves, number_at, source_number, target_number}
+use Rattle.course.specs.Step.{leaves, number_at, source_number}
 use Rattle.event.specs.Limit.{event_limit}
-
-zero_gone : (n : ℕ) → is_gone n ≡ eqb n 0
-zero_gone zero = refl
-zero_gone (suc n) = sym (eqb-suc-zero n)
-
-pub leaves_zero : (ns : List ℕ) (k : ℕ) → leaves ns (decoded k) ≡ eqb (target_number ns (decoded k)) 0
-leaves_zero ns k = go (ltb k event_limit)
-  where
-    go : (c : Bool) → leaves ns (cond c (old (suc k)) (new (suc (k - event_limit))))
-        ≡ eqb (target_number ns (cond c (old (suc k)) (new (suc (k - event_limit))))) 0
-    go true = zero_gone (get_or ns k 0)
-    go false = sym (eqb-suc-zero (k - event_limit))
 
 -- a gone event is the source's
 pub leaving_old : (ns : List ℕ) (k : ℕ) → leaves ns (decoded k) ≡ true → (k < event_limit) × (source_number (decoded k) ≡ suc k)

@@ -15,6 +15,7 @@ use Rattle.changes.specs.Tags.{codes}
 use Rattle.changes.specs.declared.Applied.{Applied}
 use Rattle.changes.specs.declared.Run.{Run}
 use Rattle.changes.specs.declared.Step.{Step}
+use Rattle.changes.specs.declared.Step.TheVariants.{Remove, Swap, Insert, Done, Stuck}
 use Rattle.changes.proofs.Changes.{fits}
 use Rattle.changes.proofs.Traces.{length_trace}
 use Rattle.steps.specs.Play.{Played, Plays, is_done, next_by, next_from_by, one_more, onward, play_by, stopped, swap_place}
@@ -61,7 +62,7 @@ module _ (look : Event → View) (s t : List Event) (ns : List ℕ) where
 
     pub few_after : length u ≤ event_limit
     few_after =
-        let f = fits s t r A opened.0 in
+        let f = fits r opened.0 in
         let k = take_few r.standing A in
         let m = length_trace s t (take r.standing A) in
         few_applied look t st (stands s t r A) u opened.1 (omega arith)
@@ -95,6 +96,14 @@ module _ (look : Event → View) (s t : List Event) (ns : List ℕ) where
 abbrev later : ℕ → Played → Played
 later k p = record { run = p.run; tags = p.tags; steps = k + p.steps; ended = p.ended }
 
+-- another step than the end
+pub not_done : (st : Step) → (st ≡ Done → ⊥) → is_done st ≡ false
+not_done (Remove i k) h = refl
+not_done (Swap i) h = refl
+not_done (Insert i) h = refl
+not_done Done h = absurd (h refl)
+not_done Stuck h = refl
+
 -- it stops
 stops_here : (p : Played) (r : Run) (A : List ℕ) (st : Step) (k : ℕ) → p ≡ later k (stopped r A st) → (result : Replayed)
     → result ≡ record { run = r; steps = k; ended = is_done st } → Plays p result A
@@ -105,17 +114,6 @@ pub record Going (look : Event → View) (s t : List Event) (ns : List ℕ) (bud
   pub bound : steps ≤ budget
   pub asked : next_by look s t ns swapped r A ≡ next_by look s t ns 0 r A
   pub same : p ≡ later steps (play_by look s t ns (budget - steps) r A)
-
-pub going : (look : Event → View) (s t : List Event) (ns : List ℕ) (budget : ℕ) (A : List ℕ) (r : Run)
-    → Going look s t ns budget (play_by look s t ns budget r A) A r 0 0
-going look s t ns budget A r = record {
-  bound = omega arith;
-  asked = refl;
-  same =
-      let e : budget ≡ budget - 0 = omega arith in
-      let z : (k : ℕ) → k ≡ 0 + k = λ k. omega arith in
-      ap (λ b. play_by look s t ns b r A) e ∙ rw (← z (play_by look s t ns (budget - 0) r A).steps);
-}
 
 going_as : (look : Event → View) (s t : List Event) (ns : List ℕ) (budget : ℕ) (p : Played) (B A : List ℕ) (q r : Run) (x y n k : ℕ) → B ≡ A
     → q ≡ r → x ≡ y → n ≡ k
@@ -157,12 +155,3 @@ module _ (look : Event → View) (s t : List Event) (ns : List ℕ) (budget : �
       let e : p ≡ later steps (stopped r A st) =
       g.same ∙ (ap (later steps) (play_off look s t ns (budget - steps) r A o) ∙ ap (λ x. later steps (stopped r A x)) (sym is_next)) in
       subst (λ z. Plays p result z) (sym d.1) (stops_here p r A st steps e result q)
-
-  -- the budget is spent
-  pub spent : budget ≤ steps → (result : Replayed) → result ≡ record { run = r; steps = steps; ended = is_done st } → Plays p result A
-  spent l result q =
-      let b = g.bound in
-      let c : budget - steps ≡ 0 = omega arith in
-      let e : p ≡ later steps (stopped r A st) =
-      g.same ∙ (ap (λ z. later steps (play_by look s t ns z r A)) c ∙ ap (λ x. later steps (stopped r A x)) (sym is_next)) in
-      stops_here p r A st steps e result q

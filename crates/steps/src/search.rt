@@ -1,5 +1,5 @@
 // The next step of the fixed order, on the trace as it stands.
-ghost use Rattle.std.specs.Prelude.{◌≡◌, List, [], ◌<◌};
+ghost use Rattle.std.specs.Prelude.{◌≡◌, List, []};
 ghost use Rattle.event.specs.declared.Event.{Event};
 ghost use Rattle.event.specs.Room.{whole_events};
 ghost use Rattle.rules.specs.View.{view_in};
@@ -16,14 +16,7 @@ use memory::listed::Listed;
 pub(crate) fn any_gone(tags: &[usize], entries: &[Entry]) -> bool
     ensures { (s t : List Event) → result ≡ any_gone entries.now (trace s t tags.now) }
 {
-    let mut i: usize = 0;
-    while i < tags.len() {
-        if is_leaving(entries, tags[i]) {
-            return true;
-        }
-        i += 1;
-    }
-    false
+    tags.iter().any(|tag| is_leaving(entries, *tag))
 }
 
 // The removal of the last gone event that may be removed.
@@ -37,17 +30,13 @@ pub(crate) fn removal_step(
     ensures { result ≡ remove_step (trace (whole_events source.now) (whole_events target.now) tags.now)
         (removal (view_in listed.now) entries.now [] (trace (whole_events source.now) (whole_events target.now) tags.now)) }
 {
-    let mut i = tags.len();
-    while 0 < i {
-        i -= 1;
+    for i in (0..tags.len()).rev() {
         let tag = tags[i];
-        if is_leaving(entries, tag) {
-            if may_remove(listed, tags, source, target, i) {
-                return Step::Remove {
-                    place: i + 1,
-                    number: tag + 1,
-                };
-            }
+        if is_leaving(entries, tag) && may_remove(listed, tags, source, target, i) {
+            return Step::Remove {
+                place: i + 1,
+                number: tag + 1,
+            };
         }
     }
     Step::Stuck
@@ -57,35 +46,28 @@ pub(crate) fn removal_step(
 fn missing_step(tags: &[usize], entries: &[Entry], targets: usize) -> Step
     ensures { (s t : List Event) → result ≡ missing entries.now targets 1 (trace s t tags.now) }
 {
-    let mut i: usize = 0;
-    while i < tags.len() {
-        let number = target_number(entries, tags[i]);
-        i += 1;
-        if number != i {
-            return Step::Insert { place: i };
+    for (i, tag) in tags.iter().enumerate() {
+        if target_number(entries, *tag) != i + 1 {
+            return Step::Insert { place: i + 1 };
         }
     }
-    if targets <= i {
+    if targets <= tags.len() {
         return Step::Done;
     }
-    Step::Insert { place: i + 1 }
+    Step::Insert {
+        place: tags.len() + 1,
+    }
 }
 
 // The swap at the first place from an index on that stands against the target's order, else an insertion.
 pub(crate) fn order_step(tags: &[usize], entries: &[Entry], targets: usize, from: usize) -> Step
     ensures { (s t : List Event) → result ≡ order_step entries.now targets from (trace s t tags.now) }
 {
-    let count = tags.len();
-    if count == 0 {
-        return missing_step(tags, entries, targets);
-    }
-    let mut i = from;
-    while i < count - 1 {
-        let next = i + 1;
-        if is_overtaking(entries, tags[i], tags[next]) {
-            return Step::Swap { place: next };
+    for i in from..tags.len().saturating_sub(1) {
+        let place = i + 1;
+        if is_overtaking(entries, tags[i], tags[place]) {
+            return Step::Swap { place };
         }
-        i = next;
     }
     missing_step(tags, entries, targets)
 }

@@ -30,8 +30,5 @@ pub(crate) fn is_overtaking(entries: &[Entry], tag: usize, next: usize) -> bool
     ensures { result ≡ overtakes entries.now (decoded tag) (decoded next) }
 {
     let number = target_number(entries, next);
-    if number == 0 {
-        return false;
-    }
-    number < target_number(entries, tag)
+    number != 0 && number < target_number(entries, tag)
 }
