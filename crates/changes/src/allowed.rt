@@ -137,7 +137,7 @@ impl<'a> Ground<'a> {
     }
 }
 
-// Whether the event at an index may be removed; beyond the end there is none.
+// The same for other crates, in parameters of their own: the pages name the function with them.
 pub fn may_remove(
     listed: &Listed,
     tags: &[usize],

@@ -16,6 +16,7 @@ use memory::listed::Listed;
 use tag::Ground;
 
 // A step of a run: places count from 1 in the trace as it stands, `number` is the source event's; an inserted event's place is its target number.
+// `Done` and `Stuck` are no Option and no error: document 02 and the kinds of a step that C hands over name them as steps.
 #[derive(Clone, Copy)]
 pub enum Step {
     Remove { place: usize, number: usize },
@@ -32,7 +33,7 @@ pub struct Run {
     pub standing: usize,
 }
 
-// What comes of a step: the run after it, and whether it was allowed.
+// What comes of a step: the run after it, and whether it was allowed. The flag stays beside the run: a refused step hands back the run too, and so does C.
 #[derive(Clone, Copy)]
 pub struct Applied {
     pub run: Run,

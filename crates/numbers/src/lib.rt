@@ -1,4 +1,5 @@
 // How what the library hands back lies in the arrays of numbers that C and Rust lend: answers and counts, forms, marks, runs and steps; and back.
+// Functions, and no impls of From: no type here is this crate's own, which From asks for, and the pages name the functions.
 #![tactic(auto)]
 
 ghost use Rattle.std.specs.Prelude.{◌≡◌};
@@ -90,10 +91,7 @@ pub fn started_numbers(
 pub fn flag_of(b: bool) -> usize
     ensures { result ≡ flag b }
 {
-    if b {
-        return 1;
-    }
-    0
+    usize::from(b)
 }
 
 // A run: whether it has begun, and how many events stand.
@@ -153,34 +151,22 @@ pub fn form_number(form: Form) -> Number
 pub fn form_numbered(n: Number) -> Form
     ensures { result ≡ form_numbered n }
 {
-    if n == 2 {
-        return Form::Two;
+    match n {
+        2 => Form::Two,
+        _ => Form::One,
     }
-    Form::One
 }
 
 // A number for each mark, 1 if it is set, else 0.
 pub fn marks_of(listed: Listed) -> [u8; PLACES]
     ensures { result ≡ marks listed }
 {
-    let mut numbers: [u8; PLACES] = [0; PLACES];
-    let mut i: usize = 0;
-    while i < PLACES {
-        numbers[i] = listed[i] as u8;
-        i += 1;
-    }
-    numbers
+    listed.map(|mark| u8::from(mark))
 }
 
 // A mark for each number, set unless it is 0.
 pub fn listed_of(numbers: [u8; PLACES]) -> Listed
     ensures { result ≡ listing numbers }
 {
-    let mut listed: Listed = [false; PLACES];
-    let mut place: usize = 0;
-    while place < PLACES {
-        listed[place] = numbers[place] != 0;
-        place += 1;
-    }
-    listed
+    numbers.map(|number| number != 0)
 }
