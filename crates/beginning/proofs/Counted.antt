@@ -1,11 +1,13 @@
 -- The numbers of the source's events, with which a run begins. Assumes nothing.
-use mathlib.Core.Path.{◌≡◌, refl, ◌∙◌, ap, ap₂}
+use mathlib.Core.Path.{◌≡◌, refl, sym, ◌∙◌, ap, ap₂}
 use mathlib.Core.Bool.{true}
 use mathlib.Core.List.{List, [], ◌∷◌, ◌++◌}
-use Prim.Native.Nat.{ℕ, zero, suc, ◌+◌, ◌≤◌}
+use Prim.Native.Nat.{ℕ, zero, suc, ◌+◌, ◌<◌, ◌≤◌}
+use native.Mathlib.Numerals.{add-one}
 use native.Mathlib.Omega.{arith}
 use lib.Dec.{ltb}
-use lib.ListN.{length}
+use lib.ListN.{length, get_or, set, drop}
+use lib.Seq.{append_snoc, drop-cons, set_at}
 use borrow.Author.Tests.{lt-ltb}
 use Rattle.event.specs.Room.{no_event}
 use Rattle.event.specs.declared.Event.{Event}
@@ -24,6 +26,15 @@ counted_next i zero = let e : i ≡ i + 0 = omega arith in ap (λ k. k ∷ []) e
 counted_next i (suc n) =
     let e : suc i + n ≡ i + suc n = omega arith in
     ap (λ l. i ∷ l) (counted_next (suc i) n ∙ ap (λ k. counted (suc i) n ++ (k ∷ [])) e)
+
+-- one number more written
+pub counted_set : (i : ℕ) (A : List ℕ) → i < length A → set (counted 0 i ++ drop i A) i i ≡ counted 0 (i + 1) ++ drop (i + 1) A
+counted_set i A h =
+    let z : 0 + i ≡ i = omega arith in
+    let q : counted 0 (suc i) ≡ counted 0 i ++ (i ∷ []) = counted_next 0 i ∙ ap (λ k. counted 0 i ++ (k ∷ [])) z in
+    let stored = set_at (counted 0 i) (get_or A i 0) (drop (suc i) A) i i (counted_length 0 i) in
+    rw (add-one i) (ap (λ l. set (counted 0 i ++ l) i i) (drop-cons A i 0 h)
+    ∙ (stored ∙ (sym (append_snoc (counted 0 i) i (drop (suc i) A)) ∙ ap (λ l. l ++ drop (suc i) A) (sym q))))
 
 trace_from : (s t : List Event) (i : ℕ) (r : List Event) → From no_event s i r → i + length r ≤ event_limit → trace s t (counted i (length r)) ≡ number (suc i) r
 trace_from s t i [] f l = refl

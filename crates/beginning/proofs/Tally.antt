@@ -1,41 +1,38 @@
 -- How the count goes on, entry by entry. Assumes nothing.
-use mathlib.Core.Path.{◌≡◌, refl, ◌∙◌, ap}
+use mathlib.Core.Path.{◌≡◌, refl, ◌∙◌, ap, ap₂}
 use mathlib.Core.Logic.{◌≢◌}
 use mathlib.Core.List.{List, [], ◌∷◌}
-use mathlib.Core.Bool.{Bool}
+use mathlib.Core.Bool.{Bool, true, false, cond, not, ◌&&◌}
+use lib.Dec.{eqb, ltb, eqb-suc-zero}
 use Prim.Native.Nat.{ℕ, zero, suc, ◌+◌, ◌*◌, ◌-◌, ◌≤◌, ◌<◌}
 use native.Mathlib.Omega.{arith}
-use lib.ListN.{length, get_or, drop, take, length-drop, drop_of_length-le}
+use lib.ListN.{length, get_or, drop, take, length-drop}
 use lib.Seq.{drop-cons, take_all}
-use borrow.Author.Tests.{le-ltb, lt-ltb}
+use borrow.Author.Tests.{le-ltb}
+use Rattle.std.specs.List.{filter}
 use Rattle.rules.specs.Fault.{is_gone}
 use Rattle.course.specs.Cost.{bit, is_kept, is_reversed, many, reversed}
 use Rattle.course.proofs.Counts.{few}
 
--- ---- a pair
+-- ---- the pairs of one entry
 
-pub gone_pair : (n k : ℕ) → k ≡ 0 → bit (is_reversed n k) ≡ 0
-gone_pair zero k h = refl
-gone_pair (suc n) zero h = refl
-gone_pair (suc n) (suc k) h = absurd (omega arith)
+-- the test of a later entry
+abbrev pub falls : ℕ → ℕ → Bool
+falls n k = not (eqb k 0) && ltb k n
 
-pub fallen : (n k : ℕ) → k ≢ 0 → k < n → bit (is_reversed n k) ≡ 1
-fallen zero k ne l = absurd (omega arith)
-fallen (suc n) zero ne l = absurd (ne refl)
-fallen (suc n) (suc k) ne l = ap bit (lt-ltb (suc k) (suc n) l)
+falls_is : (n k : ℕ) → falls n k ≡ is_reversed n k
+falls_is zero zero = refl
+falls_is zero (suc k) = rw (eqb-suc-zero k, le-ltb (suc k) 0 (omega arith)) refl
+falls_is (suc n) zero = refl
+falls_is (suc n) (suc k) = rw (eqb-suc-zero k) refl
 
-pub risen : (n k : ℕ) → n ≤ k → bit (is_reversed n k) ≡ 0
-risen zero k l = refl
-risen (suc n) zero l = refl
-risen (suc n) (suc k) l = ap bit (le-ltb (suc k) (suc n) l)
+bit_length : (b : Bool) (k : ℕ) (ks : List ℕ) → length (cond b (k ∷ ks) ks) ≡ bit b + length ks
+bit_length true k ks = omega arith
+bit_length false k ks = omega arith
 
--- ---- one entry more
-
-pub many_at : (p : ℕ → Bool) (l : List ℕ) (i : ℕ) → i < length l → many p (drop i l) ≡ bit (p (get_or l i 0)) + many p (drop (suc i) l)
-many_at p l i h = ap (many p) (drop-cons l i 0 h)
-
-pub many_end : (p : ℕ → Bool) (l : List ℕ) (i : ℕ) → length l ≤ i → many p (drop i l) ≡ 0
-many_end p l i h = ap (many p) (drop_of_length-le l h)
+pub many_filtered : (n : ℕ) (ks : List ℕ) → length (filter (falls n) ks) ≡ many (is_reversed n) ks
+many_filtered n [] = refl
+many_filtered n (k ∷ ks) = bit_length (falls n k) k (filter (falls n) ks) ∙ ap₂ (λ b m. bit b + m) (falls_is n k) (many_filtered n ks)
 
 -- the entries before an index are counted
 pub record Counted (ns : List ℕ) (steps kept i : ℕ) : Type 0 where
@@ -44,9 +41,6 @@ pub record Counted (ns : List ℕ) (steps kept i : ℕ) : Type 0 where
   pub kept_few : kept ≤ i
   pub so_far : many is_gone ns + reversed ns ≡ steps + (many is_gone (drop i ns) + reversed (drop i ns))
   pub kept_so_far : many is_kept ns ≡ kept + many is_kept (drop i ns)
-
-pub none_yet : (ns : List ℕ) → Counted ns 0 0 0
-none_yet ns = record { inside = omega arith; small = omega arith; kept_few = omega arith; so_far = omega arith; kept_so_far = omega arith }
 
 module _ (ns : List ℕ) (steps kept i : ℕ) (c : Counted ns steps kept i) (l : i < length ns) (few-all : length ns ≤ 800) where
   here : drop i ns ≡ get_or ns i 0 ∷ drop (suc i) ns
@@ -86,11 +80,3 @@ module _ (ns : List ℕ) (steps kept i : ℕ) (c : Counted ns steps kept i) (l :
       stands : (n : ℕ) → n ≢ 0 → (bit (is_gone n) ≡ 0) × (bit (is_kept n) ≡ 1)
       stands zero ne = absurd (ne refl)
       stands (suc n) ne = (refl, refl)
-
--- all are counted
-pub all_counted : (ns : List ℕ) (steps kept i : ℕ) → Counted ns steps kept i → length ns ≤ i → (many is_gone ns + reversed ns ≡ steps) × (many is_kept ns ≡ kept)
-all_counted ns steps kept i c l =
-    let d = drop_of_length-le ns l in
-    let a = c.so_far ∙ ap (λ ks. steps + (many is_gone ks + reversed ks)) d in
-    let b = c.kept_so_far ∙ ap (λ ks. kept + many is_kept ks) d in
-    (omega arith, omega arith)

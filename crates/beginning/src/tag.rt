@@ -8,9 +8,7 @@ pub(crate) fn fill(tags: &mut [usize], events: usize)
     requires { events ≤ length tags.old }
     ensures { tags.new ≡ front (counted 0 events) tags.old }
 {
-    let mut i: usize = 0;
-    while i < events {
-        tags[i] = i;
-        i += 1;
+    for (i, tag) in tags[..events].iter_mut().enumerate() {
+        *tag = i;
     }
 }
