@@ -1,13 +1,16 @@
 -- A check by its readings: the first that refuses decides and no room changes; where none does, the rooms are filled. Ahead of them, a list's. Assumes nothing.
 use Prim.Native.Nat.{ℕ}
-use mathlib.Core.Path.{◌≡◌, sym, ◌∙◌, ap}
+use mathlib.Core.Path.{◌≡◌}
 use mathlib.Core.Bool.{Bool}
 use mathlib.Core.List.{List}
 use borrow.Author.Tests.{ne_eqb}
 use Rattle.event.specs.declared.Answer.{Answer}
-use Rattle.trace.specs.Reading.{events_of, front}
-use Rattle.matching.specs.Reading.{entries_of, front as entry_front}
-use Rattle.registers.specs.Reading.{ListRead}
+use Rattle.event.specs.Told.{Refuses}
+use Rattle.trace.specs.Reading.{events_of, front, read_as, refused as trace_refused}
+use Rattle.memory.specs.declared.Memory.{Memory}
+use Rattle.trace.specs.declared.reading.Held.{Held}
+use Rattle.matching.specs.Reading.{entries_of, front as entry_front, refused as entries_refused}
+use Rattle.registers.specs.Reading.{ListRead, refused as refused_list, read_as as list_as}
 use Rattle.checker.specs.Check.{
   Lent,
   source_read_in,
@@ -17,6 +20,7 @@ use Rattle.checker.specs.Check.{
   verdict_for,
   held_of,
   refused,
+  HoldsTexts,
   check_in,
   source_room_in,
   target_room_in,
@@ -29,24 +33,29 @@ use Rattle.checker.specs.declared.Checked.{Checked}
 
 module _ (regs : List Bool) (l : Lent) where
   -- the source, the target or the matching refuses
-  pub by_source : ((source_read_in regs l).answer.number ≡ 0 → ⊥) → reading_answer_in regs l ≡ (source_read_in regs l).answer
-  unfolding reading_answer_in
-  by_source h = rw (ne_eqb _ _ h)
+  module _ (a : Answer) (r : Refuses a) where
+    pub by_source : trace_refused a ≡ source_read_in regs l → a ≡ reading_answer_in regs l
+    unfolding reading_answer_in
+    by_source q = rw (← q, r)
 
-  pub by_target : (source_read_in regs l).answer.number ≡ 0 → ((target_read_in regs l).answer.number ≡ 0 → ⊥) → reading_answer_in regs l ≡ (target_read_in regs l).answer
-  unfolding reading_answer_in
-  by_target s h = rw (s, ne_eqb _ _ h)
+    pub by_target : (n : ℕ) (m : Memory) → read_as n m ≡ source_read_in regs l → trace_refused a ≡ target_read_in regs l → a ≡ reading_answer_in regs l
+    unfolding reading_answer_in
+    by_target n m p q = rw (← p, ← q, r)
 
-  pub by_entries : (source_read_in regs l).answer.number ≡ 0 → (target_read_in regs l).answer.number ≡ 0 → reading_answer_in regs l ≡ (entries_read l).answer
-  unfolding reading_answer_in
-  by_entries s t = rw (s, t)
+    pub by_entries : (n k : ℕ) (m w : Memory) → read_as n m ≡ source_read_in regs l → read_as k w ≡ target_read_in regs l
+        → entries_refused a ≡ entries_read l → a ≡ reading_answer_in regs l
+    unfolding reading_answer_in
+    by_entries n k m w p q e = rw (← p, ← q, ← e)
 
-  pub checks_refused : (r : Checked) → ((reading_answer_in regs l).number ≡ 0 → ⊥) → r ≡ refused (reading_answer_in regs l)
-      → ChecksIn regs l r l.source_room_of l.target_room_of l.entry_room_of
-  unfolding check_in source_room_in target_room_in entry_room_in
-  checks_refused r h e =
-      let z = ne_eqb (reading_answer_in regs l).number 0 h in
-      record { result = rw z e; source = rw z; target = rw z; entries = rw z }
+    -- which is handed back
+    pub texts_refused : a ≡ reading_answer_in regs l → (r : Checked) → r ≡ refused a → ChecksIn regs l r l.source_room_of l.target_room_of l.entry_room_of
+    unfolding check_in source_room_in target_room_in entry_room_in
+    texts_refused q c e = record { result = rw (← q, r) e; source = rw (← q, r); target = rw (← q, r); entries = rw (← q, r) }
+
+  -- none refuses
+  pub texts_read : {read : Held × Held × ℕ} → HoldsTexts regs l read → (reading_answer_in regs l).number ≡ 0
+  unfolding reading_answer_in
+  texts_read h = rw (← h.source, ← h.target, ← h.entries)
 
   pub checks_judged : (r : Checked) (s t e : List ℕ) → (reading_answer_in regs l).number ≡ 0
       → r
@@ -55,11 +64,6 @@ module _ (regs : List Bool) (l : Lent) where
       → e ≡ entry_front (entries_of l.matching) l.entry_room_of → ChecksIn regs l r s t e
   unfolding check_in source_room_in target_room_in entry_room_in
   checks_judged r s t e z h p q k = record { result = rw z h; source = rw z p; target = rw z q; entries = rw z k }
-
-  -- a refusal that is handed back
-  pub refuses : (r : Checked) (a : Answer) → reading_answer_in regs l ≡ a → (a.number ≡ 0 → ⊥) → r ≡ refused a
-      → ChecksIn regs l r l.source_room_of l.target_room_of l.entry_room_of
-  refuses r a e h p = checks_refused r (λ z. h (rw e at z)) (p ∙ ap refused (sym e))
 
 -- with the text of a list: it refuses, or the check is the one under what it lists
 module _ (list : ListRead) (l : Lent) where
@@ -71,12 +75,11 @@ module _ (list : ListRead) (l : Lent) where
   unfolding check_listed
   by_refused h = rw (ne_eqb _ _ h)
 
-  pub listed_refused : (r : Checked) → (list.answer.number ≡ 0 → ⊥) → r ≡ refused list.answer
-      → ChecksListed list l r l.source_room_of l.target_room_of l.entry_room_of
-  listed_refused r h e =
-      let z = ne_eqb list.answer.number 0 h in
-      record { result = e ∙ sym (by_refused h); source = rw z; target = rw z; entries = rw z }
+  pub listed_refused : (a : Answer) → Refuses a → refused_list a ≡ list → (r : Checked) → r ≡ refused a → ChecksListed list l r l.source_room_of l.target_room_of l.entry_room_of
+  unfolding check_listed
+  listed_refused a r q c e = record { result = rw (← q, r) e; source = rw (← q, r); target = rw (← q, r); entries = rw (← q, r) }
 
-  pub listed_checks : (r : Checked) (s t e : List ℕ) → list.answer.number ≡ 0 → ChecksIn list.listed l r s t e → ChecksListed list l r s t e
-  listed_checks r s t e z c =
-      record { result = c.result ∙ sym (by_list z); source = rw z c.source; target = rw z c.target; entries = rw z c.entries }
+  pub listed_checks : (marks : List Bool) (r : Checked) (s t e : List ℕ) → list_as marks ≡ list → ChecksIn marks l r s t e → ChecksListed list l r s t e
+  unfolding check_listed
+  listed_checks marks r s t e q c =
+      record { result = rw (← q) c.result; source = rw (← q) c.source; target = rw (← q) c.target; entries = rw (← q) c.entries }

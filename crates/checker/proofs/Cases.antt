@@ -9,7 +9,7 @@ use Rattle.text.specs.Cut.{cut}
 use Rattle.text.specs.Number.{all_digits, value_on, digits_on, number_of}
 use Rattle.text.specs.Word.{bytes, same_bytes}
 use Rattle.record.specs.Layout.{number_in}
-use Rattle.record.specs.Record.{number_if, order_if, event_rest, init_rest, unless_silent, record_of}
+use Rattle.record.specs.Record.{number_if, order_if, event_by, event_rest, init_rest, unless_silent, record_of}
 use Rattle.uses.specs.Cover.{lined}
 use Rattle.trace.specs.Fault.{cover_fault}
 use Rattle.uses.specs.Use.{uses}
@@ -31,7 +31,7 @@ cases : (all_hold table ≡ true)
     × ((all_hold counters ≡ true) × ((all_hold zeros ≡ true) × ((all_hold exchanges ≡ true) × (all_listed registers ≡ true))))
 unfolding check_listed list_of is_grouped regs_of reg_of after_word group_rest reg_rest marked check_in reading_answer_in verdict_for verdict_in start_answer_in count_answer entry_answer
     source_answer target_answer read_in survey_in form_of fault_in text_fault head_fault lines_fault said_in start_in events_of inits_of cover_fault lined first_bad
-    event_fault_in uses record_of event_rest init_rest unless_silent number_if order_if number_in matching_read matching_survey entries_of entry_of keep_rest
+    event_fault_in uses record_of event_by event_rest init_rest unless_silent number_if order_if number_in matching_read matching_survey entries_of entry_of keep_rest
     gone_rest number_of digits_on value_on all_digits cut same_bytes stepped after latest lawful takes row
 cases = (refl, (refl, (refl, (refl, refl))))
 
@@ -61,6 +61,6 @@ pub P10_lines :
     ≡ bytes "unlock\t0")
     × (offending_line (bytes "trace\t2\nstore\t1\t5\t80\nunlock\t0\t81\n") (bytes "trace\t1\nunlock\t0\nstore\t1\t5\n") (answer 12 1 2)
     ≡ bytes "unlock\t0\t81")
-unfolding offending fault_side form_of line_of nth_line standing counted record_of event_rest init_rest number_if order_if number_in number_of
+unfolding offending fault_side form_of line_of nth_line standing counted record_of event_by event_rest init_rest number_if order_if number_in number_of
     digits_on value_on all_digits cut same_bytes lawful takes row
 P10_lines = (refl, refl)

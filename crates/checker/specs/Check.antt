@@ -1,23 +1,20 @@
 -- Document 01, "Numbers that come back", its order, and "Lent room", and document 02, C-16: a check of three texts, under a list of registers, which without a
 -- list lists none. Assumes nothing.
-use Rattle.std.specs.Prelude.{ℕ, Bool, cond, List, ◌≡◌, eqb}
+use Rattle.std.specs.Prelude.{ℕ, Bool, cond, List, ◌≡◌, eqb, Result, MatchResult}
 use Rattle.event.specs.Room.{whole_events}
 use Rattle.event.specs.Answer.{first}
 use Rattle.memory.specs.Listed.{none_listed}
 use Rattle.memory.specs.Memory.{empty}
 use Rattle.event.specs.declared.Answer.{Answer}
-use Rattle.trace.specs.Reading.{events_of, front}
-use Rattle.trace.specs.Reading.{read_in as trace_read}
+use Rattle.event.specs.Told.{Refuses}
+use Rattle.trace.specs.Reading.{TraceRead, events_of, front, read_in as trace_read, read_as}
 use Rattle.trace.specs.Listed.{unless_listed}
-use Rattle.trace.specs.Reading.{TraceRead}
-use Rattle.matching.specs.Reading.{entries_of}
-use Rattle.matching.specs.Reading.{read_of as matching_read, front as entry_front}
-use Rattle.matching.specs.declared.MatchingRead.{MatchingRead}
+use Rattle.trace.specs.declared.reading.Held.{Held}
+use Rattle.matching.specs.Reading.{MatchingRead, entries_of, read_of as matching_read, read_as as entries_as, front as entry_front}
 use Rattle.frame.specs.Reading.{settle}
 use Rattle.registers.specs.Reading.{ListRead}
 use Rattle.rules.specs.Verdict.{verdict_in}
 use Rattle.checker.specs.declared.Checked.{Checked}
-use Rattle.checker.specs.declared.Held.{Held}
 
 -- Three texts and the three rooms lent for them.
 pub record Lent : Type 0 where
@@ -71,12 +68,12 @@ module _ (regs : List Bool) where
       (record { answer = verdict_for l; source = held_of (source_read_in l); target = held_of (target_read_in l); entries = (entries_read l).entries })
 
   -- What is handed back of two traces and a matching that were read, whose events and entries fill three rooms.
-  unfoldable pub judged_in : TraceRead → TraceRead → ℕ → List ℕ → List ℕ → List ℕ → Checked
+  unfoldable pub judged_in : Held → Held → ℕ → List ℕ → List ℕ → List ℕ → Checked
   judged_in s t n source_room_of target_room_of entry_room_of = record {
     answer =
         verdict_in regs s.memory.cells t.memory.cells (whole_events source_room_of) (whole_events target_room_of) entry_room_of;
-    source = held_of s;
-    target = held_of t;
+    source = s;
+    target = t;
     entries = n;
   }
 
@@ -92,6 +89,16 @@ module _ (regs : List Bool) where
 
   unfoldable pub entry_room_in : Lent → List ℕ
   entry_room_in l = unless_refused l (entry_front (entries_of l.matching) l.entry_room_of) l.entry_room_of
+
+-- What is held of three texts that were read is what their readings say.
+pub record HoldsTexts (regs : List Bool) (l : Lent) (read : Held × Held × ℕ) : Type 0 where
+  pub source : read_as read.0.events read.0.memory ≡ source_read_in regs l
+  pub target : read_as read.1.events read.1.memory ≡ target_read_in regs l
+  pub entries : entries_as read.2 ≡ entries_read l
+
+-- What the reading of three texts hands back: what is held of them, or the first refusal.
+abbrev pub ReadsTexts : List Bool → Lent → Result (Held × Held × ℕ) Answer → Type 0
+ReadsTexts regs l result = MatchResult result (HoldsTexts regs l) (λ a. Refuses a × (a ≡ reading_answer_in regs l))
 
 -- What a check is to hand back and to leave in the three rooms.
 pub record ChecksIn (regs : List Bool) (l : Lent) (r : Checked) (source_room_of target_room_of entry_room_of : List ℕ) : Type 0 where

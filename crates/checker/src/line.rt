@@ -23,7 +23,7 @@ use event::{Answer, Number, Word};
 use kinds::is_in;
 use record::form::Form;
 use record::{Record, record_of};
-use text::line::{LineStep, next_line};
+use text::line::next_line;
 use trace::form::form_of;
 
 // A part of a text, from one place to another.
@@ -33,34 +33,29 @@ pub struct Span {
     pub to: usize,
 }
 
-fn is_event(line: Record) -> bool
+// The part where there is none to name: an empty one.
+const NOWHERE: Span = Span { from: 0, to: 0 };
+
+// Whether a line is an event.
+fn is_event(line: Option<Record>) -> bool
     ensures { result ≡ is_event line }
 {
-    match line {
-        Record::AnEvent(_) => true,
-        Record::Init { place: _, value: _ } => false,
-        Record::Refused => false,
-    }
+    matches!(line, Some(Record::AnEvent(_)))
 }
 
 // Whether a line of a text of a form is counted: every line, or only those that are events.
+#[tactic(auto, unfolding(crate::specs::Line::counted))]
 fn is_counted(form: Form, only: bool, line: &[u8]) -> bool
     ensures { result ≡ counted form only line.now }
 {
-    if only {
-        return is_event(record_of(form, line));
-    }
-    true
+    !only || is_event(record_of(form, line))
 }
 
 // Whether a line that is counted or not is the one that is sought, of which `left` are left to count.
 fn ends_here(hit: bool, left: usize) -> bool
     ensures { result ≡ (hit && eqb left 1) }
 {
-    if hit {
-        return left == 1;
-    }
-    false
+    hit && left == 1
 }
 
 // How many are left to count after a line.
@@ -68,27 +63,22 @@ fn left_after(hit: bool, left: usize) -> usize
     requires { 1 ≤ left }
     ensures { result ≡ cond hit (left - 1) left }
 {
-    if hit {
-        return left - 1;
-    }
-    left
+    if hit { left - 1 } else { left }
 }
 
 // The k-th line that is counted, from 1; an empty part if there are not so many. What stands after the last LF counts too: where it is not empty, 2 names it.
+#[tactic(auto, using(text::proofs::Walk::line_in))]
 fn span_of(text: &[u8], only: bool, k: usize) -> Span
     ensures spans { Spans text.now (nth_line (form_of text.now) only k (standing 0 (split text.now))).line result }
     ensures value { result ≡ (nth_line (form_of text.now) only k (standing 0 (split text.now))).place }
 {
     if k == 0 {
-        return Span { from: 0, to: 0 };
+        return NOWHERE;
     }
     let form = form_of(text);
     let mut at: usize = 0;
     let mut left = k;
-    loop {
-        let LineStep::Line { to } = next_line(text, at) else {
-            break;
-        };
+    while let Some(to) = next_line(text, at) {
         let hit = is_counted(form, only, &text[at..to]);
         if ends_here(hit, left) {
             return Span { from: at, to };
@@ -96,14 +86,14 @@ fn span_of(text: &[u8], only: bool, k: usize) -> Span
         left = left_after(hit, left);
         at = to + 1;
     }
-    let rest = is_counted(form, only, &text[at..text.len()]);
+    let rest = is_counted(form, only, &text[at..]);
     if ends_here(rest, left) {
         return Span {
             from: at,
             to: text.len(),
         };
     }
-    Span { from: 0, to: 0 }
+    NOWHERE
 }
 
 // Whether the place of an answer of this number is a line.
@@ -121,6 +111,7 @@ fn is_at_an_event(number: Number) -> bool
 }
 
 // The part of a text that an answer's number and place name.
+#[tactic(auto, unfolding(crate::specs::Line::line_of))]
 fn fault_span(text: &[u8], number: Number, place: usize) -> Span
     ensures spans { Spans text.now (line_of number place text.now).line result }
     ensures value { result ≡ (line_of number place text.now).place }
@@ -131,36 +122,32 @@ fn fault_span(text: &[u8], number: Number, place: usize) -> Span
     if is_at_an_event(number) {
         return span_of(text, true, place);
     }
-    Span { from: 0, to: 0 }
+    NOWHERE
 }
 
 // The side whose text has the line at fault: none where the number has no line.
+#[tactic(auto, unfolding(crate::specs::Line::fault_side))]
 fn fault_side(answer: Answer) -> Number
     ensures { result ≡ fault_side answer }
 {
-    if is_at_a_line(answer.number) {
-        return answer.side;
-    }
-    if is_at_an_event(answer.number) {
+    if is_at_a_line(answer.number) || is_at_an_event(answer.number) {
         return answer.side;
     }
     0
 }
 
 // Where the offending line of a check stands, without its LF, in the text of its side; else an empty part of the source.
+#[tactic(auto, unfolding(crate::specs::Line::offending))]
 pub fn offending_span(source: &[u8], target: &[u8], answer: Answer) -> Span
     ensures spans { Spans (fault_text source.now target.now answer)
         (offending_line source.now target.now answer) result }
     ensures value { result ≡ offending_span source.now target.now answer }
 {
-    let side = fault_side(answer);
-    if side == 1 {
-        return fault_span(source, answer.number, answer.place);
+    match fault_side(answer) {
+        1 => fault_span(source, answer.number, answer.place),
+        2 => fault_span(target, answer.number, answer.place),
+        _ => NOWHERE,
     }
-    if side == 2 {
-        return fault_span(target, answer.number, answer.place);
-    }
-    Span { from: 0, to: 0 }
 }
 
 // The offending line of a check, without its LF, as that part of the source or target text; else an empty part of the source.
@@ -169,9 +156,7 @@ pub fn offending_line<'a>(source: &'a [u8], target: &'a [u8], answer: Answer) ->
     ensures begins { Begins result.ref_ptr (cond (eqb (fault_side answer) 2) target.entry.ref_ptr source.entry.ref_ptr)
         (offending_span source.now target.now answer).from }
 {
-    let span = offending_span(source, target, answer);
-    let from = span.from;
-    let to = span.to;
+    let Span { from, to } = offending_span(source, target, answer);
     if fault_side(answer) == 2 {
         return &target[from..to];
     }
