@@ -2,33 +2,39 @@
 use crate::print::{print_answer_line, print_line};
 use checker::check_in;
 use checker::line::offending_line;
-use event::{Answer, EVENT_LIMIT, Entry, Word};
+use event::{Answer, EVENT_LIMIT, Entry, WORDS, Word};
 use memory::listed::Listed;
 
-// What the check of a source and a target found.
-pub(crate) fn print_found<'a>(rt: &impl Print, source: &'a [u8], target: &'a [u8], answer: Answer) {
-    print_answer_line(rt, b"accepted", answer);
-    print_line(rt, offending_line(source, target, answer));
+// The most words of a trace's events.
+pub const ROOM: usize = 4800;
+
+// The three texts of a check.
+#[derive(Clone, Copy)]
+pub struct Texts<'a> {
+    pub source: &'a [u8],
+    pub target: &'a [u8],
+    pub matching: &'a [u8],
 }
 
-pub(crate) fn print_check<'a>(
-    rt: &impl Print,
-    listed: &Listed,
-    source: &'a [u8],
-    target: &'a [u8],
-    matching: &[u8],
-) {
-    let mut source_room: [Word; 4800] = [0; 4800];
-    let mut target_room: [Word; 4800] = [0; 4800];
+// What the check of a source and a target found.
+pub(crate) fn print_found(rt: &impl Print, texts: Texts<'_>, answer: Answer) {
+    print_answer_line(rt, "accepted", answer);
+    print_line(rt, offending_line(texts.source, texts.target, answer));
+}
+
+// The answer to three texts, and the line at fault.
+pub fn print_check(rt: &impl Print, listed: &Listed, texts: Texts<'_>) {
+    let mut source_room: [Word; ROOM] = [0; ROOM];
+    let mut target_room: [Word; ROOM] = [0; ROOM];
     let mut entry_room: [Entry; EVENT_LIMIT] = [0; EVENT_LIMIT];
     let checked = check_in(
         listed,
-        source,
-        target,
-        matching,
+        texts.source,
+        texts.target,
+        texts.matching,
         &mut source_room,
         &mut target_room,
         &mut entry_room,
     );
-    print_found(rt, source, target, checked.answer);
+    print_found(rt, texts, checked.answer);
 }

@@ -3,7 +3,8 @@
 #![tactic(auto)]
 
 pub mod args;
-mod check;
+pub mod check;
+pub mod filled;
 pub mod list;
 pub mod moving;
 pub mod print;

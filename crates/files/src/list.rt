@@ -1,31 +1,36 @@
 // The list of registers of a call: what its file says, or that none is listed.
-use crate::args::{Options, word_at, word_buffer};
-use crate::read::{read_file, text_buffer};
+use crate::args::{Options, word_at};
+use crate::read::read_text;
 use event::{Answer, PLACES, Word};
-use registers::ListRead;
+use memory::listed::Listed;
 use std::rt::{Env, Files};
 
-// Without a list nothing is refused, and none is listed.
-pub fn no_list() -> ListRead {
-    ListRead {
-        answer: Answer::new(0, 0, 0),
-        listed: [false; PLACES],
+// Without a list none is listed.
+pub const NO_LIST: Listed = [false; PLACES];
+
+// The group that is meant where none is named.
+const FIRST_GROUP: Word = 1;
+
+// A list read for a group: the locations that it lists, or the answer that refuses it.
+pub fn read_list(list: &[u8], group: Word) -> Result<Listed, Answer> {
+    let read = registers::read(list, group);
+    if read.answer.number != 0 {
+        return Err(read.answer);
     }
+    Ok(read.listed)
 }
 
 // The list in the file of this name, for a group.
-pub fn list_of(rt: &impl Files, name: &[u8], group: Word) -> ListRead {
-    let mut list = text_buffer();
-    let bytes = read_file(rt, name, &mut list);
-    registers::read(&list[..bytes], group)
+pub fn list_of(rt: &impl Files, name: &[u8], group: Word) -> Result<Listed, Answer> {
+    let list = read_text(rt, name);
+    read_list(list.as_slice(), group)
 }
 
-// The list that the options of a call name; the word at place 0 names none.
-pub fn list_given(rt: &(impl Env + Files), options: Options) -> ListRead {
-    if options.list == 0 {
-        return no_list();
-    }
-    let mut name = word_buffer();
-    let bytes = word_at(rt, options.list, &mut name);
-    list_of(rt, &name[..bytes], options.group)
+// The list that the options of a call name; without one nothing is refused.
+pub fn list_given(rt: &(impl Env + Files), options: Options) -> Result<Listed, Answer> {
+    let Some(place) = options.list else {
+        return Ok(NO_LIST);
+    };
+    let name = word_at(rt, place);
+    list_of(rt, name.as_slice(), options.group.unwrap_or(FIRST_GROUP))
 }

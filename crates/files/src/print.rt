@@ -6,40 +6,31 @@ pub fn print(rt: &impl Print, text: &[u8]) {
     let _ = rt.write_all(text);
 }
 
-// The bytes at the front, of as many as there are.
-pub(crate) fn front(bytes: &[u8], count: usize) -> &[u8] {
-    if bytes.len() < count {
-        return bytes;
-    }
-    &bytes[0..count]
-}
-
-// A number, with the tab before it.
-pub fn print_number(rt: &impl Print, n: u64) {
-    let _ = print!(rt; "\t{n}");
+// The elements at the front, of as many as there are.
+pub(crate) fn front<T>(room: &[T], count: usize) -> &[T] {
+    &room[..count.min(room.len())]
 }
 
 // An answer's number, side and place, and the end of the line.
 pub fn print_answer(rt: &impl Print, answer: Answer) {
-    print_number(rt, answer.number as u64);
-    print_number(rt, answer.side as u64);
-    print_number(rt, answer.place as u64);
-    print(rt, b"\n");
+    let Answer {
+        number,
+        side,
+        place,
+    } = answer;
+    let _ = println!(rt; "\t{number}\t{side}\t{place}");
 }
 
 // The answer line of a program: its word for number 0, else `refused`, and the answer.
-pub(crate) fn print_answer_line(rt: &impl Print, done: &[u8], answer: Answer) {
-    if answer.number == 0 {
-        print(rt, done);
-    } else {
-        print(rt, b"refused");
-    }
+pub(crate) fn print_answer_line(rt: &impl Print, done: &str, answer: Answer) {
+    let word = if answer.number == 0 { done } else { "refused" };
+    print(rt, word.as_bytes());
     print_answer(rt, answer);
 }
 
 // A line, if there is one.
 pub fn print_line(rt: &impl Print, line: &[u8]) {
-    if line.len() != 0 {
+    if !line.is_empty() {
         print(rt, line);
         print(rt, b"\n");
     }

@@ -1,25 +1,19 @@
-// Named files, read into buffers. A file that can't be opened counts as an empty text.
-ghost use Rattle.std.specs.Prelude.{◌≡◌, length};
+// Named files, read into rooms. A file that can't be opened counts as an empty text.
+ghost use Rattle.std.specs.Prelude.{◌≤◌, length};
 ghost use Rattle.files.specs.Counts.{IsPrefixLen};
 
+use crate::filled::Filled;
 use std::fs::File;
 use std::io;
 use std::io::Read;
 use std::rt::Files;
 
 // One byte more than the longest text, a trace of form 2: a longer file is answer 1 whatever its size.
-pub fn text_buffer() -> [u8; 57301]
-    ensures { 57301 ≡ length result }
-{
-    [0; 57301]
-}
+pub const TEXT: usize = 57301;
 
 // The name of a file as std takes it: one that is not UTF-8 counts as that of a file that can't be opened.
 pub(crate) fn path_of(name: &[u8]) -> io::Result<&str> {
-    match str::from_utf8(name) {
-        Ok(path) => Ok(path),
-        Err(_) => Err(io::Error::from(io::ErrorKind::InvalidFilename)),
-    }
+    str::from_utf8(name).map_err(|_| io::Error::from(io::ErrorKind::InvalidFilename))
 }
 
 fn opened<R: Files>(rt: &R, name: &[u8]) -> io::Result<R::File> {
@@ -30,10 +24,7 @@ fn opened<R: Files>(rt: &R, name: &[u8]) -> io::Result<R::File> {
 fn read_once(file: &mut impl Read, buf: &mut [u8]) -> usize
     ensures { IsPrefixLen result buf.new }
 {
-    match file.read(buf) {
-        Ok(bytes) => bytes,
-        Err(_) => 0,
-    }
+    file.read(buf).unwrap_or(0)
 }
 
 // Reads until the lent bytes are full or a read puts none there.
@@ -51,12 +42,19 @@ fn read_full(file: &mut impl Read, buf: &mut [u8]) -> usize
     done
 }
 
-// The bytes of a file.
-pub fn read_file(rt: &impl Files, name: &[u8], buf: &mut [u8]) -> usize
-    ensures { IsPrefixLen result buf.new }
+// The bytes of a file, as many as the room holds.
+pub fn read_file<const N: usize>(rt: &impl Files, name: &[u8], room: &mut Filled<N>)
+    ensures { length room.new ≤ N }
 {
-    match opened(rt, name) {
+    room.fill(|buf| match opened(rt, name) {
         Ok(mut file) => read_full(&mut file, buf),
         Err(_) => 0,
-    }
+    });
+}
+
+// The text in a file.
+pub fn read_text(rt: &impl Files, name: &[u8]) -> Filled<TEXT> {
+    let mut text = Filled::new();
+    read_file(rt, name, &mut text);
+    text
 }

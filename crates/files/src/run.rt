@@ -1,240 +1,186 @@
 // What the program `laprunto_run` prints of three texts under a list of registers: what `laprunto` prints, and of an accepted matching how many steps there
 // are and every one of them. The lines of the steps are gathered and written in blocks.
-use crate::check::print_found;
+use crate::check::{ROOM, Texts, print_found};
+use crate::filled::Filled;
 use crate::print::{front, print};
 use beginning::{Started, start_in};
 use changes::{Run, Step, apply_listed};
-use event::{EVENT_LIMIT, Entry, WORDS, Word};
+use event::{Answer, EVENT_LIMIT, Entry, WORDS, Word};
 use memory::listed::Listed;
+use std::fmt::Write;
 use steps::{next_listed, swap_place};
-use text::write::{DIGITS, put_number};
 use writer::put::write_event;
 
-// The most bytes of a step's line.
+// The bytes that a step's line has room for.
 pub const LINE: usize = 64;
 
-// Bytes put at a place; what comes back is the place after those that fit.
-fn put(out: &mut [u8], at: usize, bytes: &[u8]) -> usize {
-    let mut next = at;
-    let mut i: usize = 0;
-    while i < bytes.len() {
-        if out.len() <= next {
-            return next;
-        }
-        out[next] = bytes[i];
-        next += 1;
-        i += 1;
-    }
-    next
-}
-
-// A tab and a number.
-fn put_field(out: &mut [u8], at: usize, n: usize) -> usize {
-    let mut digits: [u8; DIGITS] = [0; DIGITS];
-    let size = put_number(&mut digits, n as u64);
-    let after = put(out, at, b"\t");
-    put(out, after, front(&digits, size))
-}
+// The bytes of steps that are written at once.
+const BLOCK: usize = 65536;
 
 // A tab and the line of the event of a number, with its LF.
-fn put_event(out: &mut [u8], at: usize, room: &[Word], number: usize) -> usize {
+fn put_event<const N: usize>(out: &mut Filled<N>, room: &[Word], number: usize) {
     let mut line: [u8; LINE] = [0; LINE];
-    let after = put(out, at, b"\t");
+    out.push(b"\t");
     if number == 0 {
-        return after;
+        return;
     }
     let size = write_event(room, number - 1, &mut line);
-    put(out, after, front(&line, size))
+    out.push(front(&line, size));
 }
 
 // The line of how many steps there are.
-pub fn put_count(out: &mut [u8], at: usize, steps: usize) -> usize {
-    let word = put(out, at, b"steps");
-    let after_steps = put_field(out, word, steps);
-    put(out, after_steps, b"\n")
+pub fn put_count<const N: usize>(out: &mut Filled<N>, steps: usize) {
+    let _ = writeln!(out, "steps\t{steps}");
 }
 
 // The line of a step.
-pub fn put_step(out: &mut [u8], at: usize, step: Step, source: &[Word], target: &[Word]) -> usize {
+pub fn put_step<const N: usize>(out: &mut Filled<N>, step: Step, source: &[Word], target: &[Word]) {
     match step {
         Step::Remove { place, number } => {
-            let word = put(out, at, b"remove");
-            let after_place = put_field(out, word, place);
-            let after_number = put_field(out, after_place, number);
-            put_event(out, after_number, source, number)
+            let _ = write!(out, "remove\t{place}\t{number}");
+            put_event(out, source, number);
         }
         Step::Swap { place } => {
-            let word = put(out, at, b"swap");
-            let after_place = put_field(out, word, place);
-            put(out, after_place, b"\n")
+            let _ = writeln!(out, "swap\t{place}");
         }
         Step::Insert { place } => {
-            let word = put(out, at, b"insert");
-            let after_place = put_field(out, word, place);
-            put_event(out, after_place, target, place)
+            let _ = write!(out, "insert\t{place}");
+            put_event(out, target, place);
         }
-        Step::Done => at,
-        Step::Stuck => at,
+        Step::Done | Step::Stuck => {}
     }
-}
-
-// The place for another line: what was gathered is written first where too little room is left for it.
-fn with_room(rt: &impl Print, out: &[u8], at: usize) -> usize {
-    if at < out.len() {
-        if LINE <= out.len() - at {
-            return at;
-        }
-    }
-    print(rt, front(out, at));
-    0
-}
-
-// How many steps there are, and every step, as it is applied: none of so many is refused.
-fn print_steps(
-    rt: &impl Print,
-    listed: &Listed,
-    begun: Run,
-    steps: usize,
-    tags: [usize; EVENT_LIMIT],
-    source: &[Word],
-    target: &[Word],
-    entries: &[Entry],
-    out: &mut [u8],
-) {
-    let mut standing = tags;
-    let mut run = begun;
-    let mut at = put_count(out, 0, steps);
-    let mut swapped: usize = 0;
-    let mut left = steps;
-    while 0 < left {
-        left -= 1;
-        let step = next_listed(listed, run, &standing, source, target, entries, swapped);
-        let applied = apply_listed(listed, run, &mut standing, source, target, step);
-        if !applied.allowed {
-            left = 0;
-            continue;
-        }
-        let after = applied.run;
-        run = after;
-        swapped = swap_place(step);
-        let free = with_room(rt, out, at);
-        at = put_step(out, free, step, source, target);
-    }
-    print(rt, front(out, at));
 }
 
 // The front of a room that holds so many events.
 fn events_of(room: &[Word], events: usize) -> &[Word] {
-    if room.len() / WORDS < events {
-        return room;
-    }
-    let end = events * WORDS;
-    &room[0..end]
+    front(room, events.saturating_mul(WORDS))
 }
 
-// A run in rooms that hold the most: how it begins, what the check stored, and which events stand.
+// A run in rooms that hold the most: how it began, what the check stored, which events stand, how far it is and where the last swap was.
 #[derive(Clone, Copy)]
 pub struct Begun {
-    pub started: Started,
-    pub source: [Word; 4800],
-    pub target: [Word; 4800],
-    pub entries: [Entry; EVENT_LIMIT],
-    pub tags: [usize; EVENT_LIMIT],
-}
-
-pub fn begin(listed: &Listed, source: &[u8], target: &[u8], matching: &[u8]) -> Begun {
-    let mut source_room: [Word; 4800] = [0; 4800];
-    let mut target_room: [Word; 4800] = [0; 4800];
-    let mut entry_room: [Entry; EVENT_LIMIT] = [0; EVENT_LIMIT];
-    let mut tags: [usize; EVENT_LIMIT] = [0; EVENT_LIMIT];
-    let started = start_in(
-        listed,
-        source,
-        target,
-        matching,
-        &mut source_room,
-        &mut target_room,
-        &mut entry_room,
-        &mut tags,
-    );
-    Begun {
-        started,
-        source: source_room,
-        target: target_room,
-        entries: entry_room,
-        tags,
-    }
-}
-
-// The part of the source's room that holds its events.
-pub fn source_of(started: Started, room: &[Word]) -> &[Word] {
-    let checked = started.checked;
-    let held = checked.source;
-    events_of(room, held.events)
-}
-
-// The part of the target's room that does.
-pub fn target_of(started: Started, room: &[Word]) -> &[Word] {
-    let checked = started.checked;
-    let held = checked.target;
-    events_of(room, held.events)
-}
-
-// The part of the room of entries that holds them.
-pub fn entries_of(started: Started, room: &[Entry]) -> &[Entry] {
-    let checked = started.checked;
-    let entries = checked.entries;
-    if room.len() < entries {
-        return room;
-    }
-    &room[0..entries]
-}
-
-// The steps of a run that has begun, with the rooms that the check filled.
-fn print_begun<'a>(
-    rt: &impl Print,
-    listed: &Listed,
     started: Started,
+    source: [Word; ROOM],
+    target: [Word; ROOM],
+    entries: [Entry; EVENT_LIMIT],
     tags: [usize; EVENT_LIMIT],
-    source_room: &'a [Word],
-    target_room: &'a [Word],
-    entry_room: &'a [Entry],
-) {
-    let mut out: [u8; 65536] = [0; 65536];
-    print_steps(
-        rt,
-        listed,
-        started.run,
-        started.cost,
-        tags,
-        source_of(started, source_room),
-        target_of(started, target_room),
-        entries_of(started, entry_room),
-        &mut out,
-    );
+    run: Run,
+    swapped: usize,
 }
 
-pub(crate) fn print_run<'a>(
-    rt: &impl Print,
-    listed: &Listed,
-    source: &'a [u8],
-    target: &'a [u8],
-    matching: &[u8],
-) {
-    let begun = begin(listed, source, target, matching);
-    let started = begun.started;
-    let checked = started.checked;
-    let answer = checked.answer;
-    print_found(rt, source, target, answer);
-    if answer.number == 0 {
-        print_begun(
-            rt,
+impl Begun {
+    pub fn new(listed: &Listed, texts: Texts<'_>) -> Self {
+        let mut source: [Word; ROOM] = [0; ROOM];
+        let mut target: [Word; ROOM] = [0; ROOM];
+        let mut entries: [Entry; EVENT_LIMIT] = [0; EVENT_LIMIT];
+        let mut tags: [usize; EVENT_LIMIT] = [0; EVENT_LIMIT];
+        let started = start_in(
             listed,
-            started,
-            begun.tags,
-            &begun.source,
-            &begun.target,
-            &begun.entries,
+            texts.source,
+            texts.target,
+            texts.matching,
+            &mut source,
+            &mut target,
+            &mut entries,
+            &mut tags,
         );
+        Begun {
+            started,
+            source,
+            target,
+            entries,
+            tags,
+            run: started.run,
+            swapped: 0,
+        }
+    }
+
+    // The answer of the check.
+    pub fn answer(&self) -> Answer {
+        self.started.checked.answer
+    }
+
+    // How many steps there are to its end.
+    pub fn cost(&self) -> usize {
+        self.started.cost
+    }
+
+    // The source's events.
+    pub fn source(&self) -> &[Word] {
+        events_of(&self.source, self.started.checked.source.events)
+    }
+
+    // The target's events.
+    pub fn target(&self) -> &[Word] {
+        events_of(&self.target, self.started.checked.target.events)
+    }
+
+    // The matching's entries.
+    fn entries(&self) -> &[Entry] {
+        front(&self.entries, self.started.checked.entries)
+    }
+
+    // The step that comes next.
+    fn next(&self, listed: &Listed) -> Step {
+        next_listed(
+            listed,
+            self.run,
+            &self.tags,
+            self.source(),
+            self.target(),
+            self.entries(),
+            self.swapped,
+        )
+    }
+
+    // Whether no step is left.
+    pub fn is_over(&self, listed: &Listed) -> bool {
+        matches!(self.next(listed), Step::Done)
+    }
+
+    // The next step, once it is applied; none that is refused.
+    pub fn step(&mut self, listed: &Listed) -> Option<Step> {
+        let step = self.next(listed);
+        let applied = apply_listed(
+            listed,
+            self.run,
+            &mut self.tags,
+            events_of(&self.source, self.started.checked.source.events),
+            events_of(&self.target, self.started.checked.target.events),
+            step,
+        );
+        if !applied.allowed {
+            return None;
+        }
+        self.run = applied.run;
+        self.swapped = swap_place(step);
+        Some(step)
+    }
+}
+
+// How many steps there are, and every step, as it is applied: none of so many is refused.
+fn print_steps(rt: &impl Print, listed: &Listed, mut begun: Begun) {
+    let mut out: Filled<BLOCK> = Filled::new();
+    put_count(&mut out, begun.cost());
+    for _ in 0..begun.cost() {
+        let Some(step) = begun.step(listed) else {
+            break;
+        };
+        if out.free() < LINE {
+            print(rt, out.as_slice());
+            out.clear();
+        }
+        put_step(&mut out, step, begun.source(), begun.target());
+    }
+    print(rt, out.as_slice());
+}
+
+// What `laprunto` prints of three texts, and the steps of an accepted matching.
+pub fn print_run(rt: &impl Print, listed: &Listed, texts: Texts<'_>) {
+    let begun = Begun::new(listed, texts);
+    let answer = begun.answer();
+    print_found(rt, texts, answer);
+    if answer.number == 0 {
+        print_steps(rt, listed, begun);
     }
 }

@@ -1,29 +1,26 @@
 // Named files, written.
+use crate::filled::Filled;
 use crate::print::{front, print};
 use crate::read::path_of;
+use std::fmt::Write as _;
 use std::fs::File;
 use std::io;
-use std::io::{Cursor, Write};
+use std::io::Write;
 use std::rt::Files;
-use text::scan::find;
 
-// The byte at which the number of an error begins, behind its words and a blank.
-const BRACKET: u8 = 40;
-
-// Says on standard error why a file can't be written: its name, and the system's words for the error, without its number.
+// Says on standard error why a file can't be written: its name, and the system's words for the error, without its number, which stands in brackets behind
+// the words and a blank.
 fn print_failed(err: &impl Print, name: &[u8], error: io::Error) {
-    let mut room = Cursor::new([0u8; 256]);
-    let _ = write!(room, "{error}");
-    let text = room.into_inner();
-    let words = front(&text, find(&text, 0, 0));
-    let end = find(words, 0, BRACKET);
+    let mut text: Filled<256> = Filled::new();
+    let _ = write!(text, "{error}");
+    let words = text.as_slice();
+    let end = words
+        .iter()
+        .position(|b| *b == b'(')
+        .map_or(words.len(), |at| at.saturating_sub(1));
     print(err, name);
     print(err, b": ");
-    if end < words.len() {
-        print(err, front(words, end.saturating_sub(1)));
-    } else {
-        print(err, words);
-    }
+    print(err, front(words, end));
     print(err, b"\n");
 }
 

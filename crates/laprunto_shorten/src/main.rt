@@ -2,7 +2,7 @@
 // writes the shortened text and the matching from the long one to it, and prints the answer.
 #![tactic(auto)]
 
-use files::args::{is_short, options_of, word_at, word_buffer};
+use files::args::{is_short, options_of, word_at};
 use files::list::list_given;
 use files::shortening::shorten_file;
 
@@ -14,24 +14,21 @@ fn main(rt: HostRuntime) {
         &err,
         b"usage: laprunto_shorten TRACE OUT MATCHING [--list FILE] [--group N] (N is 1 or 2)\n",
     );
-    if !options.right {
+    let Some(options) = options else {
         return;
-    }
+    };
     if is_short(&rt) {
         return;
     }
-    let mut name = word_buffer();
-    let mut out_name = word_buffer();
-    let mut matching_name = word_buffer();
-    let name_bytes = word_at(&rt, 1, &mut name);
-    let out_bytes = word_at(&rt, 2, &mut out_name);
-    let matching_bytes = word_at(&rt, 3, &mut matching_name);
+    let name = word_at(&rt, 1);
+    let out_name = word_at(&rt, 2);
+    let matching_name = word_at(&rt, 3);
     shorten_file(
         &rt,
         &err,
         list_given(&rt, options),
-        &name[..name_bytes],
-        &out_name[..out_bytes],
-        &matching_name[..matching_bytes],
+        name.as_slice(),
+        out_name.as_slice(),
+        matching_name.as_slice(),
     );
 }
