@@ -1,65 +1,50 @@
-// Texts that come back: a lawful trace that is read and written again, a moved one that is moved again.
-use super::check::words_of;
-use super::lent::lent_words;
-use super::vector::between;
-use super::with::{move_with, read_with, write_with};
-use event::Word;
+// Texts that come back: a lawful trace that is read and written again, a moved one that is moved again. What was refused has no text, and so none that
+// comes back; of the others it is said whether they come back as they were.
+use super::call::Call;
+use super::tell::front;
+use event::{Answer, WORDS, Word};
+use files::check::ROOM;
 use text::word::same_bytes;
 use trace::form::form_of;
 
-// Whether there is a text to come back, and whether it comes back as it was.
-#[derive(Clone, Copy)]
-pub(crate) struct Back {
-    pub there: bool,
-    pub right: bool,
-}
+// The most bytes of a text.
+pub(crate) const TEXT: usize = 57300;
 
-// What was refused has no text, and so none that is wrong.
-pub(crate) fn nothing() -> Back {
-    Back {
-        there: false,
-        right: true,
-    }
-}
+// The most events of a trace.
+const MOST_EVENTS: usize = 800;
 
-// How many that is.
-pub(crate) fn count_of(back: Back) -> usize {
-    if back.there {
-        return 1;
+// The words of events.
+pub(crate) fn words_of(events: usize) -> usize {
+    if MOST_EVENTS < events {
+        return 0;
     }
-    0
+    events * WORDS
 }
 
 // A trace text, written as it was read.
-pub(crate) fn written_back(group: Word, list: &[u8], text: &[u8]) -> Back {
-    let mut room: [Word; 4800] = [0; 4800];
-    let mut out: [u8; 57300] = [0; 57300];
-    let got = read_with(group, list, text, &mut room);
-    let answer = got.answer;
-    if answer.number != 0 {
-        return nothing();
+pub(crate) fn written_back(call: Call<'_>, text: &[u8]) -> Option<bool> {
+    let mut room: [Word; ROOM] = [0; ROOM];
+    let mut out: [u8; TEXT] = [0; TEXT];
+    let got = call.read(text, &mut room);
+    if got.answer.number != 0 {
+        return None;
     }
-    let words = lent_words(&room, words_of(got.events));
-    let written = write_with(
-        group,
-        list,
-        form_of(text),
-        got.memory,
-        &room[..words],
-        &mut out,
-    );
-    Back {
-        there: true,
-        right: same_bytes(between(&out, 0, written.place), text),
-    }
+    let words = words_of(got.events).min(ROOM);
+    let written = call.write(form_of(text), got.memory, &room[..words], &mut out);
+    Some(same_bytes(front(&out, written.place), text))
 }
 
-// A text moved from another, moved to the form of that.
-pub(crate) fn moved_back(group: Word, list: &[u8], moved: &[u8], text: &[u8]) -> Back {
-    let mut out: [u8; 57300] = [0; 57300];
-    let answer = move_with(group, list, form_of(text), moved, &mut out);
-    Back {
-        there: true,
-        right: same_bytes(between(&out, 0, answer.place), text),
+// A text moved from another, moved to the form of that, where the answer is no refusal.
+pub(crate) fn moved_back(
+    call: Call<'_>,
+    answer: Answer,
+    moved: &[u8],
+    text: &[u8],
+) -> Option<bool> {
+    if answer.number != 0 {
+        return None;
     }
+    let mut out: [u8; TEXT] = [0; TEXT];
+    let back = call.move_to(form_of(text), moved, &mut out);
+    Some(same_bytes(front(&out, back.place), text))
 }

@@ -1,218 +1,100 @@
 // One run followed: the texts checked, the steps counted, every step asked for and applied in turn, and each line compared with the vector's.
-use super::tell::{Ran, and_more, is_said, print_differing, print_unless};
-use super::vector::{between, check_vector, forth};
-use super::with::list_with;
-use beginning::Started;
-use changes::{Run, Step, apply_listed};
-use event::{Answer, EVENT_LIMIT, Entry, Word};
-use files::run::{LINE, begin, entries_of, put_count, put_step, source_of, target_of};
+use super::tell::{Ran, is_right};
+use super::vector::CheckVector;
+use event::Answer;
+use files::check::Texts;
+use files::filled::Filled;
+use files::run::{Begun, LINE, put_count, put_step};
 use memory::listed::Listed;
-use registers::ListRead;
-use steps::{next_listed, swap_place};
-use text::word::same_bytes;
 
-// How many steps were applied whose lines stand in the text in turn, and whether these are all, of the text and of the run.
-#[derive(Clone, Copy)]
-struct Followed {
-    steps: usize,
-    whole: bool,
-}
-
-// What a vector gives: `counted` says that the text begins with the number of the steps, or that there are none where it is refused.
+// What a vector gives: `counted` says that the text begins with the number of the steps, or that there are none where it is refused; how many steps were
+// applied whose lines stand in the text in turn is right where these are all, of the text and of the run.
 #[derive(Clone, Copy)]
 struct Outcome {
     answer: Answer,
     counted: bool,
-    followed: Followed,
+    followed: Result<usize, usize>,
 }
 
-fn is_done(step: Step) -> bool {
-    match step {
-        Step::Remove { place, number } => false,
-        Step::Swap { place } => false,
-        Step::Insert { place } => false,
-        Step::Done => true,
-        Step::Stuck => false,
-    }
+// What is left of the text after the next step, once it is applied; none if it is refused, or its line does not come next.
+fn after_step<'a>(listed: &Listed, begun: &mut Begun, lines: &'a [u8]) -> Option<&'a [u8]> {
+    let step = begun.step(listed)?;
+    let mut line: Filled<LINE> = Filled::new();
+    put_step(&mut line, step, begun.source(), begun.target());
+    lines.strip_prefix(line.as_slice())
 }
 
-// The place after a line, if it stands at a place of the text; that place, if another does.
-fn after(lines: &[u8], at: usize, line: &[u8]) -> usize {
-    let end = forth(lines, at, line.len());
-    if same_bytes(line, between(lines, at, end)) {
-        return end;
-    }
-    at
-}
-
-// The same of a step's line, and of the count's, which comes first.
-fn after_step(lines: &[u8], at: usize, step: Step, source: &[Word], target: &[Word]) -> usize {
-    let mut line: [u8; LINE] = [0; LINE];
-    let size = put_step(&mut line, 0, step, source, target);
-    after(lines, at, between(&line, 0, size))
-}
-
-fn after_count(lines: &[u8], steps: usize) -> usize {
-    let mut line: [u8; LINE] = [0; LINE];
-    let size = put_count(&mut line, 0, steps);
-    after(lines, 0, between(&line, 0, size))
-}
-
-// The steps, as long as each is allowed and its line stands in the text, from a place on; after the last line there is none.
-fn follow(
-    listed: &Listed,
-    begun: Run,
-    tags: [usize; EVENT_LIMIT],
-    source: &[Word],
-    target: &[Word],
-    entries: &[Entry],
-    lines: &[u8],
-    from: usize,
-) -> Followed {
-    let mut standing = tags;
-    let mut run = begun;
-    let mut at = from;
-    let mut swapped: usize = 0;
+// The steps, as long as each is allowed and its line comes next in the text; after the last line there is none.
+fn follow(listed: &Listed, mut begun: Begun, lines: &[u8]) -> Result<usize, usize> {
+    let mut rest = lines;
     let mut steps: usize = 0;
-    while at < lines.len() {
-        let step = next_listed(listed, run, &standing, source, target, entries, swapped);
-        let applied = apply_listed(listed, run, &mut standing, source, target, step);
-        if !applied.allowed {
-            return Followed {
-                steps,
-                whole: false,
-            };
+    while !rest.is_empty() {
+        let Some(left) = after_step(listed, &mut begun, rest) else {
+            return Err(steps);
+        };
+        if rest.len() <= left.len() {
+            return Err(steps);
         }
-        let next_line = after_step(lines, at, step, source, target);
-        if next_line <= at {
-            return Followed {
-                steps,
-                whole: false,
-            };
-        }
-        let changed = applied.run;
-        run = changed;
-        swapped = swap_place(step);
-        steps = and_more(steps, 1);
-        at = next_line;
+        steps = steps.saturating_add(1);
+        rest = left;
     }
-    let last = next_listed(listed, run, &standing, source, target, entries, swapped);
-    Followed {
-        steps,
-        whole: is_done(last),
+    if begun.is_over(listed) {
+        return Ok(steps);
     }
+    Err(steps)
 }
 
-// Whether the count stands where it has to: none is asked for where a matching is refused.
-fn is_counted(answer: Answer, steps: usize, from: usize) -> bool {
-    if answer.number == 0 {
-        return from != 0;
-    }
-    steps == 0
-}
-
-// The run that has begun followed, with the rooms that the check filled.
-fn outcome_in<'a>(
-    listed: &Listed,
-    started: Started,
-    tags: [usize; EVENT_LIMIT],
-    source_room: &'a [Word],
-    target_room: &'a [Word],
-    entry_room: &'a [Entry],
-    lines: &[u8],
-) -> Outcome {
-    let checked = started.checked;
-    let answer = checked.answer;
-    let from = after_count(lines, started.cost);
-    let followed = follow(
-        listed,
-        started.run,
-        tags,
-        source_of(started, source_room),
-        target_of(started, target_room),
-        entries_of(started, entry_room),
-        lines,
-        from,
-    );
+// A vector's texts checked under a list, and the run followed.
+fn outcome_in(listed: &Listed, texts: Texts<'_>, lines: &[u8]) -> Outcome {
+    let begun = Begun::new(listed, texts);
+    let answer = begun.answer();
+    let cost = begun.cost();
+    let mut count: Filled<LINE> = Filled::new();
+    put_count(&mut count, cost);
+    let behind = lines.strip_prefix(count.as_slice());
     Outcome {
         answer,
-        counted: is_counted(answer, started.cost, from),
-        followed,
+        counted: if answer.number == 0 {
+            behind.is_some()
+        } else {
+            cost == 0
+        },
+        followed: follow(listed, begun, behind.unwrap_or(lines)),
     }
 }
 
-// A vector's texts checked under its list, and the run followed. A refused list has no run, and so no line.
-fn outcome_of(
-    list: ListRead,
-    source: &[u8],
-    target: &[u8],
-    matching: &[u8],
-    lines: &[u8],
-) -> Outcome {
-    let found = list.answer;
-    if found.number != 0 {
-        return Outcome {
-            answer: found,
+// The same under the list of a call. A refused list has no run, and so no line.
+fn outcome_of(list: Result<Listed, Answer>, texts: Texts<'_>, lines: &[u8]) -> Outcome {
+    match list {
+        Ok(listed) => outcome_in(&listed, texts, lines),
+        Err(answer) => Outcome {
+            answer,
             counted: true,
-            followed: Followed {
-                steps: 0,
-                whole: lines.len() == 0,
-            },
-        };
+            followed: if lines.is_empty() { Ok(0) } else { Err(0) },
+        },
     }
-    let listed = list.listed;
-    let begun = begin(&listed, source, target, matching);
-    outcome_in(
-        &listed,
-        begun.started,
-        begun.tags,
-        &begun.source,
-        &begun.target,
-        &begun.entries,
-        lines,
-    )
 }
 
-// Whether all that a run gives is what its vector says.
-fn is_right(header: &[u8], outcome: Outcome) -> bool {
-    if !is_said(header, outcome.answer) {
-        return false;
-    }
-    if !outcome.counted {
-        return false;
-    }
-    outcome.followed.whole
-}
-
-// The run of the data that begins at a place, with a list or without.
-pub(crate) fn run_steps(
-    rt: &impl Print,
-    group: Word,
-    data: &[u8],
-    at: usize,
-    ordinal: usize,
-) -> Ran {
-    let vector = check_vector(group != 0, data, at);
-    let header = between(data, at, vector.header_end);
-    let outcome = outcome_of(
-        list_with(group, between(data, vector.list, vector.end)),
-        between(data, vector.source, vector.target),
-        between(data, vector.target, vector.matching),
-        between(data, vector.matching, vector.given),
-        between(data, vector.given, vector.list),
-    );
+// A run, with a list or without.
+pub(crate) fn run_steps(rt: &impl Print, ordinal: usize, vector: CheckVector<'_>) -> Ran {
+    let header = vector.header;
+    let outcome = outcome_of(vector.call.listed(), vector.texts, vector.given);
     let answer = outcome.answer;
-    let followed = outcome.followed;
-    let right = is_right(header, outcome);
-    if !right {
-        print_differing(rt, ordinal, header, answer);
-        print_unless(rt, outcome.counted, b"another number of steps\n");
-        print_unless(rt, followed.whole, b"another run\n");
-    }
+    let right = is_right(
+        rt,
+        ordinal,
+        header,
+        answer,
+        header.is_said(answer),
+        &[
+            (outcome.counted, b"another number of steps\n"),
+            (outcome.followed.is_ok(), b"another run\n"),
+        ],
+    );
+    let (Ok(back) | Err(back)) = outcome.followed;
     Ran {
         answer,
         right,
-        back: followed.steps,
-        end: vector.end,
+        back,
     }
 }

@@ -1,20 +1,23 @@
 // A vector in a file: a header, what is handed over, what comes back. The head comment of peer/vectors.rs gives the formats.
+ghost use Rattle.std.specs.Prelude.{◌≡◌, length};
+
+use super::call::{Call, ListFor};
+use event::{Answer, Word, number_index};
+use files::check::Texts;
+use record::form::Form;
 use text::line::LF;
 use text::number::{NumberRead, number_of};
 use text::scan::find;
 
 // The byte that parts the numbers of a header.
-const BLANK: u8 = 32;
-
-// No number of a header is greater: a word of an event may be one.
-const MOST: u64 = 18446744073709551615;
+const BLANK: u8 = b' ';
 
 // Which number of a check's and a run's header is which.
-pub(crate) const SOURCE_BYTES: usize = 0;
+const SOURCE_BYTES: usize = 0;
 
-pub(crate) const TARGET_BYTES: usize = 1;
+const TARGET_BYTES: usize = 1;
 
-pub(crate) const MATCHING_BYTES: usize = 2;
+const MATCHING_BYTES: usize = 2;
 
 pub(crate) const SOURCE_WORDS: usize = 3;
 
@@ -23,9 +26,9 @@ pub(crate) const TARGET_WORDS: usize = 4;
 pub(crate) const ENTRY_WORDS: usize = 5;
 
 // Which number of a move's and a writing's header is which.
-pub(crate) const FORM: usize = 0;
+const FORM: usize = 0;
 
-pub(crate) const TEXT_BYTES: usize = 1;
+const TEXT_BYTES: usize = 1;
 
 pub(crate) const ROOM_WORDS: usize = 2;
 
@@ -36,133 +39,165 @@ pub(crate) const CHANGED_TO: usize = 4;
 pub(crate) const OUT_BYTES: usize = 5;
 
 // Which number of every header is which.
-pub(crate) const NUMBER: usize = 6;
+const NUMBER: usize = 6;
 
-pub(crate) const SIDE: usize = 7;
+const SIDE: usize = 7;
 
-pub(crate) const PLACE: usize = 8;
+const PLACE: usize = 8;
 
-pub(crate) const GIVEN_BYTES: usize = 9;
+const GIVEN_BYTES: usize = 9;
 
 // A call with a list has the length of the list there, and the name after it.
 const LIST_BYTES: usize = 10;
 
 const NAME: usize = 10;
 
-// Where the parts of a check or a run begin; each ends where the next begins. What comes back is the offending line, or the lines of the steps; the list is empty if there is none.
+// Data that is cut from the front.
 #[derive(Clone, Copy)]
-pub(crate) struct CheckVector {
-    pub header_end: usize,
-    pub source: usize,
-    pub target: usize,
-    pub matching: usize,
-    pub given: usize,
-    pub list: usize,
-    pub end: usize,
+pub(crate) struct Parts<'a> {
+    rest: &'a [u8],
 }
 
-// Where the parts of a move or a writing begin. The text that is written is what comes back.
+impl<'a> Parts<'a> {
+    pub fn new(rest: &'a [u8]) -> Self {
+        Parts { rest }
+    }
+
+    // How many bytes are left.
+    pub fn len(&self) -> usize
+        ensures { result ≡ length self.now.rest.now }
+    {
+        self.rest.len()
+    }
+
+    // So many bytes, or all that are left.
+    pub fn take(&mut self, count: usize) -> &'a [u8] {
+        let rest = self.rest;
+        let (part, after) = rest.split_at(count.min(rest.len()));
+        self.rest = after;
+        part
+    }
+
+    // What stands before the next such byte, which goes too.
+    fn until(&mut self, stop: u8) -> &'a [u8] {
+        let part = self.take(find(self.rest, 0, stop));
+        self.take(1);
+        part
+    }
+
+    // The list of a call for a group, as long as the header says; there is none without a group.
+    fn call(&mut self, header: Header<'_>, group: Option<Word>) -> Call<'a> {
+        Call {
+            list: group.map(|group| ListFor {
+                list: self.take(header.number(LIST_BYTES)),
+                group,
+            }),
+        }
+    }
+}
+
+// The first line of a vector: numbers, then its name.
 #[derive(Clone, Copy)]
-pub(crate) struct TextVector {
-    pub header_end: usize,
-    pub text: usize,
-    pub written: usize,
-    pub list: usize,
-    pub end: usize,
+pub(crate) struct Header<'a> {
+    line: &'a [u8],
 }
 
-// The part of the data between two places; empty if they are not places of it in this order.
-pub(crate) fn between(data: &[u8], from: usize, to: usize) -> &[u8] {
-    if to < from {
-        return &data[0..0];
+impl<'a> Header<'a> {
+    // What stands behind so many fields.
+    fn behind(self, k: usize) -> Parts<'a> {
+        let mut parts = Parts::new(self.line);
+        for _ in 0..k {
+            parts.until(BLANK);
+        }
+        parts
     }
-    if data.len() < to {
-        return &data[0..0];
-    }
-    &data[from..to]
-}
 
-// The place that lies `count` bytes after another; the end of the data, if it is not that long.
-pub(crate) fn forth(data: &[u8], at: usize, count: usize) -> usize {
-    let end = data.len();
-    if end < at {
-        return end;
+    // Number k, from 0; 0 if it is none. None is too great: a word of an event may be one.
+    pub fn number(self, k: usize) -> usize {
+        match number_of(self.behind(k).until(BLANK), u64::MAX) {
+            NumberRead::Value(n) => n as usize,
+            NumberRead::Malformed => 0,
+        }
     }
-    if end - at < count {
-        return end;
+
+    // The form that is named.
+    pub fn form(self) -> Form {
+        if self.number(FORM) == 2 {
+            return Form::Two;
+        }
+        Form::One
     }
-    at + count
-}
 
-// Where field k of a header begins, from 0; the end of the header, if it has fewer.
-fn field_start(header: &[u8], k: usize) -> usize {
-    let mut at: usize = 0;
-    let mut left = k;
-    while 0 < left {
-        at = forth(header, find(header, at, BLANK), 1);
-        left -= 1;
+    // The numbers of the answer.
+    pub fn answer(self) -> [usize; 3] {
+        [self.number(NUMBER), self.number(SIDE), self.number(PLACE)]
     }
-    at
-}
 
-// Number k of a header, from 0; 0 if it is none.
-pub(crate) fn number_at(header: &[u8], k: usize) -> usize {
-    let from = field_start(header, k);
-    let to = find(header, from, BLANK);
-    match number_of(between(header, from, to), MOST) {
-        NumberRead::Value(n) => n as usize,
-        NumberRead::Malformed => 0,
+    // Whether an answer is the one that is said.
+    pub fn is_said(self, answer: Answer) -> bool {
+        self.answer()
+            == [
+                number_index(answer.number),
+                number_index(answer.side),
+                answer.place,
+            ]
     }
-}
 
-// The name of a vector: all that follows the numbers that every header has, the length of a list before it.
-pub(crate) fn name_of(header: &[u8]) -> &[u8] {
-    let from = field_start(header, NAME);
-    between(header, from, header.len())
-}
-
-// Where the list that begins at a place ends: there, if there is none.
-fn list_end(listed: bool, data: &[u8], header: &[u8], list: usize) -> usize {
-    if listed {
-        return forth(data, list, number_at(header, LIST_BYTES));
-    }
-    list
-}
-
-// The check or the run that begins at a place, with a list or without.
-pub(crate) fn check_vector(listed: bool, data: &[u8], at: usize) -> CheckVector {
-    let header_end = find(data, at, LF);
-    let header = between(data, at, header_end);
-    let source = forth(data, header_end, 1);
-    let target = forth(data, source, number_at(header, SOURCE_BYTES));
-    let matching = forth(data, target, number_at(header, TARGET_BYTES));
-    let given = forth(data, matching, number_at(header, MATCHING_BYTES));
-    let list = forth(data, given, number_at(header, GIVEN_BYTES));
-    let end = list_end(listed, data, header, list);
-    CheckVector {
-        header_end,
-        source,
-        target,
-        matching,
-        given,
-        list,
-        end,
+    // The name: all that follows the numbers that every header has, the length of a list before it.
+    pub fn name(self) -> &'a [u8] {
+        self.behind(NAME).rest
     }
 }
 
-// The move or the writing that begins at a place, with a list or without.
-pub(crate) fn text_vector(listed: bool, data: &[u8], at: usize) -> TextVector {
-    let header_end = find(data, at, LF);
-    let header = between(data, at, header_end);
-    let text = forth(data, header_end, 1);
-    let written = forth(data, text, number_at(header, TEXT_BYTES));
-    let list = forth(data, written, number_at(header, GIVEN_BYTES));
-    let end = list_end(listed, data, header, list);
-    TextVector {
-        header_end,
-        text,
-        written,
-        list,
-        end,
+// A check, a run or a shortening. What comes back is the offending line, or the lines of the steps.
+#[derive(Clone, Copy)]
+pub(crate) struct CheckVector<'a> {
+    pub header: Header<'a>,
+    pub texts: Texts<'a>,
+    pub given: &'a [u8],
+    pub call: Call<'a>,
+}
+
+impl<'a> CheckVector<'a> {
+    // The one that is next, with a list for a group or without.
+    pub fn read(parts: &mut Parts<'a>, group: Option<Word>) -> Self {
+        let header = Header {
+            line: parts.until(LF),
+        };
+        let texts = Texts {
+            source: parts.take(header.number(SOURCE_BYTES)),
+            target: parts.take(header.number(TARGET_BYTES)),
+            matching: parts.take(header.number(MATCHING_BYTES)),
+        };
+        CheckVector {
+            header,
+            texts,
+            given: parts.take(header.number(GIVEN_BYTES)),
+            call: parts.call(header, group),
+        }
+    }
+}
+
+// A move, a writing or a list. The text that is written, or the marks of the list, is what comes back.
+#[derive(Clone, Copy)]
+pub(crate) struct TextVector<'a> {
+    pub header: Header<'a>,
+    pub text: &'a [u8],
+    pub written: &'a [u8],
+    pub call: Call<'a>,
+}
+
+impl<'a> TextVector<'a> {
+    // The one that is next, with a list for a group or without.
+    pub fn read(parts: &mut Parts<'a>, group: Option<Word>) -> Self {
+        let header = Header {
+            line: parts.until(LF),
+        };
+        TextVector {
+            header,
+            text: parts.take(header.number(TEXT_BYTES)),
+            written: parts.take(header.number(GIVEN_BYTES)),
+            call: parts.call(header, group),
+        }
     }
 }
