@@ -1,2 +1,3 @@
 -- What the contracts of the shared program parts cite. Assumes nothing.
 pub mod Counts
+pub mod Run

@@ -1,5 +1,7 @@
 // The words of a call: the program's name, three names, then options. A word that is none of them is a slip of the hand: the program then says how it
 // is used and prints nothing else, so that nothing is read as a verdict.
+ghost use Rattle.std.specs.Prelude.{◌≤◌, length};
+
 use crate::filled::Filled;
 use event::Word;
 use std::env::FillError;
@@ -22,7 +24,9 @@ pub struct Options {
 }
 
 // The word at a place. One that is missing, or longer than its room, is empty.
-pub fn word_at(rt: &impl Env, place: usize) -> Name {
+pub fn word_at(rt: &impl Env, place: usize) -> Name
+    ensures { length result ≤ 4096 }
+{
     let mut word: Name = Filled::new();
     word.fill(|room| rt.arg(place, room).unwrap_or(0));
     word

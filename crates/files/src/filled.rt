@@ -38,20 +38,20 @@ impl<const N: usize> Filled<N> {
     }
 
     // How many more fit.
-    pub fn free(&self) -> usize
+    pub(crate) fn free(&self) -> usize
         ensures { result + length self.now ≡ N }
     {
         N - self.len
     }
 
-    pub fn clear(&mut self)
+    pub(crate) fn clear(&mut self)
         ensures { self.new ≡ [] }
     {
         self.len = 0;
     }
 
     // Bytes put behind those that are held, as many as fit.
-    pub fn push(&mut self, bytes: &[u8])
+    pub(crate) fn push(&mut self, bytes: &[u8])
         ensures { self.new ≡ self.old ++ take (N - length self.old) bytes.now }
     {
         let size = bytes.len().min(self.free());

@@ -1,4 +1,7 @@
 // The list of registers of a call: what its file says, or that none is listed.
+ghost use Rattle.std.specs.Prelude.{◌≡◌, ◌≢◌, MatchResult};
+ghost use Rattle.registers.specs.Reading.{list_of};
+
 use crate::args::{Options, word_at};
 use crate::read::read_text;
 use event::{Answer, PLACES, Word};
@@ -12,7 +15,11 @@ pub const NO_LIST: Listed = [false; PLACES];
 const FIRST_GROUP: Word = 1;
 
 // A list read for a group: the locations that it lists, or the answer that refuses it.
-pub fn read_list(list: &[u8], group: Word) -> Result<Listed, Answer> {
+pub fn read_list(list: &[u8], group: Word) -> Result<Listed, Answer>
+    ensures { MatchResult result
+        (λ l. ((list_of group list.now).answer.number ≡ 0) × (l ≡ (list_of group list.now).listed))
+        (λ a. (a.number ≢ 0) × (a ≡ (list_of group list.now).answer)) }
+{
     let read = registers::read(list, group);
     if read.answer.number != 0 {
         return Err(read.answer);

@@ -1,4 +1,6 @@
 // The lines that the programs print, on standard output: fields parted by tabs.
+ghost use Rattle.std.specs.Prelude.{◌≡◌, take};
+
 use event::Answer;
 
 // What can't be written is left out, and nothing is said of it: no program has an exit status.
@@ -7,7 +9,9 @@ pub fn print(rt: &impl Print, text: &[u8]) {
 }
 
 // The elements at the front, of as many as there are.
-pub(crate) fn front<T>(room: &[T], count: usize) -> &[T] {
+pub(crate) fn front<T>(room: &[T], count: usize) -> &[T]
+    ensures { result.now ≡ take count room.now }
+{
     &room[..count.min(room.len())]
 }
 

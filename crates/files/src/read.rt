@@ -53,7 +53,9 @@ pub fn read_file<const N: usize>(rt: &impl Files, name: &[u8], room: &mut Filled
 }
 
 // The text in a file.
-pub fn read_text(rt: &impl Files, name: &[u8]) -> Filled<TEXT> {
+pub fn read_text(rt: &impl Files, name: &[u8]) -> Filled<TEXT>
+    ensures { length result ≤ 57301 }
+{
     let mut text = Filled::new();
     read_file(rt, name, &mut text);
     text

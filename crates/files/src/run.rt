@@ -1,5 +1,10 @@
 // What the program `laprunto_run` prints of three texts under a list of registers: what `laprunto` prints, and of an accepted matching how many steps there
 // are and every one of them. The lines of the steps are gathered and written in blocks.
+ghost use Rattle.std.specs.Prelude.{◌≡◌, ◌*◌, ◌↔◌, IfNone, IfSome, IsTrue, replicate, take};
+ghost use Rattle.beginning.specs.Start.{StartsIn};
+ghost use Rattle.steps.specs.Play.{swap_place};
+ghost use Rattle.files.specs.Run.{Keeps, lent_zeros, next_step, source_of, tags_next, target_of};
+
 use crate::check::{ROOM, Texts, print_found};
 use crate::filled::Filled;
 use crate::print::{front, print};
@@ -52,7 +57,9 @@ pub fn put_step<const N: usize>(out: &mut Filled<N>, step: Step, source: &[Word]
 }
 
 // The front of a room that holds so many events.
-fn events_of(room: &[Word], events: usize) -> &[Word] {
+fn events_of(room: &[Word], events: usize) -> &[Word]
+    ensures { result.now ≡ take (events * 6) room.now }
+{
     front(room, events.saturating_mul(WORDS))
 }
 
@@ -69,7 +76,12 @@ pub struct Begun {
 }
 
 impl Begun {
-    pub fn new(listed: &Listed, texts: Texts<'_>) -> Self {
+    pub fn new(listed: &Listed, texts: Texts<'_>) -> Self
+        ensures starts { StartsIn listed.now (lent_zeros texts.entry) (replicate 800 0) result.started
+            result.source result.target result.entries result.tags }
+        ensures run { result.run ≡ result.started.run }
+        ensures swapped { result.swapped ≡ 0 }
+    {
         let mut source: [Word; ROOM] = [0; ROOM];
         let mut target: [Word; ROOM] = [0; ROOM];
         let mut entries: [Entry; EVENT_LIMIT] = [0; EVENT_LIMIT];
@@ -96,32 +108,44 @@ impl Begun {
     }
 
     // The answer of the check.
-    pub fn answer(&self) -> Answer {
+    pub fn answer(&self) -> Answer
+        ensures { result ≡ self.now.started.checked.answer }
+    {
         self.started.checked.answer
     }
 
     // How many steps there are to its end.
-    pub fn cost(&self) -> usize {
+    pub fn cost(&self) -> usize
+        ensures { result ≡ self.now.started.cost }
+    {
         self.started.cost
     }
 
     // The source's events.
-    pub fn source(&self) -> &[Word] {
+    pub fn source(&self) -> &[Word]
+        ensures { result.now ≡ source_of self.now }
+    {
         events_of(&self.source, self.started.checked.source.events)
     }
 
     // The target's events.
-    pub fn target(&self) -> &[Word] {
+    pub fn target(&self) -> &[Word]
+        ensures { result.now ≡ target_of self.now }
+    {
         events_of(&self.target, self.started.checked.target.events)
     }
 
     // The matching's entries.
-    fn entries(&self) -> &[Entry] {
+    fn entries(&self) -> &[Entry]
+        ensures { result.now ≡ take self.now.started.checked.entries self.now.entries }
+    {
         front(&self.entries, self.started.checked.entries)
     }
 
     // The step that comes next.
-    fn next(&self, listed: &Listed) -> Step {
+    fn next(&self, listed: &Listed) -> Step
+        ensures { result ≡ next_step listed.now self.now }
+    {
         next_listed(
             listed,
             self.run,
@@ -134,12 +158,20 @@ impl Begun {
     }
 
     // Whether no step is left.
-    pub fn is_over(&self, listed: &Listed) -> bool {
+    pub fn is_over(&self, listed: &Listed) -> bool
+        ensures { IsTrue result ↔ (next_step listed.now self.now ≡ Step.Done) }
+    {
         matches!(self.next(listed), Step::Done)
     }
 
     // The next step, once it is applied; none that is refused.
-    pub fn step(&mut self, listed: &Listed) -> Option<Step> {
+    pub fn step(&mut self, listed: &Listed) -> Option<Step>
+        ensures asked { IfSome result (λ s. s ≡ next_step listed.now self.old) }
+        ensures swapped { IfSome result (λ s. self.new.swapped ≡ swap_place s) }
+        ensures tags { self.new.tags ≡ tags_next listed.now self.old }
+        ensures kept { Keeps self.old self.new }
+        ensures none { IfNone result ((self.new.run ≡ self.old.run) × (self.new.swapped ≡ self.old.swapped)) }
+    {
         let step = self.next(listed);
         let applied = apply_listed(
             listed,

@@ -1,0 +1,40 @@
+-- A run in rooms: which step comes next, what it makes of the events that stand, and what it leaves as it is. Assumes nothing.
+use Rattle.std.specs.Prelude.{◌≡◌, ◌*◌, Bool, List, ℕ, take, replicate}
+use Rattle.event.specs.Room.{whole_events}
+use Rattle.rules.specs.View.{view_in}
+use Rattle.checker.specs.Check.{Lent, lent}
+use Rattle.changes.specs.Apply.{outcome_by, tags_after}
+use Rattle.changes.specs.declared.Step.{Step}
+use Rattle.steps.specs.Play.{next_by}
+use Rattle.files.specs.declared.check.Texts.{Texts}
+use Rattle.files.specs.declared.run.Begun.{Begun}
+
+-- Three texts and rooms of zeros.
+abbrev pub lent_zeros : Texts → Lent
+lent_zeros t = lent t.source.now t.target.now t.matching.now (replicate 4800 0) (replicate 4800 0) (replicate 800 0)
+
+-- The events of the source and of the target, in the rooms that hold them.
+abbrev pub source_of : Begun → List ℕ
+source_of b = take (b.started.checked.source.events * 6) b.source
+
+abbrev pub target_of : Begun → List ℕ
+target_of b = take (b.started.checked.target.events * 6) b.target
+
+-- The step that comes next under a list of registers.
+abbrev pub next_step : List Bool → Begun → Step
+next_step regs b =
+    next_by (view_in regs) (whole_events (source_of b)) (whole_events (target_of b)) (take b.started.checked.entries b.entries)
+    b.swapped b.run b.tags
+
+-- The numbers of the events that stand after it.
+abbrev pub tags_next : List Bool → Begun → List ℕ
+tags_next regs b =
+    tags_after b.tags
+    (outcome_by (view_in regs) (whole_events (source_of b)) (whole_events (target_of b)) b.run b.tags (next_step regs b))
+
+-- A step leaves how the run began, and what the check stored.
+pub record Keeps (old new : Begun) : Type 0 where
+  pub started : new.started ≡ old.started
+  pub source : new.source ≡ old.source
+  pub target : new.target ≡ old.target
+  pub entries : new.entries ≡ old.entries
