@@ -1,6 +1,8 @@
 -- A run in rooms: which step comes next, what it makes of the events that stand, and what it leaves as it is. Assumes nothing.
-use Rattle.std.specs.Prelude.{◌≡◌, ◌*◌, Bool, List, ℕ, take, replicate}
+use Rattle.std.specs.Prelude.{◌≡◌, ◌*◌, Bool, true, false, List, ℕ, take, replicate}
+use Rattle.std.proofs.Math.Option.{Option, none, some}
 use Rattle.event.specs.Room.{whole_events}
+use Rattle.rules.specs.Run.{Traced}
 use Rattle.rules.specs.View.{view_in}
 use Rattle.checker.specs.Check.{Lent, lent}
 use Rattle.changes.specs.Apply.{outcome_by, tags_after}
@@ -26,11 +28,22 @@ next_step regs b =
     next_by (view_in regs) (whole_events (source_of b)) (whole_events (target_of b)) (take b.started.checked.entries b.entries)
     b.swapped b.run b.tags
 
+-- The events that stand after it; none if the rules refuse it.
+abbrev pub outcome_next : List Bool → Begun → Option (List Traced)
+outcome_next regs b =
+    outcome_by (view_in regs) (whole_events (source_of b)) (whole_events (target_of b)) b.run b.tags (next_step regs b)
+
+-- Whether the rules allow the next step.
+abbrev pub is_there : Option (List Traced) → Bool
+is_there none = false
+is_there (some u) = true
+
+abbrev pub is_allowed : List Bool → Begun → Bool
+is_allowed regs b = is_there (outcome_next regs b)
+
 -- The numbers of the events that stand after it.
 abbrev pub tags_next : List Bool → Begun → List ℕ
-tags_next regs b =
-    tags_after b.tags
-    (outcome_by (view_in regs) (whole_events (source_of b)) (whole_events (target_of b)) b.run b.tags (next_step regs b))
+tags_next regs b = tags_after b.tags (outcome_next regs b)
 
 -- A step leaves how the run began, and what the check stored.
 pub record Keeps (old new : Begun) : Type 0 where

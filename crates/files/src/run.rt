@@ -1,9 +1,9 @@
 // What the program `laprunto_run` prints of three texts under a list of registers: what `laprunto` prints, and of an accepted matching how many steps there
 // are and every one of them. The lines of the steps are gathered and written in blocks.
-ghost use Rattle.std.specs.Prelude.{◌≡◌, ◌*◌, ◌↔◌, IfNone, IfSome, IsTrue, replicate, take};
+ghost use Rattle.std.specs.Prelude.{◌≡◌, ◌*◌, ◌↔◌, IfNone, IfSome, IsTrue, is_some, replicate, take};
 ghost use Rattle.beginning.specs.Start.{StartsIn};
 ghost use Rattle.steps.specs.Play.{swap_place};
-ghost use Rattle.files.specs.Run.{Keeps, lent_zeros, next_step, source_of, tags_next, target_of};
+ghost use Rattle.files.specs.Run.{Keeps, lent_zeros, is_allowed, next_step, source_of, tags_next, target_of};
 
 use crate::check::{ROOM, Texts, print_found};
 use crate::filled::Filled;
@@ -166,6 +166,7 @@ impl Begun {
 
     // The next step, once it is applied; none that is refused.
     pub fn step(&mut self, listed: &Listed) -> Option<Step>
+        ensures allowed { is_some result ≡ is_allowed listed.now self.old }
         ensures asked { IfSome result (λ s. s ≡ next_step listed.now self.old) }
         ensures swapped { IfSome result (λ s. self.new.swapped ≡ swap_place s) }
         ensures tags { self.new.tags ≡ tags_next listed.now self.old }
