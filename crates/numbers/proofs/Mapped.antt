@@ -1,27 +1,37 @@
--- What a closure that computes f makes of each element of an array, and that a list's marks come back from their numbers. Assumes nothing.
-use Prim.Native.Nat.{ℕ, suc, ◌<◌}
+-- An array of 256 that a loop fills from another, each element through one function: before the index stand those of the other's elements before it.
+-- Assumes nothing.
+use Prim.Native.Nat.{ℕ, suc, ◌+◌, ◌≤◌, ◌<◌}
 use mathlib.Core.Bool.{Bool, true, false}
-use mathlib.Core.List.{List, [], ◌∷◌, map}
-use mathlib.Core.Path.{◌≡◌, refl, sym, ◌∙◌, ap, ap₂}
+use mathlib.Core.List.{List, [], ◌∷◌, ◌++◌, map, map-append}
+use mathlib.Core.Path.{◌≡◌, refl, sym, ◌∙◌, ap}
+use native.Mathlib.Numerals.{add-one}
 use native.Mathlib.Omega.{arith}
-use lib.ListN.{length, get_or}
-use denote.Param.Members.{Mut}
-use Rattle.std.specs.Array.{IsMapOf}
+use lib.ListN.{length, get_or, set, take, length-set}
+use lib.Seq.{take_all, take-suc, take-suc-set}
 use Rattle.std.specs.Int.{from_bool}
-use Rattle.std.specs.Fn.{Called}
 use Rattle.numbers.specs.Numbers.{flag, flagged, listing, marks}
 
-module _ {A B : Type 0} (f : A → B) (d : A) (e : B) where
-  each_mapped : (xs : List A) (zs : List B) → length zs ≡ length xs → ((i : ℕ) → i < length xs → get_or zs i e ≡ f (get_or xs i d)) → zs ≡ map f xs
-  each_mapped [] [] l h = refl
-  each_mapped [] (z ∷ zs) l h = absurd (omega arith)
-  each_mapped (x ∷ xs) [] l h = absurd (omega arith)
-  each_mapped (x ∷ xs) (z ∷ zs) l h = ap₂ ◌∷◌ (h 0 (omega arith)) (each_mapped xs zs (omega arith) (λ i k. h (suc i) (omega arith)))
+pub record Mapped {A B : Type 0} (f : A → B) (whole : List A) (filled : List B) (i : ℕ) : Type 0 where
+  pub bound : i ≤ 256
+  pub size : length filled ≡ 256
+  pub same : take i filled ≡ map f (take i whole)
 
-  pub mapped : {F : Type 0} {g : Mut F (A × Unit {0}) B} {c : F} {n : ℕ} (xs : List A) (zs : List B) → IsMapOf g c xs zs n → length xs ≡ n
-      → ((p q : F) (x : A) (y : B) → Called g p (x, tt) y q → y ≡ f x) → zs ≡ map f xs
-  mapped xs zs m l h =
-      each_mapped xs zs (m.long ∙ sym l) (λ i k. let w = m.at i d e (omega arith) in h w.0 w.1 (get_or xs i d) (get_or zs i e) w.2)
+module _ {A B : Type 0} (f : A → B) (whole : List A) (all : length whole ≡ 256) (filled : List B) (i : ℕ) (h : Mapped f whole filled i) where
+  -- one more
+  one : (d : A) (x : B) → x ≡ f (get_or whole i d) → i < 256 → take (suc i) (set filled i x) ≡ map f (take (suc i) whole)
+  one d x e l =
+      take-suc-set filled i x (omega (arith, h.size))
+      ∙ (ap (λ k. k ++ (x ∷ [])) h.same
+      ∙ (ap (λ y. map f (take i whole) ++ (y ∷ [])) e
+      ∙ sym (ap (map f) (take-suc whole i d (omega arith)) ∙ map-append f (take i whole) (get_or whole i d ∷ []))))
+
+  pub more : (d : A) (x : B) → x ≡ f (get_or whole i d) → i < 256 → Mapped f whole (set filled i x) (i + 1)
+  more d x e l = record { bound = omega arith; size = simp length-set h.size; same = rw (add-one i) (one d x e l) }
+
+  -- all of them
+  pub whole_mapped : 256 ≤ i → filled ≡ map f whole
+  whole_mapped l =
+      sym (take_all i filled (omega (arith, h.size))) ∙ (h.same ∙ ap (map f) (take_all i whole (omega arith)))
 
 -- A mark as a byte is its number.
 pub byte : (b : Bool) → from_bool b ≡ flag b

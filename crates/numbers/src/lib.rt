@@ -161,12 +161,21 @@ pub fn form_numbered(n: Number) -> Form
 pub fn marks_of(listed: Listed) -> [u8; PLACES]
     ensures { result ≡ marks listed }
 {
-    listed.map(|mark| u8::from(mark))
+    let mut numbers = [0; PLACES];
+    for (i, mark) in listed.iter().enumerate() {
+        numbers[i] = u8::from(*mark);
+    }
+    numbers
 }
 
 // A mark for each number, set unless it is 0.
 pub fn listed_of(numbers: [u8; PLACES]) -> Listed
     ensures { result ≡ listing numbers }
 {
-    numbers.map(|number| number != 0)
+    // A loop: `map` waits in an iterator of its own, which each call of a run with a list would pay for.
+    let mut listed = [false; PLACES];
+    for (i, number) in numbers.iter().enumerate() {
+        listed[i] = *number != 0;
+    }
+    listed
 }
