@@ -1,11 +1,15 @@
 -- A check that accepts has read few events and few entries, which stand in the rooms: so a run begins, and its steps are counted. Assumes nothing.
-use mathlib.Core.Path.{◌≡◌, refl, sym, ◌∙◌, ap}
-use mathlib.Core.Bool.{Bool, true}
+use mathlib.Core.Path.{◌≡◌, sym, ◌∙◌, ap}
+use mathlib.Core.Bool.{Bool, true, false}
 use mathlib.Core.List.{List}
-use Prim.Native.Nat.{ℕ, ◌-◌, ◌≤◌}
+use Prim.Native.Nat.{ℕ, ◌≤◌}
 use native.Mathlib.Omega.{arith}
 use lib.ListN.{length, take}
-use borrow.Author.Tests.{eq-eqb, ne_eqb}
+use lib.Dec.{eqb}
+use borrow.Author.Tests.{eq-eqb, ne_eqb, eqb-false}
+use Rattle.event.specs.Told.{Refuses}
+use Rattle.event.specs.declared.Answer.{Answer}
+use Rattle.registers.specs.Reading.{refused as refused_list, read_as as list_as}
 use Rattle.laws.specs.Has.{has}
 use Rattle.trace.specs.Reading.{events_of, read_in, survey_in}
 use Rattle.trace.proofs.OneText.{text_whole}
@@ -17,7 +21,7 @@ use Rattle.checker.specs.Demand.{AdmittedIn, entries_for, premise, source_of, ta
 use Rattle.checker.specs.declared.Checked.{Checked}
 use Rattle.checker.proofs.Admitted.{admitted_exactly_in}
 use Rattle.checker.proofs.Demand3.{read_all}
-use Rattle.checker.proofs.Filled.{Entered, entered}
+use Rattle.checker.proofs.Filled.{Entered, entered_after}
 use Rattle.changes.specs.Apply.{front}
 use Rattle.course.specs.Cost.{cost}
 use Rattle.beginning.specs.Start.{StartsIn, StartsListed, not_begun, started_in, started_listed, counted}
@@ -62,9 +66,9 @@ module _ (regs : List Bool) (l : Lent) (z : (check_in regs l).answer.number ≡ 
       let f = source_few in
       omega arith
 
-  held : Entered l.matching (entries_read l) (entry_room_in regs l)
+  held : Entered l.matching (entries_read l).entries (entry_room_in regs l)
   unfolding entry_room_in
-  held = entered l.matching l.entry_room_of (read_all regs l admitted.reading).2 (entries_read l) refl _ (rw admitted.reading)
+  held = rw admitted.reading (entered_after l.matching l.entry_room_of (read_all regs l admitted.reading).2)
 
   entries_counted : (check_in regs l).entries ≡ (entries_read l).entries
   unfolding check_in
@@ -80,7 +84,7 @@ module _ (regs : List Bool) (l : Lent) (z : (check_in regs l).answer.number ≡ 
 
 -- the entries of a room, as a part from its start
 abbrev pub entries_in : Checked → List ℕ → List ℕ
-entries_in c er = take (c.entries - 0) er
+entries_in c er = take c.entries er
 
 module _ (regs : List Bool) (l : Lent) (c : Checked) {sr tr er : List ℕ} (h : ChecksIn regs l c sr tr er) (z : c.answer.number ≡ 0) where
   answered : (check_in regs l).answer.number ≡ 0
@@ -96,9 +100,7 @@ module _ (regs : List Bool) (l : Lent) (c : Checked) {sr tr er : List ℕ} (h : 
   entries_fit = rw (h.result, h.entries) (entries_inside regs l answered)
 
   entries_are : entries_in c er ≡ entries_for l
-  entries_are =
-      let e : c.entries - 0 ≡ c.entries = omega arith in
-      ap (λ n. take n er) e ∙ rw (h.result, h.entries) (entries_there regs l answered)
+  entries_are = rw (h.result, h.entries) (entries_there regs l answered)
 
   pub entries_fewer : length (entries_in c er) ≤ event_limit
   entries_fewer = rw entries_are (entries_few regs l answered)
@@ -134,18 +136,27 @@ module _ (list : ListRead) (l : Lent) where
   unfolding started_listed
   by_refused h = rw (ne_eqb _ _ h)
 
-  pub listed_refused : (tags : List ℕ) (r : Started) → (list.answer.number ≡ 0 → ⊥) → r ≡ not_begun (refused list.answer)
+  pub listed_refused : (tags : List ℕ) (a : Answer) → Refuses a → refused_list a ≡ list → (r : Started) → r ≡ not_begun (refused a)
       → StartsListed list l tags r l.source_room_of l.target_room_of l.entry_room_of tags
-  listed_refused tags r h e =
-      let z = ne_eqb list.answer.number 0 h in
-      record { result = e ∙ sym (by_refused h); source = rw z; target = rw z; entries = rw z; left = rw z }
+  listed_refused tags a h q r e =
+      let z : eqb list.answer.number 0 ≡ false = rw (← q) h in
+      record {
+        result = e ∙ rw (ap (λ (x : ListRead). refused x.answer) q) (sym (by_refused (eqb-false list.answer.number 0 z)));
+        source = rw z;
+        target = rw z;
+        entries = rw z;
+        left = rw z;
+      }
 
-  pub listed_starts : (tags : List ℕ) (r : Started) (s t e after : List ℕ) → list.answer.number ≡ 0
-      → StartsIn list.listed l tags r s t e after → StartsListed list l tags r s t e after
-  listed_starts tags r s t e after z c = record {
-    result = c.result ∙ sym (by_list z);
-    source = rw z c.source;
-    target = rw z c.target;
-    entries = rw z c.entries;
-    left = rw z c.left;
-  }
+  pub listed_starts : (marks : List Bool) → list_as marks ≡ list → (tags : List ℕ) (r : Started) (s t e after : List ℕ)
+      → StartsIn marks l tags r s t e after → StartsListed list l tags r s t e after
+  listed_starts marks q tags r s t e after c =
+      let z : list.answer.number ≡ 0 = ap (λ (x : ListRead). x.answer.number) (sym q) in
+      let k : StartsIn list.listed l tags r s t e after = rw (← q) c in
+      record {
+        result = k.result ∙ sym (by_list z);
+        source = rw z k.source;
+        target = rw z k.target;
+        entries = rw z k.entries;
+        left = rw z k.left;
+      }

@@ -63,25 +63,20 @@ pub fn start_in(
         target_room,
         entry_room,
     );
-    let answer = checked.answer;
-    let held = checked.source;
-    let aim = checked.target;
-    if answer.number == 0 {
-        let standing = held.events;
-        let t = &mut tags[..];
-        fill(t, standing);
-        let entries = checked.entries;
-        let cost = cost_of(&entry_room[0..entries], aim.events);
-        return Started {
-            checked,
-            run: Run {
-                begun: true,
-                standing,
-            },
-            cost,
-        };
+    if checked.answer.number != 0 {
+        return not_begun(checked);
     }
-    not_begun(checked)
+    let standing = checked.source.events;
+    fill(&mut tags[..], standing);
+    let cost = cost_of(&entry_room[..checked.entries], checked.target.events);
+    Started {
+        checked,
+        run: Run {
+            begun: true,
+            standing,
+        },
+        cost,
+    }
 }
 
 // The same without a list: none is listed.
@@ -99,9 +94,8 @@ pub fn start(
         source_room.old target_room.old entry_room.old) tags.old
         result source_room.new target_room.new entry_room.new tags.new }
 {
-    let listed: Listed = [false; PLACES];
     start_in(
-        &listed,
+        &[false; PLACES],
         source,
         target,
         matching,
@@ -129,12 +123,10 @@ pub fn start_listed(
         source_room.old target_room.old entry_room.old) tags.old
         result source_room.new target_room.new entry_room.new tags.new }
 {
-    let read = registers::read(list, group);
-    let found = read.answer;
-    if found.number != 0 {
-        return not_begun(refusal(found));
-    }
-    let listed = read.listed;
+    let listed = match registers::read(list, group) {
+        Ok(listed) => listed,
+        Err(found) => return not_begun(refusal(found)),
+    };
     start_in(
         &listed,
         source,
