@@ -2,7 +2,7 @@
 // comes back; of the others it is said whether they come back as they were.
 use super::call::Call;
 use super::tell::front;
-use event::{Answer, WORDS, Word};
+use event::{WORDS, Word};
 use files::check::ROOM;
 use text::word::same_bytes;
 use trace::form::form_of;
@@ -25,26 +25,15 @@ pub(crate) fn words_of(events: usize) -> usize {
 pub(crate) fn written_back(call: Call<'_>, text: &[u8]) -> Option<bool> {
     let mut room: [Word; ROOM] = [0; ROOM];
     let mut out: [u8; TEXT] = [0; TEXT];
-    let got = call.read(text, &mut room);
-    if got.answer.number != 0 {
-        return None;
-    }
-    let words = words_of(got.events).min(ROOM);
-    let written = call.write(form_of(text), got.memory, &room[..words], &mut out);
-    Some(same_bytes(front(&out, written.place), text))
+    let held = call.read(text, &mut room).ok()?;
+    let words = words_of(held.events).min(ROOM);
+    let written = call.write(form_of(text), held.memory, &room[..words], &mut out);
+    Some(written.is_ok_and(|bytes| same_bytes(front(&out, bytes), text)))
 }
 
-// A text moved from another, moved to the form of that, where the answer is no refusal.
-pub(crate) fn moved_back(
-    call: Call<'_>,
-    answer: Answer,
-    moved: &[u8],
-    text: &[u8],
-) -> Option<bool> {
-    if answer.number != 0 {
-        return None;
-    }
+// A text moved from another, moved to the form of that.
+pub(crate) fn moved_back(call: Call<'_>, moved: &[u8], text: &[u8]) -> bool {
     let mut out: [u8; TEXT] = [0; TEXT];
     let back = call.move_to(form_of(text), moved, &mut out);
-    Some(same_bytes(front(&out, back.place), text))
+    back.is_ok_and(|bytes| same_bytes(front(&out, bytes), text))
 }

@@ -2,12 +2,12 @@
 use checker::{Checked, check, check_listed};
 use event::{Answer, Entry, Word};
 use files::check::Texts;
-use files::list::{NO_LIST, read_list};
+use files::list::NO_LIST;
 use memory::Memory;
 use memory::listed::Listed;
 use record::form::Form;
 use shorten::{Shortened, shorten, shorten_listed};
-use trace::reading::TraceRead;
+use trace::reading::Held;
 use trace::{read, read_listed};
 use writer::moving::{move_listed, move_to};
 use writer::{write, write_listed};
@@ -29,7 +29,7 @@ impl Call<'_> {
     // Which locations are listed.
     pub fn listed(self) -> Result<Listed, Answer> {
         match self.list {
-            Some(ListFor { list, group }) => read_list(list, group),
+            Some(ListFor { list, group }) => registers::read(list, group),
             None => Ok(NO_LIST),
         }
     }
@@ -68,28 +68,39 @@ impl Call<'_> {
         }
     }
 
-    pub fn read(self, text: &[u8], room: &mut [Word]) -> TraceRead {
+    pub fn read(self, text: &[u8], room: &mut [Word]) -> Result<Held, Answer> {
         match self.list {
             Some(ListFor { list, group }) => read_listed(list, group, text, room),
             None => read(text, room),
         }
     }
 
-    pub fn write(self, form: Form, memory: Memory, room: &[Word], out: &mut [u8]) -> Answer {
+    pub fn write(
+        self,
+        form: Form,
+        memory: Memory,
+        room: &[Word],
+        out: &mut [u8],
+    ) -> Result<usize, Answer> {
         match self.list {
             Some(ListFor { list, group }) => write_listed(list, group, form, memory, room, out),
             None => write(form, memory, room, out),
         }
     }
 
-    pub fn move_to(self, to: Form, text: &[u8], out: &mut [u8]) -> Answer {
+    pub fn move_to(self, to: Form, text: &[u8], out: &mut [u8]) -> Result<usize, Answer> {
         match self.list {
             Some(ListFor { list, group }) => move_listed(list, group, to, text, out),
             None => move_to(to, text, out),
         }
     }
 
-    pub fn shorten(self, text: &[u8], out: &mut [u8], matching_out: &mut [u8]) -> Shortened {
+    pub fn shorten(
+        self,
+        text: &[u8],
+        out: &mut [u8],
+        matching_out: &mut [u8],
+    ) -> Result<Shortened, Answer> {
         match self.list {
             Some(ListFor { list, group }) => shorten_listed(list, group, text, out, matching_out),
             None => shorten(text, out, matching_out),

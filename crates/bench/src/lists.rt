@@ -2,7 +2,7 @@
 use super::tell::{Ran, is_right};
 use super::vector::TextVector;
 use event::{Answer, Word};
-use files::list::{NO_LIST, read_list};
+use files::list::NO_LIST;
 use memory::listed::Listed;
 
 // Whether the locations listed are those whose byte is `1` among the vector's marks; a refused list has no marks, and lists none.
@@ -23,11 +23,8 @@ pub(crate) fn run_list(
     group: Word,
 ) -> Ran {
     let header = vector.header;
-    let read = read_list(vector.text, group);
-    let answer = match read {
-        Ok(_) => Answer::new(0, 0, 0),
-        Err(refusal) => refusal,
-    };
+    let read = registers::read(vector.text, group);
+    let answer = Answer::of_bytes(read.map(|_| 0));
     let listed = read.unwrap_or(NO_LIST);
     let right = is_right(
         rt,

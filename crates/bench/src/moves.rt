@@ -14,7 +14,11 @@ pub(crate) fn run_move(rt: &impl Print, ordinal: usize, vector: TextVector<'_>) 
     } = vector;
     let mut out: [u8; TEXT] = [MARK; TEXT];
     let bytes = header.number(OUT_BYTES).min(TEXT);
-    let answer = call.move_to(header.form(), text, &mut out[..bytes]);
-    let back = moved_back(call, answer, written, text);
-    ran_with(rt, ordinal, vector, answer, &out, back)
+    let made = call.move_to(header.form(), text, &mut out[..bytes]);
+    let back = if made.is_ok() {
+        Some(moved_back(call, written, text))
+    } else {
+        None
+    };
+    ran_with(rt, ordinal, vector, made, &out, back)
 }

@@ -8,16 +8,13 @@ use super::written::MARK;
 use event::{Answer, EVENT_LIMIT, Entry, Word};
 use files::check::{ROOM, Texts};
 
-// Whether the check of a text that was shortened accepts; there is none of a refused one.
-fn checked(call: Call<'_>, answer: Answer, texts: Texts<'_>) -> Option<bool> {
-    if answer.number != 0 {
-        return None;
-    }
+// Whether the check of a text that was shortened accepts.
+fn is_accepted(call: Call<'_>, texts: Texts<'_>) -> bool {
     let mut source_room: [Word; ROOM] = [0; ROOM];
     let mut target_room: [Word; ROOM] = [0; ROOM];
     let mut entry_room: [Entry; EVENT_LIMIT] = [0; EVENT_LIMIT];
     let found = call.check(texts, &mut source_room, &mut target_room, &mut entry_room);
-    Some(found.answer.number == 0)
+    found.answer.number == 0
 }
 
 // Whether a text stands at the front of bytes, and the others are as they were.
@@ -44,12 +41,15 @@ pub(crate) fn run_short(rt: &impl Print, ordinal: usize, vector: CheckVector<'_>
         &mut out[..bytes],
         &mut matching_out[..matching_bytes],
     );
-    let answer = made.answer;
-    let back = checked(call, answer, texts);
-    // Under a refusal there is no text, and no byte is counted.
-    let told = header.is_said(answer)
-        && made.bytes == short.len()
-        && made.matching_bytes == matching.len();
+    let answer = Answer::of_bytes(made.map(|_| 0));
+    // There is no check of a refused one. Under a refusal there is no text, and no byte is counted.
+    let back = if made.is_ok() {
+        Some(is_accepted(call, texts))
+    } else {
+        None
+    };
+    let counted = made.map_or((0, 0), |short| (short.bytes, short.matching_bytes));
+    let told = header.is_said(answer) && counted == (short.len(), matching.len());
     let right = is_right(
         rt,
         ordinal,

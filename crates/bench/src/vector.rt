@@ -6,7 +6,7 @@ use event::{Answer, Word, number_index};
 use files::check::Texts;
 use record::form::Form;
 use text::line::LF;
-use text::number::{NumberRead, number_of};
+use text::number::number_of;
 use text::scan::find;
 
 // The byte that parts the numbers of a header.
@@ -114,10 +114,7 @@ impl<'a> Header<'a> {
 
     // Number k, from 0; 0 if it is none. None is too great: a word of an event may be one.
     pub fn number(self, k: usize) -> usize {
-        match number_of(self.behind(k).until(BLANK), u64::MAX) {
-            NumberRead::Value(n) => n as usize,
-            NumberRead::Malformed => 0,
-        }
+        number_of(self.behind(k).until(BLANK), u64::MAX).map_or(0, |n| n as usize)
     }
 
     // The form that is named.

@@ -4,6 +4,7 @@ use super::tell::Ran;
 use super::vector::{CHANGED_AT, CHANGED_TO, OUT_BYTES, ROOM_WORDS, TextVector};
 use super::written::{MARK, ran_with};
 use event::Word;
+use memory::Memory;
 use trace::read;
 
 // One event more than a trace can have.
@@ -19,17 +20,17 @@ pub(crate) fn run_write(rt: &impl Print, ordinal: usize, vector: TextVector<'_>)
     } = vector;
     let mut room: [Word; LONG_ROOM] = [0; LONG_ROOM];
     let mut out: [u8; TEXT] = [MARK; TEXT];
-    let got = read(text, &mut room);
+    let memory = read(text, &mut room).map_or(Memory::empty(), |held| held.memory);
     if let Some(word) = room.get_mut(header.number(CHANGED_AT)) {
         *word = header.number(CHANGED_TO) as Word;
     }
     let words = header.number(ROOM_WORDS).min(LONG_ROOM);
     let bytes = header.number(OUT_BYTES).min(TEXT);
-    let answer = call.write(header.form(), got.memory, &room[..words], &mut out[..bytes]);
-    let back = if answer.number == 0 {
+    let made = call.write(header.form(), memory, &room[..words], &mut out[..bytes]);
+    let back = if made.is_ok() {
         written_back(call, written)
     } else {
         None
     };
-    ran_with(rt, ordinal, vector, answer, &out, back)
+    ran_with(rt, ordinal, vector, made, &out, back)
 }

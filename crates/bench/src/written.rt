@@ -11,12 +11,13 @@ pub(crate) fn ran_with(
     rt: &impl Print,
     ordinal: usize,
     vector: TextVector<'_>,
-    answer: Answer,
+    made: Result<usize, Answer>,
     out: &[u8],
     back: Option<bool>,
 ) -> Ran {
     let header = vector.header;
     let text = vector.written;
+    let answer = Answer::of_bytes(made);
     let right = is_right(
         rt,
         ordinal,

@@ -5,6 +5,7 @@ pub mod room;
 
 ghost use Rattle.std.specs.Prelude.{◌≡◌};
 ghost use Rattle.event.specs.Answer.{answer};
+ghost use Rattle.event.specs.Told.{told};
 
 // A value and a word of an event.
 pub type Word = u64;
@@ -52,6 +53,16 @@ impl Answer {
             number,
             side,
             place,
+        }
+    }
+
+    // The answer to a writing: 0 with the bytes written, or what refuses.
+    pub fn of_bytes(written: Result<usize, Answer>) -> Self
+        ensures { result ≡ told (answer 0 0) (λ a. a) written }
+    {
+        match written {
+            Ok(bytes) => Answer::new(0, 0, bytes),
+            Err(answer) => answer,
         }
     }
 }

@@ -22,9 +22,8 @@ use checker::check_in;
 use checker::line::offending_span;
 use event::{Answer, Entry, Number, PLACES, Word};
 use memory::Memory;
-use memory::listed::Listed;
-use numbers::{answer_numbers, form_number, form_numbered};
-use results::{lay_check, lay_span, lay_trace, matching_numbers};
+use numbers::{form_number, form_numbered};
+use results::{lay_check, lay_span, lay_trace, matching_numbers, written_numbers};
 use trace::form::form_of;
 use writer::moving::move_to;
 
@@ -76,7 +75,7 @@ pub extern "C" fn laprunto_write_trace(
 {
     let cells = *memory;
     let written = writer::write(form_numbered(form), Memory { cells }, room, out);
-    *res = answer_numbers(written);
+    *res = written_numbers(written);
 }
 
 // A trace text moved to a form: number, side and place, and the bytes.
@@ -91,7 +90,7 @@ pub extern "C" fn laprunto_move_trace(
     ensures out_after { out.new ≡ moved_out (form_numbered to_form) text.now out.old }
 {
     let moved = move_to(form_numbered(to_form), text, out);
-    *res = answer_numbers(moved);
+    *res = written_numbers(moved);
 }
 
 // A check: number, side, place, source events, target events and entries, both starting memories, and the three rooms.
@@ -113,9 +112,8 @@ pub extern "C" fn laprunto_check(
         res.new source_memory.new target_memory.new
         source_room.new target_room.new entry_room.new }
 {
-    let listed: Listed = [false; PLACES];
     let checked = check_in(
-        &listed,
+        &[false; PLACES],
         source,
         target,
         matching,

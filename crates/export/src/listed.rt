@@ -16,12 +16,12 @@ ghost use Rattle.export.specs.Runs.{BeginsListed, Leaves};
 use beginning::start_listed;
 use changes::apply_listed;
 use checker::check_listed;
-use event::{EVENT_LIMIT, Entry, Number, PLACES, Word};
+use event::{Answer, EVENT_LIMIT, Entry, Number, PLACES, Word};
 use memory::Memory;
 use numbers::{
     answer_numbers, form_numbered, listed_of, marks_of, run_numbered, step_numbered, step_numbers,
 };
-use results::{lay_applied, lay_check, lay_start, lay_trace};
+use results::{lay_applied, lay_check, lay_start, lay_trace, written_numbers};
 use steps::next_listed;
 use trace::read_listed;
 use writer::moving::move_listed;
@@ -38,10 +38,12 @@ pub extern "C" fn laprunto_read_list(
     ensures res_after { res.new ≡ answer_numbers (list_of group list.now).answer }
     ensures listed_after { listed.new ≡ marks (list_of group list.now).listed }
 {
-    let read = registers::read(list, group);
-    let named = read.listed;
+    let (answer, named) = match registers::read(list, group) {
+        Ok(named) => (Answer::new(0, 0, 0), named),
+        Err(answer) => (answer, [false; PLACES]),
+    };
     *listed = marks_of(named);
-    *res = answer_numbers(read.answer);
+    *res = answer_numbers(answer);
 }
 
 // `laprunto_read_trace` with a list.
@@ -87,7 +89,7 @@ pub extern "C" fn laprunto_write_trace_listed(
         room,
         out,
     );
-    *res = answer_numbers(written);
+    *res = written_numbers(written);
 }
 
 // `laprunto_move_trace` with a list.
@@ -104,7 +106,7 @@ pub extern "C" fn laprunto_move_trace_listed(
     ensures out_after { out.new ≡ moved_listed (list_of group list.now) (form_numbered to_form) text.now out.old }
 {
     let moved = move_listed(list, group, form_numbered(to_form), text, out);
-    *res = answer_numbers(moved);
+    *res = written_numbers(moved);
 }
 
 // `laprunto_check` with a list.

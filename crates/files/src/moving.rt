@@ -20,12 +20,14 @@ pub fn move_file(
 ) {
     let text = read_text(rt, name);
     let mut out = [0u8; TEXT];
-    let answer = match list {
+    let moved = match list {
         Ok(listed) => move_in(&listed, to, text.as_slice(), &mut out),
-        Err(refusal) => refusal,
+        Err(refusal) => Err(refusal),
     };
-    if answer.number == 0 && !write_file(rt, err, out_name, front(&out, answer.place)) {
+    if let Ok(bytes) = moved
+        && !write_file(rt, err, out_name, front(&out, bytes))
+    {
         return;
     }
-    print_answer_line(rt, "done", answer);
+    print_answer_line(rt, "done", Answer::of_bytes(moved));
 }

@@ -4,7 +4,7 @@ use crate::read::{TEXT, read_text};
 use crate::write::write_file;
 use event::Answer;
 use memory::listed::Listed;
-use shorten::{Shortened, shorten_in};
+use shorten::shorten_in;
 use std::rt::Files;
 
 // The file of this name, shortened under a list, whose answer comes first. The two others are written only if the shortening is done, and `done` is printed
@@ -22,23 +22,19 @@ pub fn shorten_file(
     let mut matching = [0u8; TEXT];
     let made = match list {
         Ok(listed) => shorten_in(&listed, text.as_slice(), &mut out, &mut matching),
-        Err(answer) => Shortened {
-            answer,
-            bytes: 0,
-            matching_bytes: 0,
-        },
+        Err(refusal) => Err(refusal),
     };
-    if made.answer.number == 0 {
-        let written = write_file(rt, err, out_name, front(&out, made.bytes))
+    if let Ok(short) = made {
+        let written = write_file(rt, err, out_name, front(&out, short.bytes))
             && write_file(
                 rt,
                 err,
                 matching_name,
-                front(&matching, made.matching_bytes),
+                front(&matching, short.matching_bytes),
             );
         if !written {
             return;
         }
     }
-    print_answer_line(rt, "done", made.answer);
+    print_answer_line(rt, "done", Answer::of_bytes(made.map(|_| 0)));
 }

@@ -39,7 +39,9 @@ fn gone_rest(line: &[u8], at: usize) -> Option<Entry>
 pub(crate) fn entry_of(line: &[u8]) -> Option<Entry>
     ensures { result ≡ entry_of line.now }
 {
-    let field = field_of(line, 0)?;
+    let Some(field) = field_of(line, 0) else {
+        return None;
+    };
     let word = &line[field.from..field.to];
     if same_bytes(word, b"gone") {
         return gone_rest(line, field.to + 1);

@@ -52,8 +52,12 @@ fn init_rest(line: &[u8], at: usize) -> Option<Record>
     ensures { result ≡ init_rest (fields_from line.now at) }
 {
     let reader = new(line, at);
-    let place = next(reader)?;
-    let value = next(moved(reader, place.to + 1))?;
+    let Some(place) = next(reader) else {
+        return None;
+    };
+    let Some(value) = next(moved(reader, place.to + 1)) else {
+        return None;
+    };
     init_of(line, place, value)
 }
 
@@ -99,7 +103,9 @@ fn event_rest(form: Form, kind: Word, line: &[u8], at: usize) -> Option<Record>
 pub fn record_of(form: Form, line: &[u8]) -> Option<Record>
     ensures { result ≡ record_of form line.now }
 {
-    let field = field_of(line, 0)?;
+    let Some(field) = field_of(line, 0) else {
+        return None;
+    };
     let word = &line[field.from..field.to];
     if same_bytes(word, b"init") {
         return unless_silent(form, init_rest(line, field.to + 1));

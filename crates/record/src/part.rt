@@ -32,7 +32,9 @@ pub(crate) fn order_if(wanted: bool, line: &[u8], at: usize, other: Word) -> Opt
             next: at,
         });
     }
-    let field = field_of(line, at)?;
+    let Some(field) = field_of(line, at) else {
+        return None;
+    };
     Some(Taken {
         value: order_of(&line[field.from..field.to]),
         next: field.to + 1,

@@ -62,7 +62,9 @@ fn after_word(grouped: bool, line: &[u8], at: usize) -> Option<Register>
 pub(crate) fn reg_of(grouped: bool, line: &[u8]) -> Option<Register>
     ensures { result ≡ reg_of grouped line.now }
 {
-    let word = field_of(line, 0)?;
+    let Some(word) = field_of(line, 0) else {
+        return None;
+    };
     if !same_bytes(&line[word.from..word.to], b"reg") {
         return None;
     }

@@ -1,11 +1,25 @@
 -- Document 01, "Numbers that come back", and requests C-12, C-18 and C-19: what a call hands back, laid out as numbers. Assumes nothing.
-use Rattle.std.specs.Prelude.{ℕ, List, [], ◌∷◌}
-use Rattle.trace.specs.Reading.{TraceRead}
-use Rattle.matching.specs.declared.MatchingRead.{MatchingRead}
+use Rattle.std.specs.Prelude.{ℕ, List, [], ◌∷◌, Result}
+use Rattle.event.specs.Answer.{answer}
+use Rattle.event.specs.Told.{told}
+use Rattle.event.specs.declared.Answer.{Answer}
+use Rattle.trace.specs.Reading.{TraceRead, refused, read_as}
+use Rattle.trace.specs.declared.reading.Held.{Held}
+use Rattle.matching.specs.Reading.{MatchingRead, refused as matching_refused, read_as as entries_as}
 use Rattle.checker.specs.declared.Checked.{Checked}
 use Rattle.beginning.specs.declared.Started.{Started}
 use Rattle.shorten.specs.declared.Shortened.{Shortened}
 use Rattle.numbers.specs.Numbers.{checked_numbers, count_numbers, started_numbers}
+
+-- What the results of a reading and of a writing tell.
+abbrev pub trace_told : Result Held Answer → TraceRead
+trace_told = told (λ h. read_as h.events h.memory) refused
+
+abbrev pub matching_told : Result ℕ Answer → MatchingRead
+matching_told = told entries_as matching_refused
+
+abbrev pub written_told : Result ℕ Answer → Answer
+written_told = told (answer 0 0) (λ a. a)
 
 -- A trace read: its answer, then its events.
 abbrev pub trace_numbers : TraceRead → List ℕ

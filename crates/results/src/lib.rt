@@ -2,35 +2,54 @@
 #![tactic(auto)]
 
 ghost use Rattle.std.specs.Prelude.{◌≡◌};
-ghost use Rattle.numbers.specs.Numbers.{flag, run_numbers};
-ghost use Rattle.results.specs.Results.{check_numbers, matching_numbers, shortened_numbers, start_numbers, trace_numbers};
+ghost use Rattle.numbers.specs.Numbers.{answer_numbers, flag, run_numbers};
+ghost use Rattle.results.specs.Results.{check_numbers, matching_numbers, matching_told, short_told, shortened_numbers, start_numbers, trace_numbers, trace_told, written_told};
 
 use beginning::Started;
 use changes::Applied;
 use checker::Checked;
 use checker::line::Span;
-use event::{PLACES, Word, number_index};
-use matching::MatchingRead;
-use numbers::{checked_numbers, count_numbers, flag_of, run_numbers, started_numbers};
+use event::{Answer, PLACES, Word, number_index};
+use numbers::{answer_numbers, checked_numbers, count_numbers, flag_of, run_numbers, started_numbers};
 use shorten::Shortened;
-use trace::reading::TraceRead;
+use trace::reading::Held;
 
 // A trace read: its numbers, and its starting memory.
-pub fn lay_trace(read: TraceRead, memory: &mut [Word; PLACES], res: &mut [usize; 4])
-    ensures res_after { res.new ≡ trace_numbers read }
-    ensures memory_after { memory.new ≡ read.memory.cells }
+pub fn lay_trace(
+    read: Result<Held, Answer>,
+    memory: &mut [Word; PLACES],
+    res: &mut [usize; 4],
+)
+    ensures res_after { res.new ≡ trace_numbers (trace_told read) }
+    ensures memory_after { memory.new ≡ (trace_told read).memory.cells }
 {
-    let start = read.memory;
-    let cells = start.cells;
-    *memory = cells;
-    *res = count_numbers(read.answer, read.events);
+    match read {
+        Ok(held) => {
+            *memory = held.memory.cells;
+            *res = count_numbers(Answer::new(0, 0, 0), held.events);
+        }
+        Err(answer) => {
+            *memory = [0; PLACES];
+            *res = count_numbers(answer, 0);
+        }
+    }
 }
 
 // A matching read: its numbers.
-pub fn matching_numbers(read: MatchingRead) -> [usize; 4]
-    ensures { result ≡ matching_numbers read }
+pub fn matching_numbers(read: Result<usize, Answer>) -> [usize; 4]
+    ensures { result ≡ matching_numbers (matching_told read) }
 {
-    count_numbers(read.answer, read.entries)
+    match read {
+        Ok(entries) => count_numbers(Answer::new(0, 0, 0), entries),
+        Err(answer) => count_numbers(answer, 0),
+    }
+}
+
+// A text written or moved: its answer's numbers, of which the place is how many bytes it has.
+pub fn written_numbers(written: Result<usize, Answer>) -> [usize; 3]
+    ensures { result ≡ answer_numbers (written_told written) }
+{
+    answer_numbers(Answer::of_bytes(written))
 }
 
 // A check: its numbers, and both starting memories.
@@ -44,18 +63,12 @@ pub fn lay_check(
     ensures source_memory_after { source_memory.new ≡ checked.source.memory.cells }
     ensures target_memory_after { target_memory.new ≡ checked.target.memory.cells }
 {
-    let source_held = checked.source;
-    let target_held = checked.target;
-    let source_start = source_held.memory;
-    let target_start = target_held.memory;
-    let source_cells = source_start.cells;
-    let target_cells = target_start.cells;
-    *source_memory = source_cells;
-    *target_memory = target_cells;
+    *source_memory = checked.source.memory.cells;
+    *target_memory = checked.target.memory.cells;
     *res = checked_numbers(
         checked.answer,
-        source_held.events,
-        target_held.events,
+        checked.source.events,
+        checked.target.events,
         checked.entries,
     );
 }
@@ -65,14 +78,12 @@ pub fn lay_start(started: Started, run: &mut [usize; 2], res: &mut [usize; 7])
     ensures res_after { res.new ≡ start_numbers started }
     ensures run_after { run.new ≡ run_numbers started.run }
 {
-    let begun = started.run;
-    *run = run_numbers(begun);
-    let checked = started.checked;
+    *run = run_numbers(started.run);
     *res = started_numbers(
-        checked.answer,
-        checked.source.events,
-        checked.target.events,
-        checked.entries,
+        started.checked.answer,
+        started.checked.source.events,
+        started.checked.target.events,
+        started.checked.entries,
         started.cost,
     );
 }
@@ -82,8 +93,7 @@ pub fn lay_applied(applied: Applied, run: &mut [usize; 2]) -> usize
     ensures value { result ≡ flag applied.allowed }
     ensures run_after { run.new ≡ run_numbers applied.run }
 {
-    let after = applied.run;
-    *run = run_numbers(after);
+    *run = run_numbers(applied.run);
     flag_of(applied.allowed)
 }
 
@@ -97,15 +107,18 @@ pub fn lay_span(part: Span, from: &mut usize, to: &mut usize)
 }
 
 // A shortening: the answer, then the bytes of the shortened text and those of its matching.
-pub fn shortened_numbers(r: Shortened) -> [usize; 5]
-    ensures { result ≡ shortened_numbers r }
+pub fn shortened_numbers(made: Result<Shortened, Answer>) -> [usize; 5]
+    ensures { result ≡ shortened_numbers (short_told made) }
 {
-    let answer = r.answer;
+    let (answer, bytes, matching_bytes) = match made {
+        Ok(short) => (Answer::new(0, 0, 0), short.bytes, short.matching_bytes),
+        Err(answer) => (answer, 0, 0),
+    };
     [
         number_index(answer.number),
         number_index(answer.side),
         answer.place,
-        r.bytes,
-        r.matching_bytes,
+        bytes,
+        matching_bytes,
     ]
 }

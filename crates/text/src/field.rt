@@ -8,7 +8,8 @@ use super::scan::find;
 // The byte between two fields.
 pub const TAB: u8 = 9;
 
-// Where a field starts and ends in its line.
+// Where a field starts and ends in its line. A field step answers with an enum, `Option<Field>`, which each record's reader takes apart by `let .. else` and not by `?`: document 01
+// names this form.
 #[derive(Clone, Copy)]
 pub struct Field {
     pub from: usize,

@@ -26,7 +26,9 @@ fn number_at(line: &[u8], from: usize, to: usize, max: u64) -> Option<u64>
 pub fn take_number(line: &[u8], at: usize, max: u64) -> Option<Taken>
     ensures { result ≡ take_number line.now at max }
 {
-    let field = field_of(line, at)?;
+    let Some(field) = field_of(line, at) else {
+        return None;
+    };
     let value = number_at(line, field.from, field.to, max)?;
     Some(Taken {
         value,
