@@ -12,10 +12,10 @@ ghost use Rattle.writer.specs.Put.{Put, Small, tab_if, bare_line, init_part, sta
 
 use crate::touch::has_line;
 use event::room::get;
-use event::{Event, PLACES, Word, index_of};
+use event::{Event, Word, index_of};
 use kinds::is_lawful;
 use memory::Memory;
-use record::form::Form;
+use record::form::{Form, header_of};
 use record::shape::shape_of;
 use record::word::{KIND_WORDS, ORDER_WORDS, ROW, word_in};
 use text::write::{DIGITS, put_number};
@@ -31,6 +31,7 @@ fn store_byte(out: &mut [u8], at: usize, b: u8)
 }
 
 // Bytes from a place on; what comes back is the place after them. Where all lie beyond the end they are counted at once.
+#[tactic(auto, using(crate::proofs::Puts::put_beyond, crate::proofs::Puts::left_all, crate::proofs::Puts::left_byte, crate::proofs::Puts::left_no_byte))]
 pub fn put(out: &mut [u8], at: usize, bytes: &[u8]) -> usize
     requires { Small at bytes.now }
     ensures { Put out.old at bytes.now out.new result }
@@ -38,12 +39,10 @@ pub fn put(out: &mut [u8], at: usize, bytes: &[u8]) -> usize
     if out.len() <= at {
         return at + bytes.len();
     }
-    let mut i: usize = 0;
-    while i < bytes.len() {
-        store_byte(out, at + i, bytes[i]);
-        i += 1;
+    for (i, b) in bytes.iter().enumerate() {
+        store_byte(out, at + i, *b);
     }
-    at + i
+    at + bytes.len()
 }
 
 // The word of a number in a table of words; nothing for a number that has none there.
@@ -110,6 +109,7 @@ pub fn put_event(form: Form, out: &mut [u8], at: usize, e: Event) -> usize
 
 // The line of form 1 of an event in a room, with its LF, at the front of the lent bytes; what comes back is its length. A code line is left out, and
 // an event outside the layout has no line.
+#[tactic(auto, using(crate::proofs::Texts::bare_small))]
 pub fn write_event(room: &[Word], i: usize, out: &mut [u8]) -> usize
     ensures { Put out.old 0 (bare_line (event_at room.now i)) out.new result }
 {
@@ -129,6 +129,7 @@ pub fn write_event(room: &[Word], i: usize, out: &mut [u8]) -> usize
 }
 
 // The `init` line of a location, with its LF, if it is to be there.
+#[tactic(auto, using(crate::proofs::Texts::init_sum))]
 fn put_init(has: bool, out: &mut [u8], at: usize, place: Word, value: Word) -> usize
     requires { Small at (init_part has place value) }
     ensures { Put out.old at (init_part has place value) out.new result }
@@ -143,30 +144,33 @@ fn put_init(has: bool, out: &mut [u8], at: usize, place: Word, value: Word) -> u
 }
 
 // The `init` lines of cells.
+#[tactic(auto, using(crate::proofs::Puts::left_all, crate::proofs::Puts::left_small, crate::proofs::Puts::left_next, crate::proofs::Puts::left_none, crate::proofs::Texts::inits_next, crate::proofs::Texts::inits_end))]
 fn put_inits(form: Form, out: &mut [u8], at: usize, ways: &Ways, memory: Memory) -> usize
     requires { Small at (text_of (init_lines (has_line form (is_used ways.now)) 0 memory.cells)) }
     ensures { Put out.old at (text_of (init_lines (has_line form (is_used ways.now)) 0 memory.cells)) out.new result }
 {
     let mut next = at;
-    let mut i: usize = 0;
-    while i < PLACES {
-        let value = memory.cells[i];
-        next = put_init(has_line(form, ways[i], value), out, next, i as Word, value);
-        i += 1;
+    for (i, value) in memory.cells.iter().enumerate() {
+        next = put_init(
+            has_line(form, ways[i], *value),
+            out,
+            next,
+            i as Word,
+            *value,
+        );
     }
     next
 }
 
 // The lines of the first n events of a room.
+#[tactic(auto, using(trace::proofs::Judged::event_next, trace::proofs::Judged::onward_end, trace::proofs::Judged::onward_all, crate::proofs::Puts::left_all, crate::proofs::Texts::line_small, crate::proofs::Texts::line_put, crate::proofs::Texts::lines_put))]
 fn put_events(form: Form, out: &mut [u8], at: usize, room: &[Word], n: usize) -> usize
     requires { Small at (text_of (map (event_line form) (onward room.now 0 n))) }
     ensures { Put out.old at (text_of (map (event_line form) (onward room.now 0 n))) out.new result }
 {
     let mut next = at;
-    let mut i: usize = 0;
-    while i < n {
+    for i in 0..n {
         next = put_event(form, out, next, get(room, i));
-        i += 1;
     }
     next
 }
@@ -175,13 +179,12 @@ fn put_events(form: Form, out: &mut [u8], at: usize, room: &[Word], n: usize) ->
 fn put_header(form: Form, out: &mut [u8]) -> usize
     ensures { Put out.old 0 (header form ++ 10 ∷ []) out.new result }
 {
-    match form {
-        Form::One => put(out, 0, b"trace\t1\n"),
-        Form::Two => put(out, 0, b"trace\t2\n"),
-    }
+    let after_line = put(out, 0, header_of(form));
+    put(out, after_line, b"\n")
 }
 
 // Line 1 and the `init` lines.
+#[tactic(auto, using(crate::proofs::Texts::start_sum, crate::proofs::Texts::start_put))]
 pub fn put_start(form: Form, out: &mut [u8], ways: &Ways, memory: Memory) -> usize
     requires { Small 0 (start_text form (is_used ways.now) memory) }
     ensures { Put out.old 0 (start_text form (is_used ways.now) memory) out.new result }
@@ -191,6 +194,7 @@ pub fn put_start(form: Form, out: &mut [u8], ways: &Ways, memory: Memory) -> usi
 }
 
 // The whole text, by the ways in which its events use the locations.
+#[tactic(auto, using(crate::proofs::Texts::trace_sum, crate::proofs::Texts::trace_put))]
 pub(crate) fn put_text(
     form: Form,
     out: &mut [u8],
