@@ -33,24 +33,25 @@ use Rattle.checker.specs.declared.Checked.{Checked}
 
 module _ (regs : List Bool) (l : Lent) where
   -- the source, the target or the matching refuses
-  module _ (a : Answer) (r : Refuses a) where
-    pub by_source : trace_refused a ≡ source_read_in regs l → a ≡ reading_answer_in regs l
-    unfolding reading_answer_in
-    by_source q = rw (← q, r)
+  pub by_source : (a : Answer) → Refuses a → trace_refused a ≡ source_read_in regs l → a ≡ reading_answer_in regs l
+  unfolding reading_answer_in
+  by_source a r q = rw (← q, r)
 
-    pub by_target : (n : ℕ) (m : Memory) → read_as n m ≡ source_read_in regs l → trace_refused a ≡ target_read_in regs l → a ≡ reading_answer_in regs l
+  module _ (n : ℕ) (m : Memory) (p : read_as n m ≡ source_read_in regs l) where
+    pub by_target : (a : Answer) → Refuses a → trace_refused a ≡ target_read_in regs l → a ≡ reading_answer_in regs l
     unfolding reading_answer_in
-    by_target n m p q = rw (← p, ← q, r)
+    by_target a r q = rw (← p, ← q, r)
 
-    pub by_entries : (n k : ℕ) (m w : Memory) → read_as n m ≡ source_read_in regs l → read_as k w ≡ target_read_in regs l
-        → entries_refused a ≡ entries_read l → a ≡ reading_answer_in regs l
+    pub by_entries : (k : ℕ) (w : Memory) → read_as k w ≡ target_read_in regs l → (a : Answer) → Refuses a → entries_refused a ≡ entries_read l
+        → a ≡ reading_answer_in regs l
     unfolding reading_answer_in
-    by_entries n k m w p q e = rw (← p, ← q, ← e)
+    by_entries k w q a r e = rw (← p, ← q, ← e)
 
-    -- which is handed back
-    pub texts_refused : a ≡ reading_answer_in regs l → (r : Checked) → r ≡ refused a → ChecksIn regs l r l.source_room_of l.target_room_of l.entry_room_of
-    unfolding check_in source_room_in target_room_in entry_room_in
-    texts_refused q c e = record { result = rw (← q, r) e; source = rw (← q, r); target = rw (← q, r); entries = rw (← q, r) }
+  -- which is handed back
+  pub texts_refused : (a : Answer) → Refuses a → a ≡ reading_answer_in regs l → (r : Checked) → r ≡ refused a
+      → ChecksIn regs l r l.source_room_of l.target_room_of l.entry_room_of
+  unfolding check_in source_room_in target_room_in entry_room_in
+  texts_refused a z q r e = record { result = rw (← q, z) e; source = rw (← q, z); target = rw (← q, z); entries = rw (← q, z) }
 
   -- none refuses
   pub texts_read : {read : Held × Held × ℕ} → HoldsTexts regs l read → (reading_answer_in regs l).number ≡ 0
@@ -59,7 +60,12 @@ module _ (regs : List Bool) (l : Lent) where
 
   pub checks_judged : (r : Checked) (s t e : List ℕ) → (reading_answer_in regs l).number ≡ 0
       → r
-      ≡ record { answer = verdict_for regs l; source = held_of (source_read_in regs l); target = held_of (target_read_in regs l); entries = (entries_read l).entries }
+      ≡ record {
+        answer = verdict_for regs l;
+        source = held_of (source_read_in regs l);
+        target = held_of (target_read_in regs l);
+        entries = (entries_read l).entries;
+      }
       → s ≡ front (events_of l.source) l.source_room_of → t ≡ front (events_of l.target) l.target_room_of
       → e ≡ entry_front (entries_of l.matching) l.entry_room_of → ChecksIn regs l r s t e
   unfolding check_in source_room_in target_room_in entry_room_in
@@ -75,7 +81,8 @@ module _ (list : ListRead) (l : Lent) where
   unfolding check_listed
   by_refused h = rw (ne_eqb _ _ h)
 
-  pub listed_refused : (a : Answer) → Refuses a → refused_list a ≡ list → (r : Checked) → r ≡ refused a → ChecksListed list l r l.source_room_of l.target_room_of l.entry_room_of
+  pub listed_refused : (a : Answer) → Refuses a → refused_list a ≡ list → (r : Checked) → r ≡ refused a
+      → ChecksListed list l r l.source_room_of l.target_room_of l.entry_room_of
   unfolding check_listed
   listed_refused a r q c e = record { result = rw (← q, r) e; source = rw (← q, r); target = rw (← q, r); entries = rw (← q, r) }
 

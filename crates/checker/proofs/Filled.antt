@@ -127,10 +127,24 @@ module _ (regs : List Bool) (l : Lent) (read : Held × Held × ℕ) (h : HoldsTe
   entries_entered = entered l.matching l.entry_room_of n h.entries
 
   judged_is : judged_in regs s t n (take (s.events * event_words) source_room) (take (t.events * event_words) target_room) (take n entry_room)
-      ≡ record { answer = verdict_for regs l; source = held_of (source_read_in regs l); target = held_of (target_read_in regs l); entries = (entries_reading l).entries }
+      ≡ record {
+        answer = verdict_for regs l;
+        source = held_of (source_read_in regs l);
+        target = held_of (target_read_in regs l);
+        entries = (entries_reading l).entries;
+      }
   unfolding judged_in verdict_for
   judged_is =
-      rw (← h.source, ← h.target, ← h.entries, source_filled.front, target_filled.front, entries_entered.front, held (events_of l.source), held (events_of l.target))
+      rw (
+        ← h.source,
+        ← h.target,
+        ← h.entries,
+        source_filled.front,
+        target_filled.front,
+        entries_entered.front,
+        held (events_of l.source),
+        held (events_of l.target),
+      )
 
   pub checks : ChecksIn regs l
       (judged_in regs s t n (take (s.events * event_words) source_room) (take (t.events * event_words) target_room) (take n entry_room))

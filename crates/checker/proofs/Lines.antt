@@ -102,7 +102,8 @@ module _ (text : List ℕ) (only : Bool) (k : ℕ) where
         told : hit ≡ counted (form_of text) only (part text at to)
         told = rw (← f) h
 
-        pub sought_found : ends ≡ true → Spans text (sought text only k 0 (split text)).line (span at to) × (span at to ≡ (sought text only k 0 (split text)).place)
+        pub sought_found : ends ≡ true
+            → Spans text (sought text only k 0 (split text)).line (span at to) × (span at to ≡ (sought text only k 0 (split text)).place)
         sought_found p =
             spans text at to (omega (arith, there)) (omega (arith, there))
             (walk_line (sought text only left at) text at w.same (λ ls. record { line = part text at to; place = span at to }) here
@@ -127,10 +128,13 @@ module _ (text : List ℕ) (only : Bool) (k : ℕ) where
         last_told : hit ≡ counted (form_of text) only (part text at (length text))
         last_told = rw (← f) h
 
-        pub sought_last : ends ≡ true → Spans text (sought text only k 0 (split text)).line (span at (length text)) × (span at (length text) ≡ (sought text only k 0 (split text)).place)
+        pub sought_last : ends ≡ true
+            → Spans text (sought text only k 0 (split text)).line (span at (length text))
+            × (span at (length text) ≡ (sought text only k 0 (split text)).place)
         sought_last p = spans text at (length text) w.within (omega arith) (rest ∙ line_found _ _ _ _ _ _ [] _ end_at last_told (sym e ∙ p))
 
-        pub sought_none : ends ≡ false → Spans text (sought text only k 0 (split text)).line (span 0 0) × (span 0 0 ≡ (sought text only k 0 (split text)).place)
+        pub sought_none : ends ≡ false
+            → Spans text (sought text only k 0 (split text)).line (span 0 0) × (span 0 0 ≡ (sought text only k 0 (split text)).place)
         sought_none p =
             spans text 0 0 (omega arith) (omega arith)
             (rest ∙ (line_passed _ _ _ _ _ _ [] _ end_at last_told (sym e ∙ p) ∙ none_left _ _ _ _))

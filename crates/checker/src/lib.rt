@@ -41,8 +41,8 @@ pub fn refusal(answer: Answer) -> Checked
     }
 }
 
-// The texts and rooms stay parameters of their own here too: a struct of them would be built in `check_in` to be taken apart again.
 // What is held of both traces and how many entries there are, or the first refusal, for the rooms lent: nothing is stored yet.
+// Three texts and three rooms, as docs/CONTRACTS.md names the parameters of `check_in`: a struct of them would be built there to be taken apart here.
 #[tactic(auto, unfolding(trace::specs::Reading::read_in, matching::specs::Reading::read_of), using(crate::proofs::Answers::by_source))]
 fn read_texts(
     listed: &Listed,
@@ -184,17 +184,16 @@ pub fn check_listed(
         source_room.old target_room.old entry_room.old)
         result source_room.new target_room.new entry_room.new }
 {
-    let listed = match registers::read(list, group) {
-        Ok(listed) => listed,
-        Err(found) => return refusal(found),
-    };
-    check_in(
-        &listed,
-        source,
-        target,
-        matching,
-        source_room,
-        target_room,
-        entry_room,
-    )
+    match registers::read(list, group) {
+        Ok(listed) => check_in(
+            &listed,
+            source,
+            target,
+            matching,
+            source_room,
+            target_room,
+            entry_room,
+        ),
+        Err(found) => refusal(found),
+    }
 }

@@ -11,15 +11,11 @@ unfolding read_in
 returns-in_err-t c =
     let a = c.args in
     let l = lent a.source.now a.target.now a.matching.now a.source_room.now a.target_room.now a.entry_room.now in
-    let e = c.in_err-t.ensures in
-    let told = by_target a.listed.now l _ e.0 _ _ c.in_ok-s.ensures e.1 in
-    search (rules, e, told)
+    search (rules, by_target a.listed.now l _ _ c.in_ok-s.ensures)
 
 pub returns-in_err-entries : goal.returns-in_err-entries
 unfolding read_in read_of
 returns-in_err-entries c =
     let a = c.args in
     let l = lent a.source.now a.target.now a.matching.now a.source_room.now a.target_room.now a.entry_room.now in
-    let e = c.in_err-entries.ensures in
-    let told = by_entries a.listed.now l _ e.0 _ _ _ _ c.in_ok-s.ensures c.in_ok-t.ensures e.1 in
-    search (rules, e, told)
+    search (rules, by_entries a.listed.now l _ _ c.in_ok-s.ensures _ _ c.in_ok-t.ensures)
