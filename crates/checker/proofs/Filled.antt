@@ -82,7 +82,7 @@ module _ (t room : List ℕ) (z : (entries_read t room).answer.number ≡ 0) whe
   entries_counted : (entries_read t room).entries ≡ length (entries_of t)
   entries_counted = rw (entries_passed t room z) (entry_counts t (rw (entries_passed t room z) at z))
 
-  entered_front : Entered t (entries_read t room).entries (entry_front (entries_of t) room)
+  pub entered_front : Entered t (entries_read t room).entries (entry_front (entries_of t) room)
   entered_front = record {
     inside = omega (arith, entries_counted, length-append (entries_of t) (drop (length (entries_of t)) room));
     front = rw entries_counted (take_at (entries_of t) (drop (length (entries_of t)) room) (length (entries_of t)) refl);
