@@ -21,7 +21,7 @@ use Rattle.checker.specs.Demand.{AdmittedIn, entries_for, premise, source_of, ta
 use Rattle.checker.specs.declared.Checked.{Checked}
 use Rattle.checker.proofs.Admitted.{admitted_exactly_in}
 use Rattle.checker.proofs.Demand3.{read_all}
-use Rattle.checker.proofs.Filled.{Entered, entered_after}
+use Rattle.checker.proofs.Filled.{Entered, entered_front}
 use Rattle.changes.specs.Apply.{front}
 use Rattle.course.specs.Cost.{cost}
 use Rattle.beginning.specs.Start.{StartsIn, StartsListed, not_begun, started_in, started_listed, counted}
@@ -68,7 +68,7 @@ module _ (regs : List Bool) (l : Lent) (z : (check_in regs l).answer.number ≡ 
 
   held : Entered l.matching (entries_read l).entries (entry_room_in regs l)
   unfolding entry_room_in
-  held = rw admitted.reading (entered_after l.matching l.entry_room_of (read_all regs l admitted.reading).2)
+  held = rw admitted.reading (entered_front l.matching l.entry_room_of (read_all regs l admitted.reading).2)
 
   entries_counted : (check_in regs l).entries ≡ (entries_read l).entries
   unfolding check_in

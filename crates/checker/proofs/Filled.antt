@@ -88,10 +88,6 @@ module _ (t room : List ℕ) (z : (entries_read t room).answer.number ≡ 0) whe
     front = rw entries_counted (take_at (entries_of t) (drop (length (entries_of t)) room) (length (entries_of t)) refl);
   }
 
--- the room after a reading that does not refuse
-pub entered_after : (t room : List ℕ) → (entries_read t room).answer.number ≡ 0 → Entered t (entries_read t room).entries (entry_front (entries_of t) room)
-entered_after t room z = entered_front t room z
-
 pub entered : (t room : List ℕ) (n : ℕ) → entries_as n ≡ entries_read t room → Entered t n (put_all set room 0 (entries_of t))
 entered t room n q =
     let z : (entries_read t room).answer.number ≡ 0 = rw (← q) in
