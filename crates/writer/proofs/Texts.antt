@@ -53,14 +53,16 @@ pub event_parts_lem : (f : Form) (e : Event) {s : Shape} → s ≡ shape_of f e.
 unfolding event_line event_fields
 event_parts_lem f e h = rw h (line_parts_lem (word_at kind_words e.kind) (parts (shape_of f e.kind) e))
 
--- how long it is, and that its parts put one after the other are it
-module _ (f : Form) (e : Event) (s : Shape) (q : s ≡ shape_of f e.kind) where
-  pub event_sum : length (event_line f e ++ 10 ∷ [])
-      ≡ length (word_at kind_words e.kind) + (length (tab_if s.place (decimal e.place)) + (length (tab_if s.order (word_at order_words e.order))
-      + (length (tab_if s.first (decimal e.first)) + (length (tab_if s.second (decimal e.second)) + (length (tab_if s.mark (word_at order_words e.order))
-      + (length (tab_if s.code (decimal e.code)) + 1))))))
-  event_sum = rw (event_parts_lem f e q) (simp length-append)
+-- how long it is
+pub event_sum : (f : Form) (e : Event) → length (event_line f e ++ 10 ∷ [])
+    ≡ length (word_at kind_words e.kind) + (length (tab_if (shape_of f e.kind).place (decimal e.place))
+    + (length (tab_if (shape_of f e.kind).order (word_at order_words e.order)) + (length (tab_if (shape_of f e.kind).first (decimal e.first))
+    + (length (tab_if (shape_of f e.kind).second (decimal e.second)) + (length (tab_if (shape_of f e.kind).mark (word_at order_words e.order))
+    + (length (tab_if (shape_of f e.kind).code (decimal e.code)) + 1))))))
+event_sum f e = rw (event_parts_lem f e {s = shape_of f e.kind} refl) (simp length-append)
 
+-- its parts put one after the other are it
+module _ (f : Form) (e : Event) (s : Shape) (q : s ≡ shape_of f e.kind) where
   pub event_put : {r₀ r₁ r₂ r₃ r₄ r₅ r₆ r₇ r₈ : List ℕ} {a₀ a₁ a₂ a₃ a₄ a₅ a₆ a₇ a₈ : ℕ} → Put r₀ a₀ (word_at kind_words e.kind) r₁ a₁
       → Put r₁ a₁ (tab_if s.place (decimal e.place)) r₂ a₂ → Put r₂ a₂ (tab_if s.order (word_at order_words e.order)) r₃ a₃
       → Put r₃ a₃ (tab_if s.first (decimal e.first)) r₄ a₄ → Put r₄ a₄ (tab_if s.second (decimal e.second)) r₅ a₅
@@ -132,7 +134,8 @@ module _ (has : ℕ → ℕ → Bool) (cells : List ℕ) (i : ℕ) where
   inits_end h = rw (starts_end has cells i h)
 
 -- the lines of events, one by one
-module _ (f : Form) {room : List ℕ} {at : ℕ} {whole now : List ℕ} {here : ℕ} {es : List Event} (l : Left room at whole now here (text_of (map (event_line f) es))) where
+module _ (f : Form) {room : List ℕ} {at : ℕ} {whole now : List ℕ} {here : ℕ} {es : List Event}
+    (l : Left room at whole now here (text_of (map (event_line f) es))) where
   module _ {e : Event} {next : List Event} (q : es ≡ e ∷ next) where
     parted : text_of (map (event_line f) es) ≡ (event_line f e ++ 10 ∷ []) ++ text_of (map (event_line f) next)
     parted = rw q (text_cons (event_line f e) (map (event_line f) next))
@@ -140,7 +143,8 @@ module _ (f : Form) {room : List ℕ} {at : ℕ} {whole now : List ℕ} {here : 
     pub line_small : Small here (event_line f e ++ 10 ∷ [])
     line_small = left_small l _ _ parted
 
-    pub line_put : {now₁ : List ℕ} {here₁ : ℕ} → Put now here (event_line f e ++ 10 ∷ []) now₁ here₁ → Left room at whole now₁ here₁ (text_of (map (event_line f) next))
+    pub line_put : {now₁ : List ℕ} {here₁ : ℕ} → Put now here (event_line f e ++ 10 ∷ []) now₁ here₁
+        → Left room at whole now₁ here₁ (text_of (map (event_line f) next))
     line_put p = left_next l _ _ parted p
 
   pub lines_put : es ≡ [] → Put room at whole now here

@@ -36,7 +36,7 @@ fn touch_lines(ways: &mut Ways, text: &[u8])
 }
 
 // The lines of the events of a text.
-#[tactic(auto, using(trace::proofs::Walks::events_heard, crate::proofs::Puts::left_all, crate::proofs::Texts::line_small, crate::proofs::Texts::line_put, crate::proofs::Texts::lines_put))]
+#[tactic(auto, using(trace::proofs::Walks::events_heard, crate::proofs::Puts::left_all, crate::proofs::Texts::lines_put))]
 fn put_lines(to: Form, out: &mut [u8], at: usize, text: &[u8]) -> usize
     requires { Small at (text_of (map (event_line to) (events_of text.now))) }
     ensures { Put out.old at (text_of (map (event_line to) (events_of text.now))) out.new result }

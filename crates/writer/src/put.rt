@@ -21,7 +21,7 @@ use record::word::{KIND_WORDS, ORDER_WORDS, ROW, word_in};
 use text::write::{DIGITS, put_number};
 use uses::Ways;
 
-// A byte at a place; none beyond the end.
+// A byte at a place; none beyond the end. By an index: what std says of `get_mut` does not tell the bytes afterwards.
 fn store_byte(out: &mut [u8], at: usize, b: u8)
     ensures { out.new ≡ set out.old at b }
 {
@@ -50,11 +50,10 @@ fn put_word(out: &mut [u8], at: usize, table: &[[u8; ROW]], n: Word) -> usize
     requires { Small at (get_or (map word_in table.now) n []) }
     ensures { Put out.old at (get_or (map word_in table.now) n []) out.new result }
 {
-    let i = index_of(n);
-    if table.len() <= i {
+    let Some(row) = table.get(index_of(n)) else {
         return at;
-    }
-    put(out, at, word_in(&table[i]))
+    };
+    put(out, at, word_in(row))
 }
 
 // The word of an order or a mark. Its own function, so that the table is laid out only where a line has the word.
@@ -92,6 +91,7 @@ pub fn put_number_if(wanted: bool, out: &mut [u8], at: usize, n: Word) -> usize
 }
 
 // An event's line, with its LF.
+#[tactic(auto, using(crate::proofs::Texts::event_sum))]
 pub fn put_event(form: Form, out: &mut [u8], at: usize, e: Event) -> usize
     requires { Small at (event_line form e ++ 10 ∷ []) }
     ensures { Put out.old at (event_line form e ++ 10 ∷ []) out.new result }
@@ -144,7 +144,7 @@ fn put_init(has: bool, out: &mut [u8], at: usize, place: Word, value: Word) -> u
 }
 
 // The `init` lines of cells.
-#[tactic(auto, using(crate::proofs::Puts::left_all, crate::proofs::Puts::left_small, crate::proofs::Puts::left_next, crate::proofs::Puts::left_none, crate::proofs::Texts::inits_next, crate::proofs::Texts::inits_end))]
+#[tactic(auto, using(crate::proofs::Puts::left_all, crate::proofs::Puts::left_small, crate::proofs::Puts::left_none, crate::proofs::Texts::inits_next, crate::proofs::Texts::inits_end))]
 fn put_inits(form: Form, out: &mut [u8], at: usize, ways: &Ways, memory: Memory) -> usize
     requires { Small at (text_of (init_lines (has_line form (is_used ways.now)) 0 memory.cells)) }
     ensures { Put out.old at (text_of (init_lines (has_line form (is_used ways.now)) 0 memory.cells)) out.new result }
@@ -163,7 +163,7 @@ fn put_inits(form: Form, out: &mut [u8], at: usize, ways: &Ways, memory: Memory)
 }
 
 // The lines of the first n events of a room.
-#[tactic(auto, using(trace::proofs::Judged::event_next, trace::proofs::Judged::onward_end, trace::proofs::Judged::onward_all, crate::proofs::Puts::left_all, crate::proofs::Texts::line_small, crate::proofs::Texts::line_put, crate::proofs::Texts::lines_put))]
+#[tactic(auto, using(trace::proofs::Judged::onward_end, trace::proofs::Judged::onward_all, crate::proofs::Puts::left_all, crate::proofs::Texts::lines_put))]
 fn put_events(form: Form, out: &mut [u8], at: usize, room: &[Word], n: usize) -> usize
     requires { Small at (text_of (map (event_line form) (onward room.now 0 n))) }
     ensures { Put out.old at (text_of (map (event_line form) (onward room.now 0 n))) out.new result }

@@ -28,5 +28,5 @@ pub returns : goal.returns
 returns c =
     let g = c.well_formed.1.1.0.1.1.0 in
     rw c.size_of-size.ensures
-    (write_done c.args.listed.now c.args.form c.args.memory c.args.room.now c.args.out.now g.1.0.1 (words_below c.args.memory.cells g.0 g.1.1) c.in_ok-write_fault.ensures _
-    c.count_of-n.ensures _ c.touch_all.ensures (rw c.size_of-size.ensures at c.if-out-size.false) c.put_text.ensures)
+    (write_done c.args.listed.now c.args.form c.args.memory c.args.room.now c.args.out.now g.1.0.1 (words_below c.args.memory.cells g.0 g.1.1)
+    c.in_ok-write_fault.ensures _ c.count_of-n.ensures _ c.touch_all.ensures (rw c.size_of-size.ensures at c.if-out-size.false) c.put_text.ensures)

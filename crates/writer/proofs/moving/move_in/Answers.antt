@@ -9,7 +9,8 @@ moved_size-size-requires c = move_small c.args.listed.now c.args.to c.args.text.
 pub returns-then-out-size : goal.returns-then-out-size
 returns-then-out-size c =
     let told =
-    move_short c.args.listed.now c.args.to c.args.text.now c.args.out.now _ _ c.in_ok-held.ensures _ c.touch_lines.ensures (rw c.moved_size-size.ensures at c.if-out-size.true) in
+    move_short c.args.listed.now c.args.to c.args.text.now c.args.out.now _ _ c.in_ok-held.ensures _ c.touch_lines.ensures
+    (rw c.moved_size-size.ensures at c.if-out-size.true) in
     rw (c.new.ensures, c.moved_size-size.ensures) ((refl, told.0), told.1)
 
 pub put_moved-requires : goal.put_moved-requires
@@ -18,5 +19,5 @@ put_moved-requires c = move_small c.args.listed.now c.args.to c.args.text.now c.
 pub returns : goal.returns
 returns c =
     rw c.moved_size-size.ensures
-    (move_done c.args.listed.now c.args.to c.args.text.now c.args.out.now _ _ c.in_ok-held.ensures _ c.touch_lines.ensures (rw c.moved_size-size.ensures at c.if-out-size.false)
-    c.put_moved.ensures)
+    (move_done c.args.listed.now c.args.to c.args.text.now c.args.out.now _ _ c.in_ok-held.ensures _ c.touch_lines.ensures
+    (rw c.moved_size-size.ensures at c.if-out-size.false) c.put_moved.ensures)
