@@ -41,7 +41,8 @@ module _ (fault : Answer) (t out : List ℕ) (z : fault.number ≡ 0) where
 
 -- a room that is written, by the ways in which its events use the locations
 module _ (regs : List Bool) (f : Form) (m : Memory) (room out : List ℕ) (size : length m.cells ≡ 256) (values : Valued m.cells)
-    (z : done ≡ write_fault_in regs f m room) (n : ℕ) (c : n ≡ count_of room) (ways : List Way) (u : ways ≡ ways_of (replicate 256 Untouched) (onward room 0 n)) where
+    (z : done ≡ write_fault_in regs f m room) (n : ℕ) (c : n ≡ count_of room)
+    (ways : List Way) (u : ways ≡ ways_of (replicate 256 Untouched) (onward room 0 n)) where
   abbrev by_ways : List ℕ
   by_ways = text_by f (is_used ways) m (onward room 0 n)
 
