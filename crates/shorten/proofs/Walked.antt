@@ -20,7 +20,11 @@ use Rattle.fates.proofs.Passes.{PlainAt, plain, plain_load, plain_store}
 use Rattle.sight.proofs.Sight.{Sees, a_load_lem, a_store, a_wall_lem}
 use Rattle.shelf.specs.Short.{elder, first, stored, loaded, stays, flags}
 use Rattle.shelf.proofs.First.{by_eq}
-use Rattle.shorten.specs.Stay.{stays_at, begun_after, value_after, last_after, overwrites, unflagged}
+use denote.Enum.Bare.{sameb}
+use Rattle.shorten.specs.contracts.stay.Begun.{the_type}
+use Rattle.shorten.specs.declared.stay.Begun.{Begun}
+use Rattle.shorten.specs.declared.stay.Begun.TheVariants.{Not, ByLoad, ByStore}
+use Rattle.shorten.specs.Stay.{is_not, is_by_load, stays_at, begun_after, value_after, last_after, overwrites, unflagged}
 
 -- ---- flags
 
@@ -105,16 +109,27 @@ overwrite p (store q w ∷ b) a c h f t =
 
 -- ---- the first access to a location
 
--- how the accesses began, and with what value, tells what the first one is
-abbrev pub Knows : Option View → ℕ → ℕ → Type 0
-Knows o begun value = (eqb begun 0 ≡ is_none o) × ((x : ℕ) → (eqb begun 1 && eqb value x) ≡ loaded x o)
+-- comparing with a beginning asks for it
+pub same_not : (b : Begun) → sameb the_type b Not ≡ is_not b
+same_not Not = refl
+same_not ByLoad = refl
+same_not ByStore = refl
 
-knows_after : {v : View} {p x : ℕ} → PlainAt v p x → (o : Option View) (begun value : ℕ) → Knows o begun value
+pub same_by_load : (b : Begun) → sameb the_type b ByLoad ≡ is_by_load b
+same_by_load Not = refl
+same_by_load ByLoad = refl
+same_by_load ByStore = refl
+
+-- how the accesses began, and with what value, tells what the first one is
+abbrev pub Knows : Option View → Begun → ℕ → Type 0
+Knows o begun value = (is_not begun ≡ is_none o) × ((x : ℕ) → (is_by_load begun && eqb value x) ≡ loaded x o)
+
+knows_after : {v : View} {p x : ℕ} → PlainAt v p x → (o : Option View) (begun : Begun) (value : ℕ) → Knows o begun value
     → Knows (elder o v) (begun_after (is_load v) begun) (value_after begun value x)
-knows_after w o begun value h = go w o (eqb begun 0) h.0 h
+knows_after w o begun value h = go w o (is_not begun) h.0 h
   where
     go : {v : View} {p x : ℕ} → PlainAt v p x → (o : Option View) (c : Bool) → c ≡ is_none o → Knows o begun value
-        → Knows (elder o v) (cond c (cond (is_load v) 1 2) begun) (cond c x value)
+        → Knows (elder o v) (cond c (cond (is_load v) ByLoad ByStore) begun) (cond c x value)
     go plain_load none true e h = (refl, λ x. refl)
     go plain_store none true e h = (refl, λ x. refl)
     go w none false e h = absurd (false≢true e)
@@ -123,22 +138,25 @@ knows_after w o begun value h = go w o (eqb begun 0) h.0 h
 
 -- ---- the walk
 
+cell_in : {A : Type 0} (d : A) (cells : List A) (p : ℕ) (v : A) (l : ℕ) → p < length cells → get_or (set cells p v) l d ≡ cond (eqb l p) v (get_or cells l d)
+cell_in d cells p v l h =
+    by_eq (λ c. get_or (set cells p v) l d ≡ cond c v (get_or cells l d)) l p (λ i. rw i (get_or-set_same cells p v d h)) (λ ne. get_or-set_other cells p l v d ne)
+
 cell_after : (cells : List ℕ) (p v l : ℕ) → p < length cells → get_or (set cells p v) l 0 ≡ cond (eqb l p) v (get_or cells l 0)
-cell_after cells p v l h =
-    by_eq (λ c. get_or (set cells p v) l 0 ≡ cond c v (get_or cells l 0)) l p (λ i. rw i (get_or-set_same cells p v 0 h)) (λ ne. get_or-set_other cells p l v 0 ne)
+cell_after = cell_in 0
 
 -- what is known when the events b are passed
-pub record Walked (b : List View) (n : ℕ) (flags : List Bool) (begun values last : List ℕ) : Type 0 where
+pub record Walked (b : List View) (n : ℕ) (flags : List Bool) (begun : List Begun) (values last : List ℕ) : Type 0 where
   pub count : n ≡ length b
   pub flags_size : length flags ≡ event_limit
   pub begun_size : length begun ≡ places
   pub values_size : length values ≡ places
   pub last_size : length last ≡ places
   pub flagged : take n flags ≡ passed b []
-  pub known : (l : ℕ) → l < places → Knows (first l b) (get_or begun l 0) (get_or values l 0)
+  pub known : (l : ℕ) → l < places → Knows (first l b) (get_or begun l Not) (get_or values l 0)
   pub stores : (l : ℕ) → l < places → get_or last l 0 ≡ last_of l b
 
-pub walked_start : Walked [] 0 (replicate event_limit false) (replicate places 0) (replicate places 0) (replicate places 0)
+pub walked_start : Walked [] 0 (replicate event_limit false) (replicate places Not) (replicate places 0) (replicate places 0)
 walked_start = record {
   count = refl;
   flags_size = refl;
@@ -146,18 +164,18 @@ walked_start = record {
   values_size = refl;
   last_size = refl;
   flagged = refl;
-  known = λ l h. rw (get_or-replicate {A = ℕ} places l 0 0 h) (refl, λ x. refl);
+  known = λ l h. rw (get_or-replicate {A = Begun} places l Not Not h) (refl, λ x. refl);
   stores = λ l h. get_or-replicate {A = ℕ} places l 0 0 h;
 }
 
-module _ {b : List View} {n : ℕ} {fs : List Bool} {begun values last : List ℕ} (w : Walked b n fs begun values last) (few : n < event_limit) where
+module _ {b : List View} {n : ℕ} {fs : List Bool} {begun : List Begun} {values last : List ℕ} (w : Walked b n fs begun values last) (few : n < event_limit) where
   -- the flag of one event more, and those before
   flag_next : (gs : List Bool) (c : Bool) (x : View) → length gs ≡ event_limit → take n gs ≡ passed b (x ∷ []) → c ≡ stays b x [] → take (n + 1) (set gs n c) ≡ passed (x ∷ b) []
   flag_next gs c x size h k =
       let z : n < length gs = omega arith in
       rw (add-one n) (take-suc-set gs n c z ∙ ap₂ (λ (y : List Bool) (d : Bool). y ++ (d ∷ [])) h k)
 
-  pub walked_wall : (v : View) → is_wall v ≡ true → Walked (v ∷ b) (n + 1) (set fs n true) (replicate places 0) values (replicate places 0)
+  pub walked_wall : (v : View) → is_wall v ≡ true → Walked (v ∷ b) (n + 1) (set fs n true) (replicate places Not) values (replicate places 0)
   walked_wall wall h = record {
     count = omega (arith, w.count);
     flags_size = simp length-set w.flags_size;
@@ -165,7 +183,7 @@ module _ {b : List View} {n : ℕ} {fs : List Bool} {begun values last : List �
     values_size = w.values_size;
     last_size = refl;
     flagged = flag_next fs true wall w.flags_size (w.flagged ∙ passed_same b [] (wall ∷ []) (λ l. refl)) refl;
-    known = λ l h. rw (get_or-replicate {A = ℕ} places l 0 0 h) (refl, λ x. refl);
+    known = λ l h. rw (get_or-replicate {A = Begun} places l Not Not h) (refl, λ x. refl);
     stores = λ l h. get_or-replicate {A = ℕ} places l 0 0 h;
   }
   walked_wall (load p v u) h = absurd (false≢true h)
@@ -173,8 +191,8 @@ module _ {b : List View} {n : ℕ} {fs : List Bool} {begun values last : List �
 
   -- the cell of a plain event's location
   module _ {v : View} {p x : ℕ} (at : PlainAt v p x) (inside : p < places) where
-    abbrev was : ℕ
-    was = get_or begun p 0
+    abbrev was : Begun
+    was = get_or begun p Not
 
     abbrev value : ℕ
     value = get_or values p 0
@@ -190,14 +208,14 @@ module _ {b : List View} {n : ℕ} {fs : List Bool} {begun values last : List �
         go plain_store = refl
 
     known_after : (l : ℕ) → l < places
-        → Knows (first l (v ∷ b)) (get_or (set begun p (begun_after (is_load v) was)) l 0) (get_or (set values p (value_after was value x)) l 0)
+        → Knows (first l (v ∷ b)) (get_or (set begun p (begun_after (is_load v) was)) l Not) (get_or (set values p (value_after was value x)) l 0)
     known_after l h =
         rw (
           first_after l,
-          (cell_after begun p (begun_after (is_load v) was) l (omega (arith, w.begun_size))),
+          (cell_in Not begun p (begun_after (is_load v) was) l (omega (arith, w.begun_size))),
           (cell_after values p (value_after was value x) l (omega (arith, w.values_size))),
         )
-        (by_eq (λ c. Knows (cond c (elder (first l b) v) (first l b)) (cond c (begun_after (is_load v) was) (get_or begun l 0)) (cond c (value_after was value x) (get_or values l 0))) l p
+        (by_eq (λ c. Knows (cond c (elder (first l b) v) (first l b)) (cond c (begun_after (is_load v) was) (get_or begun l Not)) (cond c (value_after was value x) (get_or values l 0))) l p
         (λ i. rw i (knows_after at (first p b) was value (w.known p inside))) (λ _. w.known l h))
 
     stores_after_lem : (l : ℕ) → l < places → get_or (set last p (last_after (is_load v) store_is (n + 1))) l 0 ≡ last_of l (v ∷ b)
@@ -246,7 +264,7 @@ module _ {b : List View} {n : ℕ} {fs : List Bool} {begun values last : List �
 
   -- whether it stays, by what is known
   pub stays_known : {v : View} {p x : ℕ} {u : Bool} → Sees v p x u → is_wall v ≡ false → p < places
-      → stays_at (is_load v) u (get_or begun p 0) (get_or values p 0) x ≡ stays b v []
+      → stays_at (is_load v) u (get_or begun p Not) (get_or values p 0) x ≡ stays b v []
   stays_known a_wall_lem h i = absurd (false≢true (sym h))
   stays_known (a_load_lem {p} {v} {u}) h i = ap (λ c. u && c) (w.known p i).0
   stays_known (a_store {p} {v}) h i = ap not ((w.known p i).1 v)
@@ -254,7 +272,7 @@ module _ {b : List View} {n : ℕ} {fs : List Bool} {begun values last : List �
   -- as the walk computes it, at an index that is its location
   pub walked_by : {v : View} {p x : ℕ} {u : Bool} → Sees v p x u → is_wall v ≡ false → p < places → {i : ℕ} {d : Bool} → i ≡ p → d ≡ is_load v
       → {k : ℕ} {gs : List Bool} → k ≡ overwrites d (get_or last i 0) → gs ≡ unflagged fs k
-      → {c : Bool} → c ≡ stays_at d u (get_or begun i 0) (get_or values i 0) x → {g y m : ℕ} → g ≡ begun_after d (get_or begun i 0)
-      → y ≡ value_after (get_or begun i 0) (get_or values i 0) x → m ≡ last_after d (get_or last i 0) (n + 1)
+      → {c : Bool} → c ≡ stays_at d u (get_or begun i Not) (get_or values i 0) x → {g : Begun} {y m : ℕ} → g ≡ begun_after d (get_or begun i Not)
+      → y ≡ value_after (get_or begun i Not) (get_or values i 0) x → m ≡ last_after d (get_or last i 0) (n + 1)
       → Walked (v ∷ b) (n + 1) (set gs n c) (set begun i g) (set values i y) (set last i m)
   walked_by {u = u} s h inside e f k gs c g y m = rw (gs, k, c, g, y, m, e, f) (walked_plain (plain s h) inside _ (stays_known s h inside))

@@ -1,7 +1,6 @@
 -- The shortened text and its matching, and what is promised of them.
 pub mod Text
 pub mod Promise
--- Inner: the events of a text one by one, whether each stays, and those that do. Assumes nothing.
-pub mod Ahead
+-- Inner: whether each event stays, and those that do. Assumes nothing.
 pub mod Stay
 pub mod Write

@@ -1,6 +1,6 @@
 -- Document 02, C-19: a trace text shortened, under a list of registers, and the matching text from it to the shortened one. The shortened text keeps its
 -- source's form and code lines; the starting values that are not 0 stay, and in form 2 the zero lines of the locations that it touches. Assumes nothing.
-use Rattle.std.specs.Prelude.{ℕ, Bool, cond, List, ◌++◌, ◌≡◌, eqb, leb, length, drop}
+use Rattle.std.specs.Prelude.{ℕ, Bool, cond, Result, List, ◌++◌, ◌≡◌, eqb, leb, length, drop}
 use Rattle.event.specs.Answer.{answer, done, first}
 use Rattle.event.specs.declared.Answer.{Answer}
 use Rattle.memory.specs.Listed.{none_listed}
@@ -11,6 +11,7 @@ use Rattle.trace.specs.Writing.{trace_text}
 use Rattle.trace.specs.Listed.{unless_listed}
 use Rattle.matching.specs.Text.{match_text}
 use Rattle.shelf.specs.Short.{short_in, names_in}
+use Rattle.event.specs.Told.{Tells}
 use Rattle.shorten.specs.declared.Shortened.{Shortened}
 
 -- The shortened text, and the matching text.
@@ -28,23 +29,39 @@ fit_fault side t out = cond (leb (length t) (length out)) done (answer 17 side (
 abbrev pub both_fault : List ℕ → List ℕ → List ℕ → List ℕ → Answer
 both_fault t m out matchingOut = first (fit_fault 2 t out) (fit_fault 3 m matchingOut)
 
--- What a refusal hands back, no byte; and what is handed back of two texts that are written.
-abbrev pub refused : Answer → Shortened
+-- What a shortening says: its answer, and how many bytes the two texts have, 0 under a refusal.
+pub record ShortSaid : Type 0 where
+  pub answer : Answer
+  pub bytes : ℕ
+  pub matching_bytes : ℕ
+
+-- What a refusal says, no byte; and what is said of two texts that are written.
+abbrev pub refused : Answer → ShortSaid
 refused a = record { answer = a; bytes = 0; matching_bytes = 0 }
 
-abbrev pub written : List ℕ → List ℕ → Shortened
-written t m = record { answer = done; bytes = length t; matching_bytes = length m }
+abbrev pub counted : ℕ → ℕ → ShortSaid
+counted n k = record { answer = done; bytes = n; matching_bytes = k }
+
+abbrev pub written : List ℕ → List ℕ → ShortSaid
+written t m = counted (length t) (length m)
+
+-- What is handed back is what a shortening says: the bytes, or the answer that refuses.
+abbrev pub whole : Shortened → ShortSaid
+whole s = counted s.bytes s.matching_bytes
+
+abbrev pub Says : Result Shortened Answer → ShortSaid → Type 0
+Says result said = Tells whole refused said result
 
 -- By the first refusal: what is handed back, and a lent part afterwards, with its text at the front. A refusal changes neither part.
-abbrev pub shortened_by : Answer → List ℕ → List ℕ → Shortened
+abbrev pub shortened_by : Answer → List ℕ → List ℕ → ShortSaid
 shortened_by fault t m = settle refused fault (written t m)
 
 abbrev pub part_by : Answer → List ℕ → List ℕ → List ℕ
 part_by fault t out = cond (eqb fault.number 0) (t ++ drop (length t) out) out
 
 -- Two texts to be written: what comes back, and the two parts afterwards.
-pub record Writes (t m out matchingOut : List ℕ) (r : Shortened) (after matchingAfter : List ℕ) : Type 0 where
-  pub result : r ≡ shortened_by (both_fault t m out matchingOut) t m
+pub record Writes (t m out matchingOut : List ℕ) (r : Result Shortened Answer) (after matchingAfter : List ℕ) : Type 0 where
+  pub result : Says r (shortened_by (both_fault t m out matchingOut) t m)
   pub text : after ≡ part_by (both_fault t m out matchingOut) t out
   pub matching : matchingAfter ≡ part_by (both_fault t m out matchingOut) m matchingOut
 
@@ -53,7 +70,7 @@ unfoldable pub short_fault : List Bool → List ℕ → List ℕ → List ℕ �
 short_fault regs t out matchingOut = first (fault_in regs 1 t) (both_fault (short_text regs t) (short_matching regs t) out matchingOut)
 
 -- What comes back, and the two lent parts afterwards.
-unfoldable pub shorten_in : List Bool → List ℕ → List ℕ → List ℕ → Shortened
+unfoldable pub shorten_in : List Bool → List ℕ → List ℕ → List ℕ → ShortSaid
 shorten_in regs t out matchingOut = shortened_by (short_fault regs t out matchingOut) (short_text regs t) (short_matching regs t)
 
 unfoldable pub short_out_in : List Bool → List ℕ → List ℕ → List ℕ → List ℕ
@@ -63,17 +80,17 @@ unfoldable pub matching_out_in : List Bool → List ℕ → List ℕ → List �
 matching_out_in regs t out matchingOut = part_by (short_fault regs t out matchingOut) (short_matching regs t) matchingOut
 
 -- What a call is to hand back and to leave.
-pub record ShortensIn (regs : List Bool) (t out matchingOut : List ℕ) (r : Shortened) (after matchingAfter : List ℕ) : Type 0 where
-  pub result : r ≡ shorten_in regs t out matchingOut
+pub record ShortensIn (regs : List Bool) (t out matchingOut : List ℕ) (r : Result Shortened Answer) (after matchingAfter : List ℕ) : Type 0 where
+  pub result : Says r (shorten_in regs t out matchingOut)
   pub text : after ≡ short_out_in regs t out matchingOut
   pub matching : matchingAfter ≡ matching_out_in regs t out matchingOut
 
 -- The same without a list, which lists none.
-abbrev pub Shortens : List ℕ → List ℕ → List ℕ → Shortened → List ℕ → List ℕ → Type 0
+abbrev pub Shortens : List ℕ → List ℕ → List ℕ → Result Shortened Answer → List ℕ → List ℕ → Type 0
 Shortens = ShortensIn none_listed
 
 -- With what was read of a list, whose answer comes ahead of everything and changes nothing.
-unfoldable pub shorten_listed : ListRead → List ℕ → List ℕ → List ℕ → Shortened
+unfoldable pub shorten_listed : ListRead → List ℕ → List ℕ → List ℕ → ShortSaid
 shorten_listed list t out matchingOut = settle refused list.answer (shorten_in list.listed t out matchingOut)
 
 unfoldable pub short_out_listed : ListRead → List ℕ → List ℕ → List ℕ → List ℕ
@@ -82,7 +99,7 @@ short_out_listed list t out matchingOut = unless_listed list out (short_out_in l
 unfoldable pub matching_out_listed : ListRead → List ℕ → List ℕ → List ℕ → List ℕ
 matching_out_listed list t out matchingOut = unless_listed list matchingOut (matching_out_in list.listed t out matchingOut)
 
-pub record ShortensListed (list : ListRead) (t out matchingOut : List ℕ) (r : Shortened) (after matchingAfter : List ℕ) : Type 0 where
-  pub result : r ≡ shorten_listed list t out matchingOut
+pub record ShortensListed (list : ListRead) (t out matchingOut : List ℕ) (r : Result Shortened Answer) (after matchingAfter : List ℕ) : Type 0 where
+  pub result : Says r (shorten_listed list t out matchingOut)
   pub text : after ≡ short_out_listed list t out matchingOut
   pub matching : matchingAfter ≡ matching_out_listed list t out matchingOut

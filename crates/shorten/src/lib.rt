@@ -2,11 +2,9 @@
 // long one to it. No room of events is lent or kept.
 #![tactic(auto)]
 
-pub mod ahead;
 pub mod stay;
 pub mod write;
 
-ghost use Rattle.std.specs.Prelude.{◌≡◌};
 ghost use Rattle.registers.specs.Reading.{list_of};
 ghost use Rattle.matching.specs.Text.{match_text};
 ghost use Rattle.trace.specs.Reading.{form_of, events_of};
@@ -14,35 +12,25 @@ ghost use Rattle.trace.specs.Writing.{text_by};
 ghost use Rattle.uses.specs.Way.{is_used};
 ghost use Rattle.writer.specs.Put.{Small};
 ghost use Rattle.shelf.specs.Short.{pick, numbers};
-ghost use Rattle.shorten.specs.Text.{refused, Writes, ShortensIn, Shortens, ShortensListed};
+ghost use Rattle.shorten.specs.Text.{Writes, ShortensIn, Shortens, ShortensListed};
 
 use event::{Answer, EVENT_LIMIT, PLACES, WORDS, Word};
 use memory::Memory;
 use memory::listed::Listed;
 use stay::stay_flags;
 use trace::reading::survey_in;
-use uses::{UNTOUCHED, Ways};
+use uses::{Way, Ways};
 use write::{matching_size, put_matching, put_short, short_size, touch_kept};
 
-// What comes back: the answer, and how many bytes the shortened text and its matching have, 0 under a refusal.
+// How many bytes the shortened text and its matching have.
 #[derive(Clone, Copy)]
 pub struct Shortened {
-    pub answer: Answer,
     pub bytes: usize,
     pub matching_bytes: usize,
 }
 
-fn refusal(answer: Answer) -> Shortened
-    ensures { result ≡ refused answer }
-{
-    Shortened {
-        answer,
-        bytes: 0,
-        matching_bytes: 0,
-    }
-}
-
 // Both texts, by the flags of the events that stay: 17 for the first that does not fit, and else each at the front of its part.
+#[tactic(auto, using(crate::proofs::Written::short, crate::proofs::Written::matching_short, crate::proofs::Written::both))]
 fn write_both(
     flags: &[bool],
     ways: &Ways,
@@ -50,7 +38,7 @@ fn write_both(
     text: &[u8],
     out: &mut [u8],
     matching_out: &mut [u8],
-) -> Shortened
+) -> Result<Shortened, Answer>
     requires small { Small 0 (text_by (form_of text.now) (is_used ways.now) memory (pick flags.now (events_of text.now))) }
     requires small_2 { Small 0 (match_text (numbers 1 flags.now)) }
     ensures { Writes (text_by (form_of text.now) (is_used ways.now) memory (pick flags.now (events_of text.now)))
@@ -58,19 +46,18 @@ fn write_both(
 {
     let bytes = short_size(flags, ways, memory, text);
     if out.len() < bytes {
-        return refusal(Answer::new(17, 2, bytes));
+        return Err(Answer::new(17, 2, bytes));
     }
     let matching_bytes = matching_size(flags);
     if matching_out.len() < matching_bytes {
-        return refusal(Answer::new(17, 3, matching_bytes));
+        return Err(Answer::new(17, 3, matching_bytes));
     }
     put_short(flags, out, ways, memory, text);
     put_matching(flags, matching_out);
-    Shortened {
-        answer: Answer::new(0, 0, 0),
+    Ok(Shortened {
         bytes,
         matching_bytes,
-    }
+    })
 }
 
 // A trace text shortened under a list of registers; a refusal leaves both parts as they were.
@@ -79,29 +66,23 @@ pub fn shorten_in(
     text: &[u8],
     out: &mut [u8],
     matching_out: &mut [u8],
-) -> Shortened
+) -> Result<Shortened, Answer>
     ensures { ShortensIn listed.now text.now out.old matching_out.old
         result out.new matching_out.new }
 {
-    let surveyed = survey_in(listed, text, 1, EVENT_LIMIT * WORDS);
-    let found = surveyed.answer;
-    if found.number != 0 {
-        return refusal(found);
-    }
+    let held = survey_in(listed, text, 1, EVENT_LIMIT * WORDS)?;
     let flags = stay_flags(listed, text);
-    let events = surveyed.events;
-    let stay = &flags[..events];
-    let mut ways: Ways = [UNTOUCHED; PLACES];
+    let stay = &flags[..held.events];
+    let mut ways: Ways = [Way::Untouched; PLACES];
     touch_kept(&mut ways, stay, text);
-    write_both(stay, &ways, surveyed.memory, text, out, matching_out)
+    write_both(stay, &ways, held.memory, text, out, matching_out)
 }
 
 // The same without a list: none is listed.
-pub fn shorten(text: &[u8], out: &mut [u8], matching_out: &mut [u8]) -> Shortened
+pub fn shorten(text: &[u8], out: &mut [u8], matching_out: &mut [u8]) -> Result<Shortened, Answer>
     ensures { Shortens text.now out.old matching_out.old result out.new matching_out.new }
 {
-    let listed: Listed = [false; PLACES];
-    shorten_in(&listed, text, out, matching_out)
+    shorten_in(&[false; PLACES], text, out, matching_out)
 }
 
 // With the text of a list and a group of it: the list's answer comes first.
@@ -111,15 +92,10 @@ pub fn shorten_listed(
     text: &[u8],
     out: &mut [u8],
     matching_out: &mut [u8],
-) -> Shortened
+) -> Result<Shortened, Answer>
     ensures { ShortensListed (list_of group list.now) text.now out.old matching_out.old
         result out.new matching_out.new }
 {
-    let read = registers::read(list, group);
-    let found = read.answer;
-    if found.number != 0 {
-        return refusal(found);
-    }
-    let listed = read.listed;
+    let listed = registers::read(list, group)?;
     shorten_in(&listed, text, out, matching_out)
 }

@@ -7,76 +7,65 @@ ghost use Rattle.rules.specs.View.{view_in};
 ghost use Rattle.shelf.specs.Short.{marks};
 ghost use Rattle.shorten.specs.Stay.{stays_at, begun_after, value_after, last_after, overwrites, unflagged};
 
-use crate::ahead::{EventStep, next_event};
 use event::{EVENT_LIMIT, PLACES, Word, index_of};
 use kinds::USED;
 use memory::listed::Listed;
 use sight::{is_load_in, is_wall_in};
 use text::line::line_two;
+use trace::ahead::{Found, next_event};
 use trace::form::form_of;
 
 // How the accesses to a location begin, between synchronising events: there is none yet, or the first is a load or a store.
-pub type Begun = u8;
-
-const NONE: Begun = 0;
-
-const BY_LOAD: Begun = 1;
-
-const BY_STORE: Begun = 2;
+#[derive(Clone, Copy, PartialEq, Eq)]
+pub enum Begun {
+    Not,
+    ByLoad,
+    ByStore,
+}
 
 // Whether a plain event stays, as if no store came after it, by how the accesses to its location began and with what value.
+#[tactic(auto, using(crate::proofs::Walked::same_not, crate::proofs::Walked::same_by_load))]
 fn stays_at(load: bool, used: bool, begun: Begun, value: Word, own: Word) -> bool
     ensures { result ≡ stays_at load used begun value own }
 {
     if load {
-        return used && begun == NONE;
+        return used && begun == Begun::Not;
     }
-    if begun == BY_LOAD {
-        return value != own;
-    }
-    true
+    begun != Begun::ByLoad || value != own
 }
 
 // How they begin with one more, and with what value.
 fn begun_after(load: bool, begun: Begun) -> Begun
     ensures { result ≡ begun_after load begun }
 {
-    if begun != NONE {
-        return begun;
+    match begun {
+        Begun::Not if load => Begun::ByLoad,
+        Begun::Not => Begun::ByStore,
+        Begun::ByLoad | Begun::ByStore => begun,
     }
-    if load {
-        return BY_LOAD;
-    }
-    BY_STORE
 }
 
 fn value_after(begun: Begun, value: Word, own: Word) -> Word
     ensures { result ≡ value_after begun value own }
 {
-    if begun == NONE {
-        return own;
+    match begun {
+        Begun::Not => own,
+        Begun::ByLoad | Begun::ByStore => value,
     }
-    value
 }
 
-// The number of the last store to a location after an access of number n; 0 for none.
+// The number of the last store to a location after an access of number n; 0 for none, as numbers of events count from 1.
 fn last_after(load: bool, last: usize, n: usize) -> usize
     ensures { result ≡ last_after load last n }
 {
-    if load {
-        return last;
-    }
-    n
+    if load { last } else { n }
 }
 
 // The number of the store that an access overwrites; 0 for none.
 fn overwritten(load: bool, last: usize) -> usize
     ensures { result ≡ overwrites load last }
 {
-    if load {
-        return 0;
-    }
-    last
+    if load { 0 } else { last }
 }
 
 // The flag of an event, by its number, is taken away; there is none of number 0.
@@ -99,20 +88,17 @@ pub(crate) fn stay_flags(listed: &Listed, text: &[u8]) -> [bool; EVENT_LIMIT]
 {
     let form = form_of(text);
     let mut flags: [bool; EVENT_LIMIT] = [false; EVENT_LIMIT];
-    let mut begun: [Begun; PLACES] = [NONE; PLACES];
+    let mut begun: [Begun; PLACES] = [Begun::Not; PLACES];
     let mut values: [Word; PLACES] = [0; PLACES];
     let mut last: [usize; PLACES] = [0; PLACES];
     let mut at = line_two(text);
     let mut n: usize = 0;
-    loop {
-        let EventStep::Found { event, next } = next_event(form, text, at) else {
-            break;
-        };
+    while let Some(Found { event, next }) = next_event(form, text, at) {
         at = next;
         if is_wall_in(listed, event) {
             flags[n] = true;
             n += 1;
-            begun = [NONE; PLACES];
+            begun = [Begun::Not; PLACES];
             last = [0; PLACES];
             continue;
         }
