@@ -15,7 +15,8 @@ fn find_singly(text: &[u8], from: usize, stop: u8) -> usize
     from.max(text.len())
 }
 
-// The same, four bytes a turn as long as there are four.
+// The same, four bytes a turn as long as there are four: a whole check of typical texts took a quarter longer byte by byte (docs/BENCHMARK.md).
+#[tactic(auto, using(crate::proofs::Cuts::until_stop, crate::proofs::Cuts::until_go, crate::proofs::Cuts::until_on))]
 pub fn find(text: &[u8], from: usize, stop: u8) -> usize
     ensures { result ≡ from + until stop (drop from text.now) }
 {
