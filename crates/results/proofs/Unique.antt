@@ -3,6 +3,7 @@ use mathlib.Core.Path.{sym, ◌∙◌}
 use Rattle.laws.specs.Unique.{OneAnswer, OneOf}
 use Rattle.results.proofs.lay_trace.Reads as lay_trace
 use Rattle.results.proofs.matching_numbers.Reads as matching_numbers
+use Rattle.results.proofs.written_numbers.Reads as written_numbers
 use Rattle.results.proofs.lay_check.Reads as lay_check
 use Rattle.results.proofs.lay_start.Reads as lay_start
 use Rattle.results.proofs.lay_applied.Reads as lay_applied
@@ -17,6 +18,9 @@ lay_trace_memory κ a x y s t h k = h.1 ∙ sym k.1
 
 matching_numbers_one : OneAnswer matching_numbers.Post
 matching_numbers_one κ a x y s t h k = h ∙ sym k
+
+written_numbers_one : OneAnswer written_numbers.Post
+written_numbers_one κ a x y s t h k = h ∙ sym k
 
 lay_check_result : OneOf lay_check.Post (λ κ r s. s.1.1.1.0.now)
 lay_check_result κ a x y s t h k = h.0 ∙ sym k.0

@@ -8,10 +8,11 @@ use Rattle.trace.specs.declared.reading.Held.{Held}
 use Rattle.matching.specs.Reading.{MatchingRead, refused as matching_refused, read_as as entries_as}
 use Rattle.checker.specs.declared.Checked.{Checked}
 use Rattle.beginning.specs.declared.Started.{Started}
+use Rattle.shorten.specs.Text.{ShortSaid, whole, refused as short_refused}
 use Rattle.shorten.specs.declared.Shortened.{Shortened}
 use Rattle.numbers.specs.Numbers.{checked_numbers, count_numbers, started_numbers}
 
--- What the results of a reading and of a writing tell.
+-- What the results of a reading, of a writing and of a shortening tell.
 abbrev pub trace_told : Result Held Answer → TraceRead
 trace_told = told (λ h. read_as h.events h.memory) refused
 
@@ -20,6 +21,9 @@ matching_told = told entries_as matching_refused
 
 abbrev pub written_told : Result ℕ Answer → Answer
 written_told = told (answer 0 0) (λ a. a)
+
+abbrev pub short_told : Result Shortened Answer → ShortSaid
+short_told = told whole short_refused
 
 -- A trace read: its answer, then its events.
 abbrev pub trace_numbers : TraceRead → List ℕ
@@ -39,5 +43,5 @@ start_numbers s =
     started_numbers s.checked.answer s.checked.source.events s.checked.target.events s.checked.entries s.cost
 
 -- A shortening: its answer, then the bytes of the shortened text and those of its matching.
-abbrev pub shortened_numbers : Shortened → List ℕ
+abbrev pub shortened_numbers : ShortSaid → List ℕ
 shortened_numbers r = r.answer.number ∷ r.answer.side ∷ r.answer.place ∷ r.bytes ∷ r.matching_bytes ∷ []

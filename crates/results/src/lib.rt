@@ -10,39 +10,36 @@ use changes::Applied;
 use checker::Checked;
 use checker::line::Span;
 use event::{Answer, PLACES, Word, number_index};
-use numbers::{answer_numbers, checked_numbers, count_numbers, flag_of, run_numbers, started_numbers};
+use memory::Memory;
+use numbers::{
+    answer_numbers, checked_numbers, count_numbers, flag_of, run_numbers, started_numbers,
+};
 use shorten::Shortened;
 use trace::reading::Held;
 
 // A trace read: its numbers, and its starting memory.
-pub fn lay_trace(
-    read: Result<Held, Answer>,
-    memory: &mut [Word; PLACES],
-    res: &mut [usize; 4],
-)
+pub fn lay_trace(read: Result<Held, Answer>, memory: &mut [Word; PLACES], res: &mut [usize; 4])
     ensures res_after { res.new ≡ trace_numbers (trace_told read) }
     ensures memory_after { memory.new ≡ (trace_told read).memory.cells }
 {
-    match read {
-        Ok(held) => {
-            *memory = held.memory.cells;
-            *res = count_numbers(Answer::new(0, 0, 0), held.events);
-        }
-        Err(answer) => {
-            *memory = [0; PLACES];
-            *res = count_numbers(answer, 0);
-        }
-    }
+    let (answer, start, events) = match read {
+        Ok(held) => (Answer::new(0, 0, 0), held.memory, held.events),
+        Err(answer) => (answer, Memory::empty(), 0),
+    };
+    let cells = start.cells;
+    *memory = cells;
+    *res = count_numbers(answer, events);
 }
 
 // A matching read: its numbers.
 pub fn matching_numbers(read: Result<usize, Answer>) -> [usize; 4]
     ensures { result ≡ matching_numbers (matching_told read) }
 {
-    match read {
-        Ok(entries) => count_numbers(Answer::new(0, 0, 0), entries),
-        Err(answer) => count_numbers(answer, 0),
-    }
+    let (answer, entries) = match read {
+        Ok(entries) => (Answer::new(0, 0, 0), entries),
+        Err(answer) => (answer, 0),
+    };
+    count_numbers(answer, entries)
 }
 
 // A text written or moved: its answer's numbers, of which the place is how many bytes it has.
@@ -63,8 +60,10 @@ pub fn lay_check(
     ensures source_memory_after { source_memory.new ≡ checked.source.memory.cells }
     ensures target_memory_after { target_memory.new ≡ checked.target.memory.cells }
 {
-    *source_memory = checked.source.memory.cells;
-    *target_memory = checked.target.memory.cells;
+    let source_cells = checked.source.memory.cells;
+    let target_cells = checked.target.memory.cells;
+    *source_memory = source_cells;
+    *target_memory = target_cells;
     *res = checked_numbers(
         checked.answer,
         checked.source.events,
