@@ -12,7 +12,8 @@ abbrev pub starting : List ℕ → Memory
 starting cells = record { cells = cells }
 
 -- What a check leaves in the lent arrays and rooms: what it is to hand back, laid out, and the three rooms as they are to be.
-pub record Lays (c : Checked) (source target matching : List ℕ) (result sourceMemory targetMemory source_room_of target_room_of entry_room_of : List ℕ) : Type 0 where
+pub record Lays (c : Checked) (source target matching : List ℕ)
+    (result sourceMemory targetMemory source_room_of target_room_of entry_room_of : List ℕ) : Type 0 where
   pub numbers : result ≡ check_numbers c
   pub source_start_of : sourceMemory ≡ c.source.memory.cells
   pub target_start_of : targetMemory ≡ c.target.memory.cells

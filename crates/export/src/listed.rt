@@ -1,5 +1,6 @@
 // Lists of registers: one read by itself; reading, writing, moving, checking and the beginning of a run with the text of one, which is read ahead of
 // everything else; and the steps of a run with the marks of one.
+// Each function stays beside its twin without a list: C calls both by name, with numbers, slices and arrays; what they have in common is said in `results`.
 ghost use Rattle.std.specs.Prelude.{◌≡◌, get_or};
 ghost use Rattle.registers.specs.Reading.{list_of};
 ghost use Rattle.trace.specs.Listed.{read_listed, room_listed, write_listed, out_listed, move_listed, moved_listed};

@@ -1,4 +1,4 @@
-// A trace text shortened, and the same with a list of registers.
+// A trace text shortened, and the same with a list of registers: two functions, since C calls both by name.
 ghost use Rattle.registers.specs.Reading.{list_of};
 ghost use Rattle.shorten.specs.Text.{shorten_in, short_out_in, matching_out_in, shorten_listed, short_out_listed, matching_out_listed};
 ghost use Rattle.memory.specs.Listed.{none_listed};
