@@ -3,7 +3,8 @@
 
 ghost use Rattle.std.specs.Prelude.{◌≡◌};
 ghost use Rattle.numbers.specs.Numbers.{answer_numbers, flag, run_numbers};
-ghost use Rattle.results.specs.Results.{check_numbers, matching_numbers, matching_told, short_told, shortened_numbers, start_numbers, trace_numbers, trace_told, written_told};
+ghost use Rattle.results.specs.Results.{matching_told, short_told, trace_told, written_told};
+ghost use Rattle.results.specs.Results.{check_numbers, matching_numbers, shortened_numbers, start_numbers, trace_numbers};
 
 use beginning::Started;
 use changes::Applied;
