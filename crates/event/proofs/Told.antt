@@ -6,7 +6,7 @@ use native.Mathlib.Omega.{arith}
 use Rattle.std.specs.Prelude.{Result, Ok, Err, ⊤}
 use Rattle.std.specs.Result.{result_and}
 use Rattle.event.specs.Answer.{done, first}
-use Rattle.event.specs.Told.{is_done, Refuses, Tells, Passes, told}
+use Rattle.event.specs.Told.{is_done, Refuses, Tells, Passes}
 use Rattle.event.specs.declared.Answer.{Answer}
 
 -- done does not refuse
@@ -65,8 +65,3 @@ cond_err false x a r q = absurd (not_done a r q)
 pub cond_ok : (b : Bool) (x : Answer) → Refuses x → done ≡ cond b x done → b ≡ false
 cond_ok true x r q = absurd (not_done x r (sym q))
 cond_ok false x r q = refl
-
--- what a result tells is what is said
-pub tells_told : {A R : Type 0} (whole : A → R) (refused : Answer → R) (said : R) (r : Result A Answer) → Tells whole refused said r → told whole refused r ≡ said
-tells_told whole refused said (Ok x) h = h
-tells_told whole refused said (Err a) h = h.1

@@ -39,13 +39,6 @@ use Rattle.shorten.specs.Text.{
 }
 use Rattle.shorten.specs.declared.Shortened.{Shortened}
 
--- by the first refusal
-pub by_refusal : (fault : Answer) (t m : List ℕ) → (fault.number ≡ 0 → ⊥) → shortened_by fault t m ≡ refused fault
-by_refusal fault t m n = rw (ne_eqb fault.number 0 n)
-
-pub part_kept : (fault : Answer) (t out : List ℕ) → (fault.number ≡ 0 → ⊥) → part_by fault t out ≡ out
-part_kept fault t out n = rw (ne_eqb fault.number 0 n)
-
 put_front : {t out after : List ℕ} {n : ℕ} → Put out 0 t after n → length t ≤ length out → after ≡ part_by done t out
 put_front {t} {out} p h = let o : 0 + length t ≡ length t = omega arith in p.stored ∙ sets-eq t out 0 (omega arith) ∙ rw o
 

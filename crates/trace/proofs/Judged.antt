@@ -89,10 +89,6 @@ pub fault_end : (regs : List Bool) (side k : ℕ) (m : Memory) (before : List Ev
 unfolding event_fault_in
 fault_end regs side k m before = refl
 
--- the first of two answers, where one does not refuse
-pub first_passes : (a b : Answer) → a.number ≡ 0 → first a b ≡ b
-first_passes a b z = rw z
-
 -- the first of three answers that refuses, and the first of two by the one alone
 pub first_assoc : (a b c : Answer) → first a (first b c) ≡ first (first a b) c
 first_assoc a b c = cases (either (eqb a.number 0)) (λ e. rw e) (λ e. rw (e, e))
@@ -109,13 +105,6 @@ pub faultless : (a : Answer) → (a.number ≡ 0 → a ≡ done) → (side k : �
 faultless a h side k true right e = absurd (false≢true (sym e))
 faultless a h side k false false e = absurd (false≢true (sym e))
 faultless a h side k false true e = sym (first_none a h)
-
--- what is no refusal is done, and stays so
-pub first_stays : (a : Answer) (side k : ℕ) (clash right : Bool) {r : Answer} → r ≡ first a (fault_at side k clash right) → r.number ≡ 0 → r ≡ done
-first_stays a side k clash right q z =
-    let d = first_done a (fault_at side k clash right) (rw q at z) in
-    let f = fault_free side k clash right d.1 in
-    rw (q, d.0, f.0, f.1)
 
 -- whether a lawful event's value is right, by what the memory says of it
 pub right_told : (regs : List Bool) (m : Memory) (e : Event) (s : Stepped) → lawful e ≡ true → s ≡ stepped m e → (s.right || is_register regs e) ≡ (stepped_in regs m e).right

@@ -63,11 +63,6 @@ module _ (regs : List Bool) (to : Form) (t : List ℕ) where
       unfolding move_survey_in move_fault_in
       move_passes q = r ∙ ((survey_done regs 1 t passed).1 ∙ rw (← h, (survey_done regs 1 t passed).0, ← q))
 
-  -- what it tells: the refusal, or that there is none
-  pub found_fault : ((move_survey_in regs to t).answer.number ≡ 0 → ⊥) → (move_survey_in regs to t).answer ≡ move_fault_in regs to t
-  unfolding move_survey_in
-  found_fault n = cases (either (eqb (move_fault_in regs to t).number 0)) (λ e. absurd (n (rw e))) (λ e. rw e)
-
   pub found_none : (move_survey_in regs to t).answer.number ≡ 0 → ((move_fault_in regs to t).number ≡ 0) × ((move_survey_in regs to t).memory ≡ start_of t)
   unfolding move_survey_in
   found_none z =

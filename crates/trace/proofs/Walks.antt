@@ -37,13 +37,6 @@ module _ (t : List ℕ) where
   unfolding events_of
   events_start = ap (events_in (form_of t)) (body_from t)
 
-  pub events_line : (at : ℕ) {to : ℕ} → line_at t at ≡ Some to → {r : Option Record} → r ≡ record_of (form_of t) (part t at to)
-      → events_from at ≡ events_on r ++ events_from (to + 1)
-  events_line = by_record (form_of t) t
-
-  pub events_none : (at : ℕ) → line_at t at ≡ None → events_from at ≡ []
-  events_none = by_none (form_of t) t
-
 -- the events of the lines from a place on, by the line there; those of a text are those from line 2 on
 module _ (f : Form) (t : List ℕ) (at : ℕ) where
   pub none_heard : line_at t at ≡ None → heard_from f t at ≡ []

@@ -53,10 +53,6 @@ module _ {A : Type 0} (bad : A → Bool) (number side : ℕ) where
         let o : k + suc (length xs) ≡ k + 1 + length xs = omega arith in
         cases (either (bad e)) (λ y. rw (y, z)) (λ y. rw (y, o) (bad_append (k + 1) xs ys))
 
-    pub bad_parted : (k : ℕ) (xs ys : List A) {zs : List A} {a : Answer} → zs ≡ xs ++ ys → a ≡ first_bad bad number side k xs
-        → first_bad bad number side k zs ≡ first a (first_bad bad number side (k + length xs) ys)
-    bad_parted k xs ys p q = rw (p, q) (bad_append k xs ys)
-
     -- one more, with what was found so far
     pub bad_found : (k : ℕ) (e : A) (es : List A) (a : Answer)
         → first a (first_bad bad number side k (e ∷ es)) ≡ first (cond (bad e) (first a (answer number side k)) a) (first_bad bad number side (k + 1) es)

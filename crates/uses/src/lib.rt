@@ -1,4 +1,4 @@
-// How the events of a trace use its locations, which decides answer 5, and 20 and 21 (`cover`): a number for each location tells it.
+// How the events of a trace use its locations, which decides answer 5, and 20 and 21 (`cover`), by the way of each location.
 #![tactic(auto)]
 
 pub mod cover;

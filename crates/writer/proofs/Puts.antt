@@ -41,10 +41,6 @@ then {room} {v = v} {w} {at} p q = record {
   stored = q.stored ∙ rw (p.stored, p.counted, sets_append room at v w);
 }
 
--- the room stays as long as it was
-pub put_length : {room room₁ v : List ℕ} {at at₁ : ℕ} → Put room at v room₁ at₁ → length room₁ ≡ length room
-put_length {room} {v = v} {at} p = ap length p.stored ∙ length-sets room at v
-
 -- while a whole is put from `at`: what is left, put from `here`, brings what the whole brings
 pub record Left (room : List ℕ) (at : ℕ) (whole now : List ℕ) (here : ℕ) (rest : List ℕ) : Type 0 where
   pub small : Small at whole
