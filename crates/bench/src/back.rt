@@ -7,7 +7,7 @@ use files::check::ROOM;
 use text::word::same_bytes;
 use trace::form::form_of;
 
-// The most bytes of a text.
+// The most bytes of a text. What is made stands at the front of a room of so many: a Vec needs the heap, which no program has.
 pub(crate) const TEXT: usize = 57300;
 
 // The most events of a trace.

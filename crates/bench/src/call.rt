@@ -1,4 +1,4 @@
-// Every call with a list of registers for a group, or without one.
+// Every call with a list of registers for a group, or without one: one function of each pair, since both are named in README.md and may not go.
 use checker::{Checked, check, check_listed};
 use event::{Answer, Entry, Word};
 use files::check::Texts;

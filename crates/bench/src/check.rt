@@ -15,7 +15,7 @@ const MARK: Word = 3735928559;
 
 const ENTRY_MARK: Entry = 3735928559;
 
-// A check, and the rooms that it was lent parts of.
+// A check, and the rooms that it was lent parts of. They would be Vecs, but no program has a heap.
 #[derive(Clone, Copy)]
 struct InRooms {
     checked: Checked,

@@ -105,6 +105,7 @@ fn run_all<F: Fn(&mut Parts<'_>, usize) -> Ran>(
         back: 0,
     };
     let mut parts = Parts::new(data);
+    // A `for` would need the vectors before they are read, and each kind reads its own: an iterator for every kind is no plainer.
     while parts.len() != 0 {
         let left = parts.len();
         let ran = run(&mut parts, totals.vectors.saturating_add(1));

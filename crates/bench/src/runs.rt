@@ -28,6 +28,7 @@ fn after_step<'a>(listed: &Listed, begun: &mut Begun, lines: &'a [u8]) -> Option
 fn follow(listed: &Listed, mut begun: Begun, lines: &[u8]) -> Result<usize, usize> {
     let mut rest = lines;
     let mut steps: usize = 0;
+    // Not a `for`: the steps end with the lines, and how long a line is only its step says.
     while !rest.is_empty() {
         let Some(left) = after_step(listed, &mut begun, rest) else {
             return Err(steps);

@@ -6,7 +6,6 @@ use crate::filled::Filled;
 use event::Word;
 use std::env::FillError;
 use std::rt::Env;
-use text::word::same_bytes;
 
 // The place of the first option: the program's name has place 0, and three names come after it.
 const OPTIONS: usize = 4;
@@ -39,31 +38,26 @@ fn has_word(rt: &impl Env, place: usize) -> bool {
 
 // The group that a word names.
 fn group_named(word: &[u8]) -> Option<Word> {
-    if same_bytes(word, b"1") {
-        return Some(1);
+    match word {
+        b"1" => Some(1),
+        b"2" => Some(2),
+        _ => None,
     }
-    if same_bytes(word, b"2") {
-        return Some(2);
-    }
-    None
 }
 
 // The options with a list or a group more, whose word stands at a place; each may be named once.
 fn with_value(rt: &impl Env, options: Options, name: usize, place: usize) -> Option<Options> {
-    let word = word_at(rt, name);
-    if same_bytes(word.as_slice(), b"--list") && options.list.is_none() {
-        return Some(Options {
+    match word_at(rt, name).as_slice() {
+        b"--list" if options.list.is_none() => Some(Options {
             list: Some(place),
             ..options
-        });
-    }
-    if same_bytes(word.as_slice(), b"--group") && options.group.is_none() {
-        return Some(Options {
+        }),
+        b"--group" if options.group.is_none() => Some(Options {
             group: Some(group_named(word_at(rt, place).as_slice())?),
             ..options
-        });
+        }),
+        _ => None,
     }
-    None
 }
 
 // The options with that which stands at a place, and its value at the next; none if it is not known, or stands there again, or has no value.

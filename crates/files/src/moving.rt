@@ -19,6 +19,7 @@ pub fn move_file(
     out_name: &[u8],
 ) {
     let text = read_text(rt, name);
+    // A Vec needs the heap, which the programs have not: what is made stands at the front of a room.
     let mut out = [0u8; TEXT];
     let moved = match list {
         Ok(listed) => move_in(&listed, to, text.as_slice(), &mut out),

@@ -32,6 +32,7 @@ fn read_full(file: &mut impl Read, buf: &mut [u8]) -> usize
     ensures { IsPrefixLen result buf.new }
 {
     let mut done: usize = 0;
+    // A Vec and `read_to_end` need the heap, which the programs have not, and `read_exact` fails at the end of a file.
     while done < buf.len() {
         let bytes = read_once(file, &mut buf[done..]);
         if bytes == 0 {

@@ -63,7 +63,8 @@ fn events_of(room: &[Word], events: usize) -> &[Word]
     front(room, events.saturating_mul(WORDS))
 }
 
-// A run in rooms that hold the most: how it began, what the check stored, which events stand, how far it is and where the last swap was.
+// A run in rooms that hold the most: how it began, what the check stored, which events stand, how far it is and where the last swap was. The rooms would be
+// Vecs, but the programs have no heap.
 #[derive(Clone, Copy)]
 pub struct Begun {
     started: Started,

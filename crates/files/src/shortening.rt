@@ -18,6 +18,7 @@ pub fn shorten_file(
     matching_name: &[u8],
 ) {
     let text = read_text(rt, name);
+    // A Vec needs the heap, which the programs have not: what is made stands at the front of a room.
     let mut out = [0u8; TEXT];
     let mut matching = [0u8; TEXT];
     let made = match list {

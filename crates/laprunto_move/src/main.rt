@@ -5,17 +5,14 @@ use files::args::{is_short, options_of, print_usage, word_at};
 use files::list::list_given;
 use files::moving::move_file;
 use record::form::Form;
-use text::word::same_bytes;
 
 // The form that a word names.
 fn form_named(word: &[u8]) -> Option<Form> {
-    if same_bytes(word, b"1") {
-        return Some(Form::One);
+    match word {
+        b"1" => Some(Form::One),
+        b"2" => Some(Form::Two),
+        _ => None,
     }
-    if same_bytes(word, b"2") {
-        return Some(Form::Two);
-    }
-    None
 }
 
 // A word too few or too many, or another form, is no move.
