@@ -82,12 +82,7 @@ fn room_fault(listed: &Listed, memory: Memory, room: &[Word]) -> Result<(), Answ
 }
 
 // And 19.
-pub fn write_fault(
-    listed: &Listed,
-    form: Form,
-    memory: Memory,
-    room: &[Word],
-) -> Result<(), Answer>
+pub fn write_fault(listed: &Listed, form: Form, memory: Memory, room: &[Word]) -> Result<(), Answer>
     ensures { Passes (write_fault_in listed.now form memory room.now) result }
 {
     room_fault(listed, memory, room)?;

@@ -7,7 +7,7 @@ use native.Mathlib.Omega.{arith}
 use lib.Dec.{eqb}
 use lib.ListN.{length}
 use lib.Seq.{sets-eq}
-use borrow.Author.Tests.{eqb-false, le-leb, lt-leb, ne_eqb}
+use borrow.Author.Tests.{eqb-false, le-leb, lt-leb}
 use Rattle.laws.proofs.Cases.{cases, either}
 use Rattle.event.specs.Answer.{answer, done}
 use Rattle.event.specs.declared.Answer.{Answer}
@@ -19,24 +19,7 @@ use Rattle.trace.specs.Reading.{fault_in, survey_in, refused as read_refused}
 use Rattle.trace.specs.Reading.{TraceRead}
 use Rattle.trace.proofs.Readings.{survey_done}
 use Rattle.writer.specs.Put.{Put}
-use Rattle.shorten.specs.Text.{
-  both_fault,
-  refused,
-  part_by,
-  shortened_by,
-  Writes,
-  short_text,
-  short_matching,
-  short_fault,
-  shorten_in,
-  short_out_in,
-  matching_out_in,
-  ShortensIn,
-  shorten_listed,
-  short_out_listed,
-  matching_out_listed,
-  ShortensListed,
-}
+use Rattle.shorten.specs.Text.{both_fault, part_by, Writes, short_text, short_matching, short_fault, shorten_in, short_out_in, matching_out_in, ShortensIn, shorten_listed, short_out_listed, matching_out_listed, ShortensListed}
 use Rattle.shorten.specs.declared.Shortened.{Shortened}
 
 put_front : {t out after : List ℕ} {n : ℕ} → Put out 0 t after n → length t ≤ length out → after ≡ part_by done t out

@@ -101,7 +101,7 @@ module _ (regs : List Bool) (f : Form) (side k low : ℕ) (has : List Bool) (m :
 -- a line that has a starting value is its line, and the location is in range
 init_is : (r : Option Record) (p v : ℕ) → init_on r ≡ Some (p, v) → r ≡ Some (Init p v)
 init_is None p v h = absurd (let z : ◌≡◌ {A = ℕ} 0 1 = cc in omega arith)
-init_is (Some (Init q w)) p v h = let e : (q , w) ≡ (p , v) = cc in ap (λ (s : Start). Some (Init s.0 s.1)) e
+init_is (Some (Init q w)) p v h = let e : (q, w) ≡ (p, v) = cc in ap (λ (s : Start). Some (Init s.0 s.1)) e
 init_is (Some (AnEvent e)) p v h = absurd (let z : ◌≡◌ {A = ℕ} 0 1 = cc in omega arith)
 
 pub line_place : (f : Form) (l : List ℕ) (p v : ℕ) → record_of f l ≡ Some (Init p v) → p < 256

@@ -19,7 +19,13 @@ pub fn is_right(listed: &Listed, e: Event, latest: bool) -> bool
 }
 
 // 20 of the event of a number: it touches a location that has no line.
-pub(crate) fn bare_fault(form: Form, has: &Listed, e: Event, side: Number, k: usize) -> Result<(), Answer>
+pub(crate) fn bare_fault(
+    form: Form,
+    has: &Listed,
+    e: Event,
+    side: Number,
+    k: usize,
+) -> Result<(), Answer>
     ensures { Passes (cond (lacks_line form (listed has.now) e) (answer 20 side k) done) result }
 {
     if lacks_line(form, has, e) {

@@ -32,12 +32,7 @@ pub fn read(text: &[u8], room: &mut [Word]) -> Result<Held, Answer>
 }
 
 // With the text of a list and a group of it: the list's answer comes first.
-pub fn read_listed(
-    list: &[u8],
-    group: Word,
-    text: &[u8],
-    room: &mut [Word],
-) -> Result<Held, Answer>
+pub fn read_listed(list: &[u8], group: Word, text: &[u8], room: &mut [Word]) -> Result<Held, Answer>
     ensures { Reads result (read_listed (list_of group list.now) text.now room.old)
         × (room.new ≡ room_listed (list_of group list.now) text.now room.old) }
 {
