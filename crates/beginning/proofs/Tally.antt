@@ -1,15 +1,14 @@
 -- How the count goes on, entry by entry. Assumes nothing.
-use mathlib.Core.Path.{◌≡◌, refl, ◌∙◌, ap, ap₂}
+use mathlib.Core.Path.{◌≡◌, refl, ◌∙◌, ap}
 use mathlib.Core.Logic.{◌≢◌}
 use mathlib.Core.List.{List, [], ◌∷◌}
-use mathlib.Core.Bool.{Bool, true, false, cond, not, ◌&&◌}
+use mathlib.Core.Bool.{Bool, not, ◌&&◌}
 use lib.Dec.{eqb, ltb, eqb-suc-zero}
 use Prim.Native.Nat.{ℕ, zero, suc, ◌+◌, ◌*◌, ◌-◌, ◌≤◌, ◌<◌}
 use native.Mathlib.Omega.{arith}
 use lib.ListN.{length, get_or, drop, take, length-drop}
 use lib.Seq.{drop-cons, take_all}
 use borrow.Author.Tests.{le-ltb}
-use Rattle.std.specs.List.{filter}
 use Rattle.rules.specs.Fault.{is_gone}
 use Rattle.course.specs.Cost.{bit, is_kept, is_reversed, many, reversed}
 use Rattle.course.proofs.Counts.{few}
@@ -20,19 +19,11 @@ use Rattle.course.proofs.Counts.{few}
 abbrev pub falls : ℕ → ℕ → Bool
 falls n k = not (eqb k 0) && ltb k n
 
-falls_is : (n k : ℕ) → falls n k ≡ is_reversed n k
+pub falls_is : (n k : ℕ) → falls n k ≡ is_reversed n k
 falls_is zero zero = refl
 falls_is zero (suc k) = rw (eqb-suc-zero k, le-ltb (suc k) 0 (omega arith)) refl
 falls_is (suc n) zero = refl
 falls_is (suc n) (suc k) = rw (eqb-suc-zero k) refl
-
-bit_length : (b : Bool) (k : ℕ) (ks : List ℕ) → length (cond b (k ∷ ks) ks) ≡ bit b + length ks
-bit_length true k ks = omega arith
-bit_length false k ks = omega arith
-
-pub many_filtered : (n : ℕ) (ks : List ℕ) → length (filter (falls n) ks) ≡ many (is_reversed n) ks
-many_filtered n [] = refl
-many_filtered n (k ∷ ks) = bit_length (falls n k) k (filter (falls n) ks) ∙ ap₂ (λ b m. bit b + m) (falls_is n k) (many_filtered n ks)
 
 -- the entries before an index are counted
 pub record Counted (ns : List ℕ) (steps kept i : ℕ) : Type 0 where

@@ -1,18 +1,27 @@
 // How many steps the run of an accepted matching has: the gone events, the pairs of kept events whose order is reversed, the inserted loads.
 ghost use Rattle.std.specs.Prelude.{◌≡◌, ◌≤◌, length};
-ghost use Rattle.course.specs.Cost.{cost, is_reversed, many};
+ghost use Rattle.course.specs.Cost.{bit, cost, is_reversed, many};
 ghost use Rattle.event.specs.Limit.{event_limit};
 
 use event::Entry;
 
-// The pairs of one event with those after it, both kept, of which the later comes first in the target.
+// 1 for an event and a later one, both kept, of which the later comes first in the target; else 0.
+#[tactic(auto, using(crate::proofs::Tally::falls_is))]
+fn pair(number: Entry, later: Entry) -> usize
+    ensures { result ≡ bit (is_reversed number later) }
+{
+    usize::from(later != 0 && later < number)
+}
+
+// The pairs of one event with those after it. A sum in a loop: `filter` and `count` made the beginning of a long run cost more than two checks.
 fn reversed_with(number: Entry, later: &[Entry]) -> usize
     ensures { result ≡ many (is_reversed number) later.now }
 {
-    later
-        .iter()
-        .filter(|next| **next != 0 && **next < number)
-        .count()
+    let mut pairs = 0;
+    for next in later {
+        pairs += pair(number, *next);
+    }
+    pairs
 }
 
 // Those of a matching to a target of so many events.

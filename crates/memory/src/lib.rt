@@ -75,6 +75,7 @@ impl Memory {
     }
 
     #[tactic(auto, using(kinds::proofs::Lawful::place_below), unfolding(crate::specs::Memory::stepped, crate::specs::Memory::latest, crate::specs::Memory::after))]
+    #[inline(always)]
     pub fn step(mut self, e: Event) -> Stepped
         ensures { result ≡ stepped self e }
     {

@@ -13,7 +13,7 @@ ghost use Rattle.record.specs.Record.{event_rest, init_rest, unless_silent, reco
 
 use event::{Event, Word};
 use form::{Form, is_silent};
-use kinds::{LAST_CODE, LAST_PLACE, LAST_VALUE, is_lawful};
+use kinds::{LAST_CODE, LAST_PLACE, LAST_VALUE, suits};
 use part::{number_if, number_of_field, order_if};
 use shape::shape_of;
 use text::field::Field;
@@ -84,18 +84,26 @@ fn event_rest(form: Form, kind: Word, line: &[u8], at: usize) -> Option<Record>
     let second = number_if(shape.second, line, first.next, LAST_VALUE)?;
     let mark = order_if(shape.mark, line, second.next, order.value)?;
     let code = number_if(shape.code, line, mark.next, LAST_CODE)?;
-    let event = Event {
+    // Asked of the fields and not of the event: an event that is built, lent to be judged and copied again stalls the machine on every line (docs/DECISIONS.md).
+    let is_lawful = suits(
+        kind,
+        place.value,
+        mark.value,
+        first.value,
+        second.value,
+        code.value,
+    );
+    if !ends_at(line, code.next) || !is_lawful {
+        return None;
+    }
+    Some(Record::AnEvent(Event {
         kind,
         place: place.value,
         order: mark.value,
         first: first.value,
         second: second.value,
         code: code.value,
-    };
-    if !ends_at(line, code.next) || !is_lawful(event) {
-        return None;
-    }
-    Some(Record::AnEvent(event))
+    }))
 }
 
 // What a line says, if it is of the layout.

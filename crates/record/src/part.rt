@@ -12,6 +12,7 @@ use text::take::{Taken, take_number};
 
 // The number field at a place, if the line is to have one there; else 0, and no field is passed.
 #[tactic(auto, unfolding(crate::specs::Part::number_part))]
+#[inline(always)]
 pub(crate) fn number_if(wanted: bool, line: &[u8], at: usize, max: Word) -> Option<Taken>
     ensures { result ≡ number_part wanted line.now at max }
 {

@@ -1,21 +1,35 @@
--- Laws of the comparison of two words. Assumes nothing.
-use Prim.Native.Nat.{ℕ}
-use mathlib.Core.Path.{◌≡◌, refl, sym, ◌∙◌}
-use mathlib.Core.Bool.{true, false, false≢true}
+-- Laws of the comparison of two words, by index. Assumes nothing.
+use Prim.Native.Nat.{ℕ, suc, ◌+◌, ◌<◌, ◌≤◌}
+use mathlib.Core.Path.{◌≡◌, refl, ap, sym, ◌∙◌}
+use mathlib.Core.Bool.{true, false, and-false, false≢true}
 use mathlib.Core.List.{List, [], ◌∷◌}
+use native.Mathlib.Numerals.{add-one}
 use lib.Dec.{eqb}
-use lib.Pointwise.{pointwise}
-use borrow.Author.Tests.{eqb-true, eq-eqb}
+use lib.ListN.{length, get_or, drop, drop_of_length-le}
+use lib.Seq.{drop-cons}
+use borrow.Author.Tests.{eqb-true, eq-eqb, ne_eqb}
 use Rattle.laws.proofs.Bools.{and_left, and_right}
 use Rattle.text.specs.Word.{same_bytes}
 
--- the definition is the comparison element by element
-pub same_pointwise : (l m : List ℕ) → pointwise eqb l m ≡ same_bytes l m
+pub same_len : (l m : List ℕ) → (length l ≡ length m → ⊥) → same_bytes l m ≡ false
 unfolding same_bytes
-same_pointwise [] [] = refl
-same_pointwise [] (b ∷ m) = refl
-same_pointwise (a ∷ l) [] = refl
-same_pointwise (a ∷ l) (b ∷ m) = rw (same_pointwise l m)
+same_len [] [] h = absurd (h refl)
+same_len [] (b ∷ m) h = refl
+same_len (a ∷ l) [] h = refl
+same_len (a ∷ l) (b ∷ m) h = rw (same_len l m (λ e. h (ap suc e)), and-false)
+
+module _ (l m : List ℕ) (i : ℕ) where
+  pub same_end : length l ≤ i → length m ≤ i → same_bytes (drop i l) (drop i m) ≡ true
+  unfolding same_bytes
+  same_end h k = rw (drop_of_length-le l h, drop_of_length-le m k)
+
+  pub same_go : i < length l → i < length m → get_or l i 0 ≡ get_or m i 0 → same_bytes (drop i l) (drop i m) ≡ same_bytes (drop (i + 1) l) (drop (i + 1) m)
+  unfolding same_bytes
+  same_go h k e = rw (drop-cons l i 0 h, drop-cons m i 0 k, eq-eqb (get_or l i 0) (get_or m i 0) e, add-one i)
+
+  pub same_no : i < length l → i < length m → (get_or l i 0 ≡ get_or m i 0 → ⊥) → same_bytes (drop i l) (drop i m) ≡ false
+  unfolding same_bytes
+  same_no h k e = rw (drop-cons l i 0 h, drop-cons m i 0 k, ne_eqb (get_or l i 0) (get_or m i 0) e)
 
 -- words that are found the same are equal
 pub same_eq : (l m : List ℕ) → same_bytes l m ≡ true → l ≡ m

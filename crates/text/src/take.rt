@@ -23,6 +23,7 @@ fn number_at(line: &[u8], from: usize, to: usize, max: u64) -> Option<u64>
 
 // The number field that starts at a place of a line, at most `max`, with the place of the next field.
 #[tactic(auto, unfolding(crate::specs::Take::take_number), using(crate::proofs::Fields::field_in))]
+#[inline(always)]
 pub fn take_number(line: &[u8], at: usize, max: u64) -> Option<Taken>
     ensures { result ≡ take_number line.now at max }
 {
