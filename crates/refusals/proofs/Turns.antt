@@ -19,8 +19,6 @@ use Rattle.memory.specs.declared.Memory.{Memory}
 use Rattle.memory.specs.declared.Stepped.{Stepped}
 use Rattle.uses.specs.Use.{clashes_in}
 use Rattle.uses.specs.Way.{clashing, clashing_in, ways_after, ways_with}
-use Rattle.uses.specs.declared.Way.{Way}
-use Rattle.uses.specs.declared.Way.TheVariants.{Untouched}
 use Rattle.uses.proofs.Bad.{bad_none}
 use Rattle.uses.proofs.Ways.{or_right, with_inside, clash_inside, Marks, marks_start, marks_told, clash, marks_next}
 use Rattle.trace.specs.Fault.{fault_at, event_fault_in}
@@ -32,7 +30,7 @@ module _ (regs : List Bool) (room : List ℕ) (n : ℕ) (start : Memory) where
   whole = event_fault_in regs 0 1 start [] (onward room 0 n)
 
   -- i events, none of which is at fault, left the memory m and the ways; they are `before`, nearest first
-  pub record Judging (m : Memory) (ways : List Way) (i : ℕ) : Type 0 where
+  pub record Judging (m : Memory) (ways : List ℕ) (i : ℕ) : Type 0 where
     pub within : i ≤ n
     pub size : length ways ≡ 256
     pub sound : (layout_fault (i + 1) (onward room i (n - i))).number ≡ 0
@@ -40,12 +38,12 @@ module _ (regs : List Bool) (room : List ℕ) (n : ℕ) (start : Memory) where
     pub marks : Marks ways before
     pub same : whole ≡ event_fault_in regs 0 (i + 1) m before (onward room i (n - i))
 
-  pub judging_start : (layout_fault 1 (onward room 0 n)).number ≡ 0 → Judging start (replicate 256 Untouched) 0
+  pub judging_start : (layout_fault 1 (onward room 0 n)).number ≡ 0 → Judging start (replicate 256 0) 0
   judging_start h =
       let p = onward_all room n in
       record { within = omega arith; size = refl; sound = rw p h; before = []; marks = marks_start; same = rw p }
 
-  module _ (m : Memory) (ways : List Way) (i : ℕ) (w : Judging m ways i) where
+  module _ (m : Memory) (ways : List ℕ) (i : ℕ) (w : Judging m ways i) where
     pub judging_end : n ≤ i → done ≡ whole
     judging_end h = sym (w.same ∙ rw (onward_end room i n h) (fault_end regs 0 (i + 1) m w.before))
 
@@ -83,7 +81,7 @@ module _ (regs : List Bool) (room : List ℕ) (n : ℕ) (start : Memory) where
       judging_stops a r q = sym (onward_is ∙ rw (← q, r))
 
       -- or not
-      pub judging_goes : (ways' : List Way) → ways' ≡ ways_with ways e → done ≡ its → Judging s.memory ways' (i + 1)
+      pub judging_goes : (ways' : List ℕ) → ways' ≡ ways_with ways e → done ≡ its → Judging s.memory ways' (i + 1)
       judging_goes ways' uses q =
           let after : ways' ≡ ways_after ways e = uses ∙ with_inside ways e inside in
           let none = (fault_free 0 (i + 1) c right (ap (λ (a : Answer). a.number) (sym q))).0 in

@@ -14,7 +14,7 @@ use memory::listed::Listed;
 use memory::{Memory, Stepped};
 use record::form::Form;
 use trace::fault::{fault_at, is_right};
-use uses::{Way, Ways, use_listed};
+use uses::{UNTOUCHED, Ways, use_listed};
 
 // How many events a part of a room has: one that is cut short at its end counts.
 pub fn count_of(room: &[Word]) -> usize
@@ -59,7 +59,7 @@ fn event_fault(listed: &Listed, start: Memory, room: &[Word], n: usize) -> Resul
         memory: start,
         right: true,
     };
-    let mut ways: Ways = [Way::Untouched; PLACES];
+    let mut ways: Ways = [UNTOUCHED; PLACES];
     for i in 0..n {
         let e = get(room, i);
         let clash = use_listed(listed, &mut ways, e);

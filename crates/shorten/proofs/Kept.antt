@@ -18,7 +18,6 @@ use Rattle.text.specs.Number.{decimal}
 use Rattle.record.specs.declared.form.Form.{Form}
 use Rattle.trace.specs.Writing.{text_of}
 use Rattle.uses.specs.Way.{ways_of, ways_with}
-use Rattle.uses.specs.declared.Way.{Way}
 use Rattle.writer.specs.Put.{Put, Small}
 use Rattle.writer.proofs.Puts.{Left, then, left_small, left_next, left_none}
 use Rattle.writer.proofs.Texts.{text_append, text_cons}
@@ -51,17 +50,17 @@ numbers_next flags i k h = rw (drop-cons flags i false h, add-one i, add-one k) 
 
 -- ---- what they touch
 
-ways_append : (ways : List Way) (xs ys : List Event) → ways_of ways (xs ++ ys) ≡ ways_of (ways_of ways xs) ys
+ways_append : (ways : List ℕ) (xs ys : List Event) → ways_of ways (xs ++ ys) ≡ ways_of (ways_of ways xs) ys
 unfolding ways_of
 ways_append ways [] ys = refl
 ways_append ways (e ∷ xs) ys = ways_append (ways_with ways e) xs ys
 
-pub ways_kept : (ways : List Way) (flags : List Bool) (i : ℕ) {es next : List Event} {e : Event} → es ≡ e ∷ next
+pub ways_kept : (ways : List ℕ) (flags : List Bool) (i : ℕ) {es next : List Event} {e : Event} → es ≡ e ∷ next
     → ways_of ways (pick (drop i flags) es) ≡ ways_of (ways_of ways (only (get_or flags i false) e)) (pick (drop (i + 1) flags) next)
 ways_kept ways flags i {next = next} {e} q =
     rw (q, pick_next flags i e next) (ways_append ways (only (get_or flags i false) e) (pick (drop (i + 1) flags) next))
 
-pub ways_left : (ways : List Way) (flags : List Bool) {es : List Event} → es ≡ [] → ways_of ways (pick flags es) ≡ ways
+pub ways_left : (ways : List ℕ) (flags : List Bool) {es : List Event} → es ≡ [] → ways_of ways (pick flags es) ≡ ways
 unfolding ways_of
 ways_left ways flags q = rw (q, pick_none flags)
 

@@ -17,8 +17,6 @@ use Rattle.trace.specs.Writing.{text_by}
 use Rattle.trace.proofs.OneText.{memory_is}
 use Rattle.trace.proofs.Readings.{counts}
 use Rattle.uses.specs.Way.{is_used, ways_of}
-use Rattle.uses.specs.declared.Way.{Way}
-use Rattle.uses.specs.declared.Way.TheVariants.{Untouched}
 use Rattle.writer.specs.Put.{Small}
 use Rattle.shelf.specs.Short.{pick, numbers, marks}
 use Rattle.shorten.specs.Text.{Writes, ShortensIn, short_text, short_matching}
@@ -56,7 +54,7 @@ module _ (regs : List Bool) (t : List ℕ) where
       survey_small_2 = rw names_are (omega (arith, matching_short regs t read))
 
       -- and the ways in which the events that stay use the locations
-      module _ (ways : List Way) (u : ways ≡ ways_of (replicate 256 Untouched) (pick (take n flags) (events_of t))) where
+      module _ (ways : List ℕ) (u : ways ≡ ways_of (replicate 256 0) (pick (take n flags) (events_of t))) where
         abbrev long : List ℕ
         long = text_by (form_of t) (is_used ways) m (pick (take n flags) (events_of t))
 

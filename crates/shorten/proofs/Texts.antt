@@ -16,8 +16,6 @@ use Rattle.frame.proofs.Heads.{framed}
 use Rattle.record.specs.Record.{Fit}
 use Rattle.uses.specs.Cover.{touched}
 use Rattle.uses.specs.Way.{is_used, ways_of}
-use Rattle.uses.specs.declared.Way.{Way}
-use Rattle.uses.specs.declared.Way.TheVariants.{Untouched}
 use Rattle.uses.proofs.Ways.{used_by}
 use Rattle.trace.specs.Reading.{form_of, start_of, events_of, fault_in, survey_in, room_for}
 use Rattle.trace.specs.Text.{Fits}
@@ -117,7 +115,7 @@ module _ (regs : List Bool) (t : List ℕ) where
       pub kept_is : pick flags (events_of t) ≡ short_in regs es
       kept_is = rw q
 
-      pub text_is : {ways : List Way} {m : Memory} → ways ≡ ways_of (replicate 256 Untouched) (pick flags (events_of t)) → m ≡ start_of t
+      pub text_is : {ways : List ℕ} {m : Memory} → ways ≡ ways_of (replicate 256 0) (pick flags (events_of t)) → m ≡ start_of t
           → text_by (form_of t) (is_used ways) m (pick flags (events_of t)) ≡ short_text regs t
       unfolding short_text
       text_is w e =

@@ -19,7 +19,7 @@ use memory::Memory;
 use memory::listed::Listed;
 use stay::stay_flags;
 use trace::reading::survey_in;
-use uses::{Way, Ways};
+use uses::{UNTOUCHED, Ways};
 use write::{matching_size, put_matching, put_short, short_size, touch_kept};
 
 // How many bytes the shortened text and its matching have.
@@ -73,7 +73,7 @@ pub fn shorten_in(
     let held = survey_in(listed, text, 1, EVENT_LIMIT * WORDS)?;
     let flags = stay_flags(listed, text);
     let stay = &flags[..held.events];
-    let mut ways: Ways = [Way::Untouched; PLACES];
+    let mut ways: Ways = [UNTOUCHED; PLACES];
     touch_kept(&mut ways, stay, text);
     write_both(stay, &ways, held.memory, text, out, matching_out)
 }

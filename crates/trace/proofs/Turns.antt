@@ -32,8 +32,6 @@ use Rattle.uses.specs.Bad.{first_bad}
 use Rattle.uses.specs.Cover.{touched, lined, lacks_line, is_idle, marked, so_far}
 use Rattle.uses.specs.Use.{clashes_in}
 use Rattle.uses.specs.Way.{clashing, clashing_in, is_used, ways_after, ways_with}
-use Rattle.uses.specs.declared.Way.{Way}
-use Rattle.uses.specs.declared.Way.TheVariants.{Untouched}
 use Rattle.uses.proofs.Starts.{lined_starts}
 use Rattle.uses.proofs.Ways.{or_right, with_inside, clash_inside, Marks, marks_start, marks_told, clash, marks_next, Touch, touch_told, touch_start, touch_next}
 use Rattle.trace.specs.Fault.{fault_at}
@@ -56,7 +54,7 @@ module _ (regs : List Bool) (form : Form) (text : List ℕ) (from line side : �
   whole = survey_events regs form side line has start (split_from text from)
 
   -- n events were read, which left the memory m and are `before`, nearest first; 20 and 5, 6 have found what they have
-  pub record Reading (m : Memory) (ways : List Way) (bare found : Result ⊤ Answer) (at k n : ℕ) : Type 0 where
+  pub record Reading (m : Memory) (ways : List ℕ) (bare found : Result ⊤ Answer) (at k n : ℕ) : Type 0 where
     pub counted : n < at
     pub size : length ways ≡ 256
     pub before : List Event
@@ -67,7 +65,7 @@ module _ (regs : List Bool) (form : Form) (text : List ℕ) (from line side : �
     pub walk : Tried (trace_layout form) refused side whole text k (closed n)
         (λ ls. judged_on regs form side (so_far has start.cells) start n m before (answer_in bare) (answer_in found) (events_in form ls)) at
 
-  pub reading_start : line ≤ from → 0 < from → Reading start (replicate 256 Untouched) (Ok tt) (Ok tt) from line 0
+  pub reading_start : line ≤ from → 0 < from → Reading start (replicate 256 0) (Ok tt) (Ok tt) from line 0
   reading_start h z = record {
     counted = z;
     size = refl;
@@ -79,7 +77,7 @@ module _ (regs : List Bool) (form : Form) (text : List ℕ) (from line side : �
     walk = record { lined = h; same = tried_same _ _ _ _ _ _ _ _ _ refl (λ z. on_start _ _ _ _ _ _) };
   }
 
-  module _ (m : Memory) (ways : List Way) (bare found : Result ⊤ Answer) (at k n : ℕ) (w : Reading m ways bare found at k n) where
+  module _ (m : Memory) (ways : List ℕ) (bare found : Result ⊤ Answer) (at k n : ℕ) (w : Reading m ways bare found at k n) where
     -- a line that is refused, or none of which the end is told
     pub line_stops : {to : ℕ} → line_at text at ≡ Some to → (x : ℕ) → eqb x 0 ≡ false → (trace_layout form).fault (closed n) (part text at to) ≡ x
         → Refuses (answer x side k) × (refused (answer x side k) ≡ whole)
@@ -91,7 +89,7 @@ module _ (regs : List Bool) (form : Form) (text : List ℕ) (from line side : �
     -- an event more
     module _ (to : ℕ) (here : line_at text at ≡ Some to) (e : Event) (its : record_of form (part text at to) ≡ Some (AnEvent e)) (few : n < event_limit)
         (cells : length start.cells ≡ 256) (b : Result ⊤ Answer) (lacks : Passes (cond (lacks_line form (listed has) e) (answer 20 side (n + 1)) done) b)
-        (c : Bool) (clashes : c ≡ clashing_in regs ways e) (ways' : List Way) (uses : ways' ≡ ways_with ways e) (s : Stepped) (steps : s ≡ stepped m e)
+        (c : Bool) (clashes : c ≡ clashing_in regs ways e) (ways' : List ℕ) (uses : ways' ≡ ways_with ways e) (s : Stepped) (steps : s ≡ stepped m e)
         (right : Bool) (latest : right ≡ (s.right || is_register regs e)) (f : Result ⊤ Answer) (faults : Passes (fault_at side (n + 1) c right) f) where
       inside : e.place < 256
       inside = place_below e (line_lawful form (part text at to) e its)

@@ -19,7 +19,7 @@ use record::form::Form;
 use record::{Record, record_of};
 use text::line::{line_two, next_line};
 use uses::cover::idle_fault;
-use uses::{Way, Ways, use_listed};
+use uses::{UNTOUCHED, Ways, use_listed};
 
 // What is held of a trace that was read: the number of its events, and its starting memory.
 #[derive(Clone, Copy)]
@@ -49,7 +49,7 @@ fn survey_events(
         memory: start,
         right: true,
     };
-    let mut ways: Ways = [Way::Untouched; PLACES];
+    let mut ways: Ways = [UNTOUCHED; PLACES];
     let mut bare: Result<(), Answer> = Ok(());
     let mut found: Result<(), Answer> = Ok(());
     let mut at = from;

@@ -13,13 +13,11 @@ use Rattle.record.specs.Form.{silent}
 use Rattle.record.specs.declared.form.Form.{Form}
 use Rattle.uses.specs.Bad.{first_bad}
 use Rattle.uses.specs.Cover.{Start, is_idle, marked, starts}
-use Rattle.uses.specs.Way.{is_untouched, is_used}
-use Rattle.uses.specs.declared.Way.{Way}
-use Rattle.uses.specs.declared.Way.TheVariants.{Untouched}
+use Rattle.uses.specs.Way.{is_used}
 use Rattle.uses.proofs.Bad.{bad_go, bad_here, bad_end, bad_done}
 use Rattle.uses.proofs.Starts.{starts_next, starts_end}
 
-module _ (f : Form) (ways : List Way) (side : ℕ) where
+module _ (f : Form) (ways : List ℕ) (side : ℕ) where
   -- where zeros are silent there is none
   pub silent_idles : (line : ℕ) (is : List Start) → silent f 0 ≡ true → first_bad (is_idle f (is_used ways)) 21 side line is ≡ done
   silent_idles line is z = bad_done (is_idle f (is_used ways)) 21 side line is (each_all (λ i. is_idle f (is_used ways) i ≡ false) (λ i. rw z) is)
@@ -37,12 +35,12 @@ module _ (f : Form) (ways : List Way) (side : ℕ) where
       no_line h = rw (starts_next (λ j v. marked has j) cells l inside, h)
 
       module _ (z : silent f 0 ≡ false) (h : marked has l ≡ true) where
-        pub idle_here : (eqb (get_or cells l 0) 0 && is_untouched (get_or ways l Untouched)) ≡ true → idles has cells line l ≡ answer 21 side line
+        pub idle_here : (eqb (get_or cells l 0) 0 && eqb (get_or ways l 0) 0) ≡ true → idles has cells line l ≡ answer 21 side line
         idle_here q =
             rw (starts_next (λ j v. marked has j) cells l inside, h)
-            (bad_here (is_idle f (is_used ways)) 21 side line (l, get_or cells l 0) _ (rw (z, not-not (is_untouched (get_or ways l Untouched))) q))
+            (bad_here (is_idle f (is_used ways)) 21 side line (l, get_or cells l 0) _ (rw (z, not-not (eqb (get_or ways l 0) 0)) q))
 
-        pub not_idle : (eqb (get_or cells l 0) 0 && is_untouched (get_or ways l Untouched)) ≡ false → idles has cells line l ≡ idles has cells (line + 1) (l + 1)
+        pub not_idle : (eqb (get_or cells l 0) 0 && eqb (get_or ways l 0) 0) ≡ false → idles has cells line l ≡ idles has cells (line + 1) (l + 1)
         not_idle q =
             rw (starts_next (λ j v. marked has j) cells l inside, h)
-            (bad_go (is_idle f (is_used ways)) 21 side line (l, get_or cells l 0) _ (rw (z, not-not (is_untouched (get_or ways l Untouched))) q))
+            (bad_go (is_idle f (is_used ways)) 21 side line (l, get_or cells l 0) _ (rw (z, not-not (eqb (get_or ways l 0) 0)) q))

@@ -8,21 +8,21 @@ ghost use Rattle.uses.specs.Bad.{first_bad};
 ghost use Rattle.uses.specs.Way.{is_used};
 ghost use Rattle.event.specs.Limit.{places};
 
-use crate::{Way, Ways, way_of};
+use crate::{UNTOUCHED, Ways, way_of};
 use event::{Answer, Event, Number, PLACES, Word};
 use memory::listed::{Listed, is_listed};
 use record::form::{Form, is_silent};
 
 // 20: whether an event touches a location that has no line; `has` lists those that have one.
-#[tactic(auto, using(crate::proofs::Ways::same_untouched, crate::proofs::Ways::way_touches))]
+#[tactic(auto, using(crate::proofs::Ways::way_touches))]
 pub fn lacks_line(form: Form, has: &Listed, e: Event) -> bool
     ensures { result ≡ lacks_line form (listed has.now) e }
 {
-    !is_silent(form, 0) && !is_listed(has, e.place) && way_of(e.kind) != Way::Untouched
+    !is_silent(form, 0) && !is_listed(has, e.place) && way_of(e.kind) != UNTOUCHED
 }
 
 // 21: the first line of 0 for a location that no event touches. The first starting value is on line 2.
-#[tactic(auto, using(crate::proofs::Ways::same_untouched, crate::proofs::Idle::silent_idles, crate::proofs::Idle::idle_end, crate::proofs::Idle::no_line, crate::proofs::Idle::idle_here, crate::proofs::Idle::not_idle))]
+#[tactic(auto, using(crate::proofs::Idle::silent_idles, crate::proofs::Idle::idle_end, crate::proofs::Idle::no_line, crate::proofs::Idle::idle_here, crate::proofs::Idle::not_idle))]
 pub fn idle_fault(
     form: Form,
     side: Number,
@@ -39,7 +39,7 @@ pub fn idle_fault(
     let mut line: usize = 2;
     for l in 0..PLACES {
         if has[l] {
-            if cells[l] == 0 && ways[l] == Way::Untouched {
+            if cells[l] == 0 && ways[l] == UNTOUCHED {
                 return Err(Answer::new(21, side, line));
             }
             line += 1;

@@ -1,4 +1,4 @@
-// How the events of a trace use its locations, which decides answer 5, and 20 and 21 (`cover`), by the way of each location.
+// How the events of a trace use its locations, which decides answer 5, and 20 and 21 (`cover`): a number for each location tells it.
 #![tactic(auto)]
 
 pub mod cover;
@@ -11,16 +11,18 @@ use event::{Event, PLACES, Word, index_of};
 use kinds::{LAST_PLACE, Place, row_of};
 use memory::listed::{Listed, is_listed};
 
-// How a location is used: not at all, by plain events, by atomic ones.
-#[derive(Clone, Copy, PartialEq, Eq)]
-pub enum Way {
-    Untouched,
-    Plain,
-    Atomic,
-}
+// How a location is used: not at all, by plain events, by atomic ones. A number and no enum: `use_listed`, `touch`, `cover::idle_fault` and the writer's
+// `put_start`, which docs/CONTRACTS.md names, promise an answer of any byte.
+pub type Way = u8;
 
 // The way of each location.
 pub type Ways = [Way; PLACES];
+
+pub const UNTOUCHED: Way = 0;
+
+const PLAIN: Way = 1;
+
+const ATOMIC: Way = 2;
 
 // The way in which an event of a kind uses its location.
 #[tactic(auto, unfolding(crate::specs::Way::way_of))]
@@ -29,9 +31,9 @@ pub(crate) fn way_of(kind: Word) -> Way
 {
     let row = row_of(kind);
     match row.place {
-        Place::Location if row.sync => Way::Atomic,
-        Place::Location => Way::Plain,
-        Place::Mutex | Place::Nowhere => Way::Untouched,
+        Place::Location if row.sync => ATOMIC,
+        Place::Location => PLAIN,
+        Place::Mutex | Place::Nowhere => UNTOUCHED,
     }
 }
 
@@ -40,10 +42,7 @@ pub(crate) fn way_of(kind: Word) -> Way
 fn are_opposed(was: Way, way: Way) -> bool
     ensures { result ≡ opposed was way }
 {
-    matches!(
-        (was, way),
-        (Way::Plain, Way::Atomic) | (Way::Atomic, Way::Plain)
-    )
+    (was == PLAIN && way == ATOMIC) || (was == ATOMIC && way == PLAIN)
 }
 
 // How a location is used after one event more.
@@ -51,10 +50,7 @@ fn are_opposed(was: Way, way: Way) -> bool
 fn joined_way(was: Way, way: Way) -> Way
     ensures { result ≡ joined was way }
 {
-    match way {
-        Way::Untouched => was,
-        Way::Plain | Way::Atomic => way,
-    }
+    if way == UNTOUCHED { was } else { way }
 }
 
 // Whether an event clashes with an earlier one, by how its location was used so far; the ways are those after it.
@@ -70,7 +66,7 @@ fn use_place(ways: &mut Ways, e: Event) -> bool
 }
 
 // The same under a list, of which an atomic use clashes by itself. What is at no location neither clashes nor changes the ways.
-#[tactic(auto, using(crate::proofs::Ways::same_atomic, crate::proofs::Ways::way_atomic, crate::proofs::Ways::clash_inside, crate::proofs::Ways::with_inside))]
+#[tactic(auto, using(crate::proofs::Ways::way_atomic, crate::proofs::Ways::clash_inside, crate::proofs::Ways::with_inside))]
 pub fn use_listed(listed: &Listed, ways: &mut Ways, e: Event) -> bool
     ensures { (result ≡ clashing_in listed.now ways.old e) × (ways.new ≡ ways_with ways.old e) }
 {
@@ -78,8 +74,7 @@ pub fn use_listed(listed: &Listed, ways: &mut Ways, e: Event) -> bool
         return false;
     }
     let clash = use_place(ways, e);
-    let atomic = way_of(e.kind) == Way::Atomic;
-    (is_listed(listed, e.place) && atomic) || clash
+    clash || (is_listed(listed, e.place) && way_of(e.kind) == ATOMIC)
 }
 
 // The ways after one event more.

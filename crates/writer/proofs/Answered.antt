@@ -14,8 +14,6 @@ use Rattle.memory.specs.declared.Memory.{Memory}
 use Rattle.frame.proofs.Settled.{first_done}
 use Rattle.record.specs.declared.form.Form.{Form}
 use Rattle.uses.specs.Way.{is_used, ways_of}
-use Rattle.uses.specs.declared.Way.{Way}
-use Rattle.uses.specs.declared.Way.TheVariants.{Untouched}
 use Rattle.uses.proofs.Ways.{used_by}
 use Rattle.trace.specs.Moving.{moved_text, move_fault_in, move_survey_in, move_in, moved_out_in}
 use Rattle.trace.specs.Reading.{TraceRead, read_as, start_of, events_of}
@@ -42,7 +40,7 @@ module _ (fault : Answer) (t out : List ℕ) (z : fault.number ≡ 0) where
 -- a room that is written, by the ways in which its events use the locations
 module _ (regs : List Bool) (f : Form) (m : Memory) (room out : List ℕ) (size : length m.cells ≡ 256) (values : Valued m.cells)
     (z : done ≡ write_fault_in regs f m room) (n : ℕ) (c : n ≡ count_of room)
-    (ways : List Way) (u : ways ≡ ways_of (replicate 256 Untouched) (onward room 0 n)) where
+    (ways : List ℕ) (u : ways ≡ ways_of (replicate 256 0) (onward room 0 n)) where
   abbrev by_ways : List ℕ
   by_ways = text_by f (is_used ways) m (onward room 0 n)
 
@@ -74,8 +72,8 @@ module _ (regs : List Bool) (f : Form) (m : Memory) (room out : List ℕ) (size 
   write_done h p = rw text_is (written_as (write_fault_in regs f m room) (trace_text f m (room_events room)) out none (rw text_is at h) (rw text_is at p))
 
 -- a text that is moved
-module _ (regs : List Bool) (to : Form) (t out : List ℕ) (n : ℕ) (m : Memory) (q : read_as n m ≡ move_survey_in regs to t) (ways : List Way)
-    (u : ways ≡ ways_of (replicate 256 Untouched) (events_of t)) where
+module _ (regs : List Bool) (to : Form) (t out : List ℕ) (n : ℕ) (m : Memory) (q : read_as n m ≡ move_survey_in regs to t) (ways : List ℕ)
+    (u : ways ≡ ways_of (replicate 256 0) (events_of t)) where
   abbrev moved_by : List ℕ
   moved_by = text_by to (is_used ways) m (events_of t)
 

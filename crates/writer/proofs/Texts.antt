@@ -20,7 +20,6 @@ use Rattle.record.specs.declared.form.Form.TheVariants.{One}
 use Rattle.record.proofs.Prints.{event_length}
 use Rattle.writer.specs.Put.{Put, Small, tab_if, init_part, start_text, bare}
 use Rattle.uses.specs.Way.{ways_with, ways_of}
-use Rattle.uses.specs.declared.Way.{Way}
 use Rattle.trace.specs.Writing.{text_of, has_line, init_lines, text_by}
 use Rattle.writer.proofs.Puts.{Left, put_none, then, left_small, left_next, left_none}
 use Rattle.uses.proofs.Starts.{starts_next, starts_end}
@@ -152,11 +151,11 @@ module _ (f : Form) {room : List ℕ} {at : ℕ} {whole now : List ℕ} {here : 
   lines_put q = left_none l (rw q)
 
 -- the ways after the events of a text, or of a room, one by one
-pub ways_none : (ways : List Way) → ways_of ways [] ≡ ways
+pub ways_none : (ways : List ℕ) → ways_of ways [] ≡ ways
 unfolding ways_of
 ways_none ways = refl
 
-pub ways_next : (ways : List Way) (e : Event) (es : List Event) → ways_of ways (e ∷ es) ≡ ways_of (ways_with ways e) es
+pub ways_next : (ways : List ℕ) (e : Event) (es : List Event) → ways_of ways (e ∷ es) ≡ ways_of (ways_with ways e) es
 unfolding ways_of
 ways_next ways e es = refl
 

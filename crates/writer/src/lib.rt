@@ -19,7 +19,7 @@ use put::{put_text, size_of};
 use record::form::Form;
 use refusals::room::{count_of, write_fault};
 use touch::touch_all;
-use uses::{Way, Ways};
+use uses::{UNTOUCHED, Ways};
 
 // A starting memory and the events of a part of a room, written under a list of registers as a text of a form at the front of the lent bytes: how many
 // bytes it has, or a refusal, with side 0, which changes nothing.
@@ -36,7 +36,7 @@ pub fn write_in(
 {
     write_fault(listed, form, memory, room)?;
     let n = count_of(room);
-    let mut ways: Ways = [Way::Untouched; PLACES];
+    let mut ways: Ways = [UNTOUCHED; PLACES];
     touch_all(&mut ways, room, n);
     let size = size_of(form, &ways, memory, room, n);
     if out.len() < size {

@@ -20,7 +20,7 @@ use refusals::moving::survey_to;
 use text::line::line_two;
 use trace::ahead::next_event;
 use trace::form::form_of;
-use uses::{Way, Ways, touch};
+use uses::{UNTOUCHED, Ways, touch};
 
 // The ways after the events of a text.
 #[tactic(auto, using(trace::proofs::Walks::events_heard, crate::proofs::Texts::ways_next, crate::proofs::Texts::ways_none))]
@@ -77,7 +77,7 @@ pub fn move_in(listed: &Listed, to: Form, text: &[u8], out: &mut [u8]) -> Result
     ensures { Wrote result (move_in listed.now to text.now out.old) × (out.new ≡ moved_out_in listed.now to text.now out.old) }
 {
     let held = survey_to(listed, to, text)?;
-    let mut ways: Ways = [Way::Untouched; PLACES];
+    let mut ways: Ways = [UNTOUCHED; PLACES];
     touch_lines(&mut ways, text);
     let size = moved_size(to, &ways, held.memory, text);
     if out.len() < size {

@@ -1,20 +1,19 @@
 // Which starting values have a line: the ways in which events use the locations say which are touched.
-ghost use Rattle.std.specs.Prelude.{not, ◌≡◌};
+ghost use Rattle.std.specs.Prelude.{not, ◌≡◌, eqb};
 ghost use Rattle.event.specs.Room.{onward};
-ghost use Rattle.uses.specs.Way.{is_untouched, ways_of};
+ghost use Rattle.uses.specs.Way.{ways_of};
 ghost use Rattle.trace.specs.Writing.{has_line};
 
 use event::Word;
 use event::room::get;
 use record::form::{Form, is_silent};
-use uses::{Way, Ways, touch};
+use uses::{UNTOUCHED, Way, Ways, touch};
 
 // Whether a starting value has a line, by how its location is used.
-#[tactic(auto, using(uses::proofs::Ways::same_untouched))]
 pub(crate) fn has_line(form: Form, way: Way, value: Word) -> bool
-    ensures { result ≡ has_line form (λ _. not (is_untouched way)) 0 value }
+    ensures { result ≡ has_line form (λ _. not (eqb way 0)) 0 value }
 {
-    value != 0 || (!is_silent(form, value) && way != Way::Untouched)
+    value != 0 || (!is_silent(form, value) && way != UNTOUCHED)
 }
 
 // The ways after the first n events of a room.
