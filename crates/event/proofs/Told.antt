@@ -52,6 +52,10 @@ pub and_stands : (x y : Result ⊤ Answer) → Stands x → Stands y → Stands 
 and_stands (Ok x) y h k = k
 and_stands (Err a) y h k = h
 
+pub and_ok : (x : Result ⊤ Answer) → result_and x (Ok tt) ≡ x
+and_ok (Ok x) = refl
+and_ok (Err a) = refl
+
 -- the answer of one that refuses, and of one that does not
 pub err_refuses : (r : Result ⊤ Answer) (a : Answer) → Stands r → r ≡ Err a → Refuses a
 err_refuses (Ok x) a h e = absurd (let z : ◌≡◌ {A = ℕ} 0 1 = cc in omega arith)

@@ -2,6 +2,7 @@
 use mathlib.Core.Path.{sym, ◌∙◌}
 use Rattle.laws.specs.Unique.{OneAnswer, OneOf}
 use Rattle.event.proofs.Answer.new.Reads as new
+use Rattle.event.proofs.Answer.of_bytes.Reads as of_bytes
 use Rattle.event.proofs.index_of.Reads as index_of
 use Rattle.event.proofs.number_index.Reads as number_index
 use Rattle.event.proofs.room.get.Reads as get
@@ -9,6 +10,9 @@ use Rattle.event.proofs.room.put.Reads as put
 
 new_one : OneAnswer new.Post
 new_one κ a x y s t h k = h ∙ sym k
+
+of_bytes_one : OneAnswer of_bytes.Post
+of_bytes_one κ a x y s t h k = h ∙ sym k
 
 index_of_one : OneAnswer index_of.Post
 index_of_one κ a x y s t h k = h ∙ sym k

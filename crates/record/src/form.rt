@@ -47,11 +47,11 @@ pub fn limit_of(form: Form) -> usize
 }
 
 // Line 1 of a text, without its LF.
-pub fn header_of(form: Form) -> &'static [u8]
-    ensures { result.now ≡ header form }
+pub fn header_of(form: Form) -> [u8; 7]
+    ensures { result ≡ header form }
 {
     match form {
-        Form::One => b"trace\t1",
-        Form::Two => b"trace\t2",
+        Form::One => *b"trace\t1",
+        Form::Two => *b"trace\t2",
     }
 }

@@ -64,7 +64,7 @@ fn event_fault(listed: &Listed, start: Memory, room: &[Word], n: usize) -> Resul
         let e = get(room, i);
         let clash = use_listed(listed, &mut ways, e);
         last = last.memory.step(e);
-        fault_at(clash, is_right(listed, e, last.right), 0, i + 1)?;
+        fault_at(Ok(()), clash, is_right(listed, e, last.right), 0, i + 1)?;
     }
     Ok(())
 }

@@ -7,12 +7,14 @@ use mathlib.Core.List.{List, [], ◌∷◌}
 use native.Mathlib.Omega.{arith}
 use lib.Dec.{eqb}
 use borrow.Author.Tests.{eqb-true}
+use Rattle.std.specs.Prelude.{Result, ⊤}
 use Rattle.laws.proofs.Cases.{cases, either}
 use Rattle.event.specs.Answer.{answer, done, first}
 use Rattle.kinds.specs.Kind.{lawful}
 use Rattle.memory.specs.Listed.{is_register, stepped_in}
 use Rattle.memory.specs.Memory.{stepped}
 use Rattle.event.specs.Room.{event_at, onward}
+use Rattle.event.specs.Told.{Passes, passed}
 use Rattle.event.specs.declared.Answer.{Answer}
 use Rattle.event.specs.declared.Event.{Event}
 use Rattle.memory.specs.declared.Memory.{Memory}
@@ -77,6 +79,12 @@ pub fault_free : (side k : ℕ) (clash right : Bool) → (fault_at side k clash 
 fault_free side k true right h = absurd (omega arith)
 fault_free side k false true h = (refl, refl)
 fault_free side k false false h = absurd (omega arith)
+
+-- what is handed back of an event's 5 or 6 tells it
+pub fault_passes : (side k : ℕ) (clash right : Bool) {r : Result ⊤ Answer} → r ≡ passed (fault_at side k clash right) → Passes (fault_at side k clash right) r
+fault_passes side k true right q = rw q (refl, refl)
+fault_passes side k false true q = rw q refl
+fault_passes side k false false q = rw q (refl, refl)
 
 -- where no event is at fault, the first neither clashes nor has another value than the latest, and no other is at fault
 pub fault_parts : (regs : List Bool) (side k : ℕ) (m : Memory) (before : List Event) (e : Event) (es : List Event) → (event_fault_in regs side k m before (e ∷ es)).number ≡ 0

@@ -11,7 +11,7 @@ use Rattle.std.specs.Prelude.{Some, None, Result, Ok, Err, ⊤}
 use Rattle.std.specs.Result.{result_and}
 use Rattle.event.specs.Answer.{answer, done, first}
 use Rattle.event.specs.Limit.{last_place, event_limit}
-use Rattle.event.specs.Told.{Refuses, Passes}
+use Rattle.event.specs.Told.{Refuses, Passes, passed}
 use Rattle.event.specs.declared.Answer.{Answer}
 use Rattle.event.specs.declared.Event.{Event}
 use Rattle.event.proofs.Told.{answer_in, Stands, passes_answer, passes_stands, and_answer, and_stands, err_refuses}
@@ -37,7 +37,7 @@ use Rattle.uses.proofs.Ways.{or_right, with_inside, clash_inside, Marks, marks_s
 use Rattle.trace.specs.Fault.{fault_at}
 use Rattle.trace.specs.Reading.{TraceRead, trace_layout, events_in, refused, read_as}
 use Rattle.trace.specs.Survey.{closed, survey_events}
-use Rattle.trace.proofs.Judged.{fault_free, right_told}
+use Rattle.trace.proofs.Judged.{fault_free, fault_passes, right_told}
 use Rattle.trace.proofs.Surveys.{judged_on, on_start, on_bare, on_idle, on_found, on_end_lem, on_go}
 
 -- what was found so far, of which nothing more refuses
@@ -48,6 +48,11 @@ kept (Err a) h = rw h.0
 lacking : (lacks : Bool) (r : Result ⊤ Answer) (a : Answer) → Stands r → first (answer_in r) (cond lacks a done) ≡ cond lacks (first (answer_in r) a) (answer_in r)
 lacking true r a h = refl
 lacking false r a h = kept r h
+
+-- what is handed back of an event's 20 tells it
+lack_passes : (lacks : Bool) (side k : ℕ) → Passes (cond lacks (answer 20 side k) done) (passed (cond lacks (answer 20 side k) done))
+lack_passes true side k = (refl, refl)
+lack_passes false side k = refl
 
 module _ (regs : List Bool) (form : Form) (text : List ℕ) (from line side : ℕ) (has : List Bool) (start : Memory) where
   abbrev whole : TraceRead
@@ -88,9 +93,20 @@ module _ (regs : List Bool) (form : Form) (text : List ℕ) (from line side : �
 
     -- an event more
     module _ (to : ℕ) (here : line_at text at ≡ Some to) (e : Event) (its : record_of form (part text at to) ≡ Some (AnEvent e)) (few : n < event_limit)
-        (cells : length start.cells ≡ 256) (b : Result ⊤ Answer) (lacks : Passes (cond (lacks_line form (listed has) e) (answer 20 side (n + 1)) done) b)
-        (c : Bool) (clashes : c ≡ clashing_in regs ways e) (ways' : List ℕ) (uses : ways' ≡ ways_with ways e) (s : Stepped) (steps : s ≡ stepped m e)
-        (right : Bool) (latest : right ≡ (s.right || is_register regs e)) (f : Result ⊤ Answer) (faults : Passes (fault_at side (n + 1) c right) f) where
+        (cells : length start.cells ≡ 256) (c : Bool) (clashes : c ≡ clashing_in regs ways e) (ways' : List ℕ) (uses : ways' ≡ ways_with ways e) (s : Stepped) (steps : s ≡ stepped m e)
+        (right : Bool) (latest : right ≡ (s.right || is_register regs e)) where
+      abbrev b : Result ⊤ Answer
+      b = passed (cond (lacks_line form (listed has) e) (answer 20 side (n + 1)) done)
+
+      lacks : Passes (cond (lacks_line form (listed has) e) (answer 20 side (n + 1)) done) b
+      lacks = lack_passes (lacks_line form (listed has) e) side (n + 1)
+
+      abbrev f : Result ⊤ Answer
+      f = passed (fault_at side (n + 1) c right)
+
+      faults : Passes (fault_at side (n + 1) c right) f
+      faults = fault_passes side (n + 1) c right refl
+
       inside : e.place < 256
       inside = place_below e (line_lawful form (part text at to) e its)
 

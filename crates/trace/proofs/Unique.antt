@@ -2,7 +2,7 @@
 use mathlib.Core.Path.{◌≡◌, refl, sym, ◌∙◌}
 use Rattle.std.specs.Prelude.{Result}
 use Rattle.event.specs.declared.Answer.{Answer}
-use Rattle.event.proofs.Told.{tells_one, passes_one}
+use Rattle.event.proofs.Told.{tells_one}
 use Rattle.trace.specs.Reading.{TraceRead, Reads, read_as, refused}
 use Rattle.trace.specs.declared.reading.Held.{Held}
 use Rattle.laws.specs.Unique.{OneAnswer, OneOf}
@@ -15,6 +15,7 @@ use Rattle.trace.proofs.form.form_of.Reads as form_of
 use Rattle.trace.proofs.fault.is_right.Reads as is_right
 use Rattle.trace.proofs.fault.fault_at.Reads as fault_at
 use Rattle.trace.proofs.form.is_of.Reads as is_of
+use Rattle.trace.proofs.ahead.next_event.Reads as next_event
 use Rattle.trace.proofs.reading.survey.Reads as survey
 
 -- what is held, or the answer that refuses, by what the reading says
@@ -53,10 +54,13 @@ is_right_one : OneAnswer is_right.Post
 is_right_one κ a x y s t h k = h ∙ sym k
 
 fault_at_one : OneAnswer fault_at.Post
-fault_at_one κ a x y s t h k = passes_one _ x y h k
+fault_at_one κ a x y s t h k = h ∙ sym k
 
 is_of_one : OneAnswer is_of.Post
 is_of_one κ a x y s t h k = h ∙ sym k
+
+next_event_one : OneAnswer next_event.Post
+next_event_one κ a x y s t h k = h.0 ∙ sym k.0
 
 survey_one : OneAnswer survey.Post
 survey_one κ a x y s t h k = reads_one _ x y h k

@@ -1,5 +1,6 @@
 // The events of a text one by one, each found from the place after the one before it: no room of events is lent or kept.
-ghost use Rattle.trace.specs.Ahead.{Finds};
+ghost use Rattle.std.specs.Prelude.{◌≡◌};
+ghost use Rattle.trace.specs.Ahead.{Finds, found_from};
 
 use event::Event;
 use record::form::Form;
@@ -14,9 +15,9 @@ pub struct Found {
 }
 
 // The first event of the lines that start at a place or after it, if there is one.
-#[tactic(auto, using(text::proofs::Walk::line_in, crate::proofs::Walks::line_heard, crate::proofs::Walks::event_heard, crate::proofs::Walks::none_heard))]
+#[tactic(auto, using(text::proofs::Walk::line_in, crate::proofs::Walks::line_heard, crate::proofs::Walks::event_heard, crate::proofs::Walks::none_heard, crate::proofs::Walks::line_found, crate::proofs::Walks::event_found, crate::proofs::Walks::none_found))]
 pub fn next_event(form: Form, text: &[u8], from: usize) -> Option<Found>
-    ensures { Finds form text.now from result }
+    ensures { (result ≡ found_from form text.now from) × Finds form text.now from result }
 {
     let mut at = from;
     while let Some(to) = next_line(text, at) {

@@ -14,7 +14,7 @@ use record::form::{Form, header_of, limit_of};
 pub fn is_of(form: Form, text: &[u8]) -> bool
     ensures { result ≡ headed (header form) (split text.now) }
 {
-    is_headed(text, header_of(form))
+    is_headed(text, &header_of(form))
 }
 
 // The form of a text.
@@ -32,5 +32,5 @@ pub fn form_of(text: &[u8]) -> Form
 pub(crate) fn head_fault_of(form: Form, text: &[u8], side: Number) -> Result<(), Answer>
     ensures { Passes (head_fault side (limit_of form) (header form) text.now) result }
 {
-    head_fault(text, side, limit_of(form), header_of(form))
+    head_fault(text, side, limit_of(form), &header_of(form))
 }

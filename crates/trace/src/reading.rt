@@ -65,10 +65,10 @@ fn survey_events(
             return Err(Answer::new(3, side, k));
         }
         n += 1;
-        bare = bare.and(bare_fault(form, has, e, side, n));
+        bare = bare_fault(bare, form, has, e, side, n);
         let clash = use_listed(listed, &mut ways, e);
         last = last.memory.step(e);
-        found = found.and(fault_at(clash, is_right(listed, e, last.right), side, n));
+        found = fault_at(found, clash, is_right(listed, e, last.right), side, n);
         k += 1;
         at = to + 1;
     }

@@ -179,7 +179,7 @@ fn put_events(form: Form, out: &mut [u8], at: usize, room: &[Word], n: usize) ->
 fn put_header(form: Form, out: &mut [u8]) -> usize
     ensures { Put out.old 0 (header form ++ 10 ∷ []) out.new result }
 {
-    let after_line = put(out, 0, header_of(form));
+    let after_line = put(out, 0, &header_of(form));
     put(out, after_line, b"\n")
 }
 

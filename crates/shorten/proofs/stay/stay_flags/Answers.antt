@@ -11,14 +11,14 @@ loop-event-init c = staying_start c.args.listed.now c.args.text.now c.form_of-fo
 pub loop-event-preserved-then-is_wall_in : goal.loop-event-preserved-then-is_wall_in
 loop-event-preserved-then-is_wall_in c =
     let s = c.loop-event.invariant in
-    let few = staying_few _ _ _ s c.in-Some.field-0 c.in-Some.ensures c.requires in
-    staying_next _ _ _ s c.in-Some.field-0 c.in-Some.ensures (walked_wall s.walked few _ (sym c.is_wall_in.ensures ∙ c.if-is_wall_in.true))
+    let few = staying_few _ _ _ s c.in-Some.field-0 c.in-Some.ensures.1 c.requires in
+    staying_next _ _ _ s c.in-Some.field-0 c.in-Some.ensures.1 (walked_wall s.walked few _ (sym c.is_wall_in.ensures ∙ c.if-is_wall_in.true))
 
 pub loop-event-preserved : goal.loop-event-preserved
 loop-event-preserved c =
     let s = c.loop-event.invariant in
-    let few = staying_few _ _ _ s c.in-Some.field-0 c.in-Some.ensures c.requires in
-    staying_next _ _ _ s c.in-Some.field-0 c.in-Some.ensures
-    (walked_by s.walked few (sees_in c.args.listed.now c.in-Some.field-0.event) (sym c.is_wall_in.ensures ∙ c.if-is_wall_in.false) c.in-Some.ensures.1.1.1
+    let few = staying_few _ _ _ s c.in-Some.field-0 c.in-Some.ensures.1 c.requires in
+    staying_next _ _ _ s c.in-Some.field-0 c.in-Some.ensures.1
+    (walked_by s.walked few (sees_in c.args.listed.now c.in-Some.field-0.event) (sym c.is_wall_in.ensures ∙ c.if-is_wall_in.false) c.in-Some.ensures.1.1.1.1
     c.index_of-place.ensures c.is_load_in-load.ensures c.overwritten.ensures c.unflag.ensures c.stays_at.ensures c.begun_after.ensures
     c.value_after.ensures c.last_after.ensures)

@@ -30,8 +30,8 @@ loop-to-preserved c =
     let its = sym c.record_of.ensures ∙ (c.in-Some-AnEvent.is ∙ ap Some c.in-Some-AnEvent.field-0-is) in
     let read =
     event_read _ _ _ _ _ _ _ _ _ _ _ _ _ _ _ c.loop-to.invariant _ (sym c.next_line.ensures ∙ c.in-Some.is) _ its (omega (arith, c.if-n-ge-EVENT_LIMIT.false)) (search rules)
-    _ c.bare_fault.ensures _ c.use_listed-clash.ensures.0 _ c.use_listed-clash.ensures.1 _ c.step-last.ensures _ c.is_right.ensures _ c.fault_at.ensures in
-    rw (c.and-bare.ensures, c.and-found.ensures) read
+    _ c.use_listed-clash.ensures.0 _ c.use_listed-clash.ensures.1 _ c.step-last.ensures _ c.is_right.ensures in
+    rw (c.bare_fault-bare.ensures, c.fault_at-found.ensures) read
 
 pub returns-then-at-text : goal.returns-then-at-text
 returns-then-at-text c =
