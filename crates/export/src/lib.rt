@@ -23,7 +23,9 @@ use checker::line::offending_span;
 use event::{Answer, Entry, Number, PLACES, Word};
 use memory::Memory;
 use numbers::{form_number, form_numbered};
-use results::{lay_check, lay_span, lay_trace, matching_numbers, written_numbers};
+use results::{
+    MatchingRead, TraceRead, lay_check, lay_span, lay_trace, matching_numbers, written_numbers,
+};
 use trace::form::form_of;
 use writer::moving::move_to;
 
@@ -48,7 +50,7 @@ pub extern "C" fn laprunto_read_trace(
     ensures room_after { room.new ≡ room_after 1 text.now room.old }
 {
     let read = trace::read(text, room);
-    lay_trace(read, memory, res);
+    lay_trace(TraceRead::from(read), memory, res);
 }
 
 // A matching text read alone: number, side, place and entries, and the room.
@@ -58,7 +60,7 @@ pub extern "C" fn laprunto_read_matching(text: &[u8], room: &mut [Entry], res: &
     ensures room_after { room.new ≡ entries_after text.now room.old }
 {
     let read = matching::read(text, room);
-    *res = matching_numbers(read);
+    *res = matching_numbers(MatchingRead::from(read));
 }
 
 // A starting memory and the events of a part of a room, written as a text of a form: number, side and place, and the bytes.

@@ -22,7 +22,7 @@ use memory::Memory;
 use numbers::{
     answer_numbers, form_numbered, listed_of, marks_of, run_numbered, step_numbered, step_numbers,
 };
-use results::{lay_applied, lay_check, lay_start, lay_trace, written_numbers};
+use results::{TraceRead, lay_applied, lay_check, lay_start, lay_trace, written_numbers};
 use steps::next_listed;
 use trace::read_listed;
 use writer::moving::move_listed;
@@ -62,7 +62,7 @@ pub extern "C" fn laprunto_read_trace_listed(
     ensures room_after { room.new ≡ room_listed (list_of group list.now) text.now room.old }
 {
     let read = read_listed(list, group, text, room);
-    lay_trace(read, memory, res);
+    lay_trace(TraceRead::from(read), memory, res);
 }
 
 // `laprunto_write_trace` with a list.

@@ -5,7 +5,7 @@ ghost use Rattle.memory.specs.Listed.{none_listed};
 ghost use Rattle.export.specs.Short.{Lays};
 
 use event::Word;
-use results::shortened_numbers;
+use results::{ShortSaid, shortened_numbers};
 use shorten::{shorten, shorten_listed};
 
 // A trace text shortened: number, side, place, and how many bytes the shortened text and its matching have; and both texts.
@@ -22,7 +22,7 @@ pub extern "C" fn laprunto_shorten(
         res.new out.new matching_out.new }
 {
     let shortened = shorten(text, out, matching_out);
-    *res = shortened_numbers(shortened);
+    *res = shortened_numbers(ShortSaid::from(shortened));
 }
 
 // `laprunto_shorten` with a list.
@@ -41,5 +41,5 @@ pub extern "C" fn laprunto_shorten_listed(
         res.new out.new matching_out.new }
 {
     let shortened = shorten_listed(list, group, text, out, matching_out);
-    *res = shortened_numbers(shortened);
+    *res = shortened_numbers(ShortSaid::from(shortened));
 }

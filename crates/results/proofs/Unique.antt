@@ -9,6 +9,9 @@ use Rattle.results.proofs.lay_start.Reads as lay_start
 use Rattle.results.proofs.lay_applied.Reads as lay_applied
 use Rattle.results.proofs.lay_span.Reads as lay_span
 use Rattle.results.proofs.shortened_numbers.Reads as shortened_numbers
+use Rattle.results.proofs.TraceReadFromResultHeldAnswer.from.Reads as trace_from
+use Rattle.results.proofs.MatchingReadFromResultUsizeAnswer.from.Reads as matching_from
+use Rattle.results.proofs.ShortSaidFromResultShortenedAnswer.from.Reads as short_from
 
 lay_trace_result : OneOf lay_trace.Post (λ κ r s. s.1.1.0.now)
 lay_trace_result κ a x y s t h k = h.0 ∙ sym k.0
@@ -51,3 +54,12 @@ lay_span_to κ a x y s t h k = h.1 ∙ sym k.1
 
 shortened_numbers_one : OneAnswer shortened_numbers.Post
 shortened_numbers_one κ a x y s t h k = h ∙ sym k
+
+trace_from_one : OneAnswer trace_from.Post
+trace_from_one κ a x y s t h k = h ∙ sym k
+
+matching_from_one : OneAnswer matching_from.Post
+matching_from_one κ a x y s t h k = h ∙ sym k
+
+short_from_one : OneAnswer short_from.Post
+short_from_one κ a x y s t h k = h ∙ sym k

@@ -11,6 +11,9 @@ use Rattle.beginning.specs.declared.Started.{Started}
 use Rattle.shorten.specs.Text.{ShortSaid, whole, refused as short_refused}
 use Rattle.shorten.specs.declared.Shortened.{Shortened}
 use Rattle.numbers.specs.Numbers.{checked_numbers, count_numbers, started_numbers}
+use Rattle.results.specs.declared.TraceRead.{TraceRead as TracePiece}
+use Rattle.results.specs.declared.MatchingRead.{MatchingRead as MatchingPiece}
+use Rattle.results.specs.declared.ShortSaid.{ShortSaid as ShortPiece}
 
 -- What the results of a reading, of a writing and of a shortening tell.
 abbrev pub trace_told : Result Held Answer → TraceRead
@@ -24,6 +27,16 @@ written_told = told (answer 0 0) (λ a. a)
 
 abbrev pub short_told : Result Shortened Answer → ShortSaid
 short_told = told whole short_refused
+
+-- The same in the pieces that the code hands on.
+abbrev pub trace_of : Result Held Answer → TracePiece
+trace_of read = record { answer = (trace_told read).answer; events = (trace_told read).events; memory = (trace_told read).memory }
+
+abbrev pub matching_of : Result ℕ Answer → MatchingPiece
+matching_of read = record { answer = (matching_told read).answer; entries = (matching_told read).entries }
+
+abbrev pub short_of : Result Shortened Answer → ShortPiece
+short_of made = record { answer = (short_told made).answer; bytes = (short_told made).bytes; matching_bytes = (short_told made).matching_bytes }
 
 -- A trace read: its answer, then its events.
 abbrev pub trace_numbers : TraceRead → List ℕ
@@ -43,5 +56,8 @@ start_numbers s =
     started_numbers s.checked.answer s.checked.source.events s.checked.target.events s.checked.entries s.cost
 
 -- A shortening: its answer, then the bytes of the shortened text and those of its matching.
+abbrev pub short_numbers : Answer → ℕ → ℕ → List ℕ
+short_numbers a bytes matching_bytes = a.number ∷ a.side ∷ a.place ∷ bytes ∷ matching_bytes ∷ []
+
 abbrev pub shortened_numbers : ShortSaid → List ℕ
-shortened_numbers r = r.answer.number ∷ r.answer.side ∷ r.answer.place ∷ r.bytes ∷ r.matching_bytes ∷ []
+shortened_numbers r = short_numbers r.answer r.bytes r.matching_bytes

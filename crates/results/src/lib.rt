@@ -2,9 +2,8 @@
 #![tactic(auto)]
 
 ghost use Rattle.std.specs.Prelude.{◌≡◌};
-ghost use Rattle.numbers.specs.Numbers.{answer_numbers, flag, run_numbers};
-ghost use Rattle.results.specs.Results.{matching_told, short_told, trace_told, written_told};
-ghost use Rattle.results.specs.Results.{check_numbers, matching_numbers, shortened_numbers, start_numbers, trace_numbers};
+ghost use Rattle.numbers.specs.Numbers.{answer_numbers, count_numbers, flag, run_numbers};
+ghost use Rattle.results.specs.Results.{check_numbers, matching_of, short_numbers, short_of, start_numbers, trace_of, written_told};
 
 use beginning::Started;
 use changes::Applied;
@@ -18,29 +17,75 @@ use numbers::{
 use shorten::Shortened;
 use trace::reading::Held;
 
-// A trace read: its numbers, and its starting memory.
-pub fn lay_trace(read: Result<Held, Answer>, memory: &mut [Word; PLACES], res: &mut [usize; 4])
-    ensures res_after { res.new ≡ trace_numbers (trace_told read) }
-    ensures memory_after { memory.new ≡ (trace_told read).memory.cells }
-{
-    let (answer, start, events) = match read {
-        Ok(held) => (Answer::new(0, 0, 0), held.memory, held.events),
-        Err(answer) => (answer, Memory::empty(), 0),
-    };
-    let cells = start.cells;
-    *memory = cells;
-    *res = count_numbers(answer, events);
+// A trace read, in one piece: its answer, and beside one that refuses no event and a memory of zeros. C and Rust are handed all of it.
+#[derive(Clone, Copy)]
+pub struct TraceRead {
+    pub answer: Answer,
+    pub events: usize,
+    pub memory: Memory,
 }
 
-// A matching read: its numbers.
-pub fn matching_numbers(read: Result<usize, Answer>) -> [usize; 4]
-    ensures { result ≡ matching_numbers (matching_told read) }
+impl From<Result<Held, Answer>> for TraceRead {
+    ghost use Rattle.std.specs.Prelude.{◌≡◌};
+    ghost use Rattle.results.specs.Results.{trace_of};
+
+    ghost from_gives = { λ read r. r ≡ trace_of read };
+
+    fn from(read: Result<Held, Answer>) -> TraceRead {
+        match read {
+            Ok(held) => TraceRead {
+                answer: Answer::new(0, 0, 0),
+                events: held.events,
+                memory: held.memory,
+            },
+            Err(answer) => TraceRead {
+                answer,
+                events: 0,
+                memory: Memory::empty(),
+            },
+        }
+    }
+}
+
+// Its numbers, and its starting memory.
+pub fn lay_trace(read: TraceRead, memory: &mut [Word; PLACES], res: &mut [usize; 4])
+    ensures res_after { res.new ≡ count_numbers read.answer read.events }
+    ensures memory_after { memory.new ≡ read.memory.cells }
 {
-    let (answer, entries) = match read {
-        Ok(entries) => (Answer::new(0, 0, 0), entries),
-        Err(answer) => (answer, 0),
-    };
-    count_numbers(answer, entries)
+    let cells = read.memory.cells;
+    *memory = cells;
+    *res = count_numbers(read.answer, read.events);
+}
+
+// A matching read, in one piece: its answer, and beside one that refuses no entry.
+#[derive(Clone, Copy)]
+pub struct MatchingRead {
+    pub answer: Answer,
+    pub entries: usize,
+}
+
+impl From<Result<usize, Answer>> for MatchingRead {
+    ghost use Rattle.std.specs.Prelude.{◌≡◌};
+    ghost use Rattle.results.specs.Results.{matching_of};
+
+    ghost from_gives = { λ read r. r ≡ matching_of read };
+
+    fn from(read: Result<usize, Answer>) -> MatchingRead {
+        match read {
+            Ok(entries) => MatchingRead {
+                answer: Answer::new(0, 0, 0),
+                entries,
+            },
+            Err(answer) => MatchingRead { answer, entries: 0 },
+        }
+    }
+}
+
+// Its numbers.
+pub fn matching_numbers(read: MatchingRead) -> [usize; 4]
+    ensures { result ≡ count_numbers read.answer read.entries }
+{
+    count_numbers(read.answer, read.entries)
 }
 
 // A text written or moved: its answer's numbers, of which the place is how many bytes it has.
@@ -106,19 +151,45 @@ pub fn lay_span(part: Span, from: &mut usize, to: &mut usize)
     *to = part.to;
 }
 
-// A shortening: the answer, then the bytes of the shortened text and those of its matching.
-pub fn shortened_numbers(made: Result<Shortened, Answer>) -> [usize; 5]
-    ensures { result ≡ shortened_numbers (short_told made) }
+// A shortening, in one piece: its answer, and beside one that refuses no byte of either text.
+#[derive(Clone, Copy)]
+pub struct ShortSaid {
+    pub answer: Answer,
+    pub bytes: usize,
+    pub matching_bytes: usize,
+}
+
+impl From<Result<Shortened, Answer>> for ShortSaid {
+    ghost use Rattle.std.specs.Prelude.{◌≡◌};
+    ghost use Rattle.results.specs.Results.{short_of};
+
+    ghost from_gives = { λ made r. r ≡ short_of made };
+
+    fn from(made: Result<Shortened, Answer>) -> ShortSaid {
+        match made {
+            Ok(short) => ShortSaid {
+                answer: Answer::new(0, 0, 0),
+                bytes: short.bytes,
+                matching_bytes: short.matching_bytes,
+            },
+            Err(answer) => ShortSaid {
+                answer,
+                bytes: 0,
+                matching_bytes: 0,
+            },
+        }
+    }
+}
+
+// Its numbers: the answer's, then the bytes of the shortened text and those of its matching.
+pub fn shortened_numbers(r: ShortSaid) -> [usize; 5]
+    ensures { result ≡ short_numbers r.answer r.bytes r.matching_bytes }
 {
-    let (answer, bytes, matching_bytes) = match made {
-        Ok(short) => (Answer::new(0, 0, 0), short.bytes, short.matching_bytes),
-        Err(answer) => (answer, 0, 0),
-    };
     [
-        number_index(answer.number),
-        number_index(answer.side),
-        answer.place,
-        bytes,
-        matching_bytes,
+        number_index(r.answer.number),
+        number_index(r.answer.side),
+        r.answer.place,
+        r.bytes,
+        r.matching_bytes,
     ]
 }
