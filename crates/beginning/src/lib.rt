@@ -123,18 +123,17 @@ pub fn start_listed(
         source_room.old target_room.old entry_room.old) tags.old
         result source_room.new target_room.new entry_room.new tags.new }
 {
-    let listed = match registers::read(list, group) {
-        Ok(listed) => listed,
-        Err(found) => return not_begun(refusal(found)),
-    };
-    start_in(
-        &listed,
-        source,
-        target,
-        matching,
-        source_room,
-        target_room,
-        entry_room,
-        tags,
-    )
+    match registers::read(list, group) {
+        Ok(listed) => start_in(
+            &listed,
+            source,
+            target,
+            matching,
+            source_room,
+            target_room,
+            entry_room,
+            tags,
+        ),
+        Err(found) => not_begun(refusal(found)),
+    }
 }
