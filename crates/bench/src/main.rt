@@ -15,10 +15,9 @@ mod written;
 
 use check::run_check;
 use event::{Word, number_index};
-use files::check::print_check;
 use files::filled::Filled;
 use files::list::{NO_LIST, list_of};
-use files::program::judge_files;
+use files::program::{Wanted, judge_files};
 use files::read::read_file;
 use lists::run_list;
 use moves::run_move;
@@ -76,9 +75,9 @@ fn print_example(rt: &(impl Files + Print), example: &str, group: Option<Word>) 
     let matching = file_of(example, "matching");
     judge_files(
         rt,
+        Wanted::Answer,
         list,
         [source.as_slice(), target.as_slice(), matching.as_slice()],
-        |listed, texts| print_check(rt, listed, texts),
     );
 }
 

@@ -25,12 +25,12 @@ fn after_step<'a>(listed: &Listed, begun: &mut Begun, lines: &'a [u8]) -> Option
 }
 
 // The steps, as long as each is allowed and its line comes next in the text; after the last line there is none.
-fn follow(listed: &Listed, mut begun: Begun, lines: &[u8]) -> Result<usize, usize> {
+fn follow(listed: &Listed, begun: &mut Begun, lines: &[u8]) -> Result<usize, usize> {
     let mut rest = lines;
     let mut steps: usize = 0;
     // Not a `for`: the steps end with the lines, and how long a line is only its step says.
     while !rest.is_empty() {
-        let Some(left) = after_step(listed, &mut begun, rest) else {
+        let Some(left) = after_step(listed, begun, rest) else {
             return Err(steps);
         };
         if rest.len() <= left.len() {
@@ -47,7 +47,7 @@ fn follow(listed: &Listed, mut begun: Begun, lines: &[u8]) -> Result<usize, usiz
 
 // A vector's texts checked under a list, and the run followed.
 fn outcome_in(listed: &Listed, texts: Texts<'_>, lines: &[u8]) -> Outcome {
-    let begun = Begun::new(listed, texts);
+    let mut begun = Begun::new(listed, texts);
     let answer = begun.answer();
     let cost = begun.cost();
     let mut count: Filled<LINE> = Filled::new();
@@ -60,7 +60,7 @@ fn outcome_in(listed: &Listed, texts: Texts<'_>, lines: &[u8]) -> Outcome {
         } else {
             cost == 0
         },
-        followed: follow(listed, begun, behind.unwrap_or(lines)),
+        followed: follow(listed, &mut begun, behind.unwrap_or(lines)),
     }
 }
 

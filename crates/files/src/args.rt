@@ -1,6 +1,6 @@
 // The words of a call: the program's name, three names, then options. A word that is none of them is a slip of the hand: the program then says how it
 // is used and prints nothing else, so that nothing is read as a verdict.
-ghost use Rattle.std.specs.Prelude.{◌≤◌, length};
+ghost use Rattle.std.specs.Prelude.{◌≡◌, ◌≤◌, length};
 
 use crate::filled::Filled;
 use event::Word;
@@ -10,8 +10,11 @@ use std::rt::Env;
 // The place of the first option: the program's name has place 0, and three names come after it.
 const OPTIONS: usize = 4;
 
-// A word of a call: the name of no file is longer.
-pub type Name = Filled<4096>;
+// The most bytes of a word.
+pub const WORD: usize = 4096;
+
+// A word of a call.
+pub type Name = Filled<WORD>;
 
 // What the options say, where they do.
 #[derive(Clone, Copy)]
@@ -22,11 +25,20 @@ pub struct Options {
     pub group: Option<Word>,
 }
 
+// Room for a word: the name of no file is as long.
+#[inline(always)]
+pub fn word_buffer() -> [u8; WORD]
+    ensures { 4096 ≡ length result }
+{
+    [0; WORD]
+}
+
 // The word at a place. One that is missing, or longer than its room, is empty.
+#[inline(always)]
 pub fn word_at(rt: &impl Env, place: usize) -> Name
     ensures { length result ≤ 4096 }
 {
-    let mut word: Name = Filled::new();
+    let mut word = Filled::over(word_buffer());
     word.fill(|room| rt.arg(place, room).unwrap_or(0));
     word
 }

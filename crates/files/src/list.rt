@@ -1,6 +1,7 @@
 // The list of registers of a call: what its file says, or that none is listed.
 use crate::args::{Options, word_at};
-use crate::read::read_text;
+use crate::filled::Filled;
+use crate::read::{read_file, text_buffer};
 use event::{Answer, PLACES, Word};
 use memory::listed::Listed;
 use std::rt::{Env, Files};
@@ -11,9 +12,11 @@ pub const NO_LIST: Listed = [false; PLACES];
 // The group that is meant where none is named.
 const FIRST_GROUP: Word = 1;
 
-// The list in the file of this name, for a group.
+// The list in the file of this name, for a group. A call, and not put in, so that its text's room is given back before others are made.
+#[inline(never)]
 pub fn list_of(rt: &impl Files, name: &[u8], group: Word) -> Result<Listed, Answer> {
-    let list = read_text(rt, name);
+    let mut list = Filled::over(text_buffer());
+    read_file(rt, name, &mut list);
     registers::read(list.as_slice(), group)
 }
 

@@ -1,6 +1,7 @@
 // What the program `laprunto_move` does: the trace of a file moved to a form, the moved text written to another, the answer printed.
+use crate::filled::Filled;
 use crate::print::{front, print_answer_line};
-use crate::read::{TEXT, read_text};
+use crate::read::{read_file, text_buffer};
 use crate::write::write_file;
 use event::Answer;
 use memory::listed::Listed;
@@ -18,9 +19,10 @@ pub fn move_file(
     name: &[u8],
     out_name: &[u8],
 ) {
-    let text = read_text(rt, name);
+    let mut text = Filled::over(text_buffer());
+    read_file(rt, name, &mut text);
     // A Vec needs the heap, which the programs have not: what is made stands at the front of a room.
-    let mut out = [0u8; TEXT];
+    let mut out = text_buffer();
     let moved = match list {
         Ok(listed) => move_in(&listed, to, text.as_slice(), &mut out),
         Err(refusal) => Err(refusal),

@@ -1,47 +1,62 @@
-// What the programs `laprunto` and `laprunto_run` do: three files read under the list of the call, and what is wanted of them shown.
+// What the programs `laprunto` and `laprunto_run` do: three files read and checked under the list of the call, and what is wanted of them printed.
 use crate::args::{options_of, word_at};
-use crate::check::Texts;
+use crate::check::{Texts, print_check};
+use crate::filled::Filled;
 use crate::list::list_given;
 use crate::print::print_answer_line;
-use crate::read::read_text;
+use crate::read::{read_file, text_buffer};
+use crate::run::print_run;
 use event::Answer;
 use memory::listed::Listed;
 use std::rt::{Env, Files};
 
-// The files of the names of a source, a target and a matching, shown under a list. A refused list has its answer, and no file is read.
-pub fn judge_files<F: FnOnce(&Listed, Texts<'_>)>(
+// What is wanted of three files: the answer, or the run of an accepted matching too.
+#[derive(Clone, Copy)]
+pub enum Wanted {
+    Answer,
+    Run,
+}
+
+fn print_wanted(rt: &impl Print, wanted: Wanted, listed: &Listed, texts: Texts<'_>) {
+    match wanted {
+        Wanted::Answer => print_check(rt, listed, texts),
+        Wanted::Run => print_run(rt, listed, texts),
+    }
+}
+
+// The files of the names of a source, a target and a matching. A refused list has its answer, and no file is read.
+pub fn judge_files(
     rt: &(impl Files + Print),
+    wanted: Wanted,
     list: Result<Listed, Answer>,
     names: [&[u8]; 3],
-    show: F,
-)
-    requires { F.IsAlwaysCallable show }
-{
+) {
     match list {
         Ok(listed) => {
-            let source = read_text(rt, names[0]);
-            let target = read_text(rt, names[1]);
-            let matching = read_text(rt, names[2]);
+            let mut source = Filled::over(text_buffer());
+            let mut target = Filled::over(text_buffer());
+            let mut matching = Filled::over(text_buffer());
+            read_file(rt, names[0], &mut source);
+            read_file(rt, names[1], &mut target);
+            read_file(rt, names[2], &mut matching);
             let texts = Texts {
                 source: source.as_slice(),
                 target: target.as_slice(),
                 matching: matching.as_slice(),
             };
-            show(&listed, texts);
+            print_wanted(rt, wanted, &listed, texts);
         }
         Err(refusal) => print_answer_line(rt, "accepted", refusal),
     }
 }
 
 // The files that the words of the call name. A name that is missing is a file that can't be opened; a word too many is no check.
-pub fn judge_named<F: FnOnce(&Listed, Texts<'_>)>(
+pub fn judge_named(
     rt: &(impl Env + Files + Print),
     err: &impl Print,
+    wanted: Wanted,
     usage: &[u8],
-    show: F,
-)
-    requires { F.IsAlwaysCallable show }
-{
+) {
     let Some(options) = options_of(rt, err, usage) else {
         return;
     };
@@ -50,8 +65,8 @@ pub fn judge_named<F: FnOnce(&Listed, Texts<'_>)>(
     let matching = word_at(rt, 3);
     judge_files(
         rt,
+        wanted,
         list_given(rt, options),
         [source.as_slice(), target.as_slice(), matching.as_slice()],
-        show,
     );
 }

@@ -1,5 +1,5 @@
 // Named files, read into rooms. A file that can't be opened counts as an empty text.
-ghost use Rattle.std.specs.Prelude.{◌≤◌, length};
+ghost use Rattle.std.specs.Prelude.{◌≡◌, ◌≤◌, length};
 ghost use Rattle.files.specs.Counts.{IsPrefixLen};
 
 use crate::filled::Filled;
@@ -8,8 +8,16 @@ use std::io;
 use std::io::Read;
 use std::rt::Files;
 
-// One byte more than the longest text, a trace of form 2: a longer file is answer 1 whatever its size.
+// The bytes that a text has room for.
 pub const TEXT: usize = 57301;
+
+// One byte more than the longest text, a trace of form 2: a longer file is answer 1 whatever its size.
+#[inline(always)]
+pub fn text_buffer() -> [u8; TEXT]
+    ensures { 57301 ≡ length result }
+{
+    [0; TEXT]
+}
 
 // The name of a file as std takes it: one that is not UTF-8 counts as that of a file that can't be opened.
 pub(crate) fn path_of(name: &[u8]) -> io::Result<&str> {
@@ -51,13 +59,4 @@ pub fn read_file<const N: usize>(rt: &impl Files, name: &[u8], room: &mut Filled
         Ok(mut file) => read_full(&mut file, buf),
         Err(_) => 0,
     });
-}
-
-// The text in a file.
-pub fn read_text(rt: &impl Files, name: &[u8]) -> Filled<TEXT>
-    ensures { length result ≤ 57301 }
-{
-    let mut text = Filled::new();
-    read_file(rt, name, &mut text);
-    text
 }

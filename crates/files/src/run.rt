@@ -12,7 +12,6 @@ use beginning::{Started, start_in};
 use changes::{Run, Step, apply_listed};
 use event::{Answer, EVENT_LIMIT, Entry, WORDS, Word};
 use memory::listed::Listed;
-use std::fmt::Write;
 use steps::{next_listed, swap_place};
 use writer::put::write_event;
 
@@ -35,21 +34,29 @@ fn put_event<const N: usize>(out: &mut Filled<N>, room: &[Word], number: usize) 
 
 // The line of how many steps there are.
 pub fn put_count<const N: usize>(out: &mut Filled<N>, steps: usize) {
-    let _ = writeln!(out, "steps\t{steps}");
+    out.push(b"steps\t");
+    out.push_number(steps);
+    out.push(b"\n");
 }
 
 // The line of a step.
 pub fn put_step<const N: usize>(out: &mut Filled<N>, step: Step, source: &[Word], target: &[Word]) {
     match step {
         Step::Remove { place, number } => {
-            let _ = write!(out, "remove\t{place}\t{number}");
+            out.push(b"remove\t");
+            out.push_number(place);
+            out.push(b"\t");
+            out.push_number(number);
             put_event(out, source, number);
         }
         Step::Swap { place } => {
-            let _ = writeln!(out, "swap\t{place}");
+            out.push(b"swap\t");
+            out.push_number(place);
+            out.push(b"\n");
         }
         Step::Insert { place } => {
-            let _ = write!(out, "insert\t{place}");
+            out.push(b"insert\t");
+            out.push_number(place);
             put_event(out, target, place);
         }
         Step::Done | Step::Stuck => {}
@@ -60,20 +67,23 @@ pub fn put_step<const N: usize>(out: &mut Filled<N>, step: Step, source: &[Word]
 fn events_of(room: &[Word], events: usize) -> &[Word]
     ensures { result.now ≡ take (events * 6) room.now }
 {
-    front(room, events.saturating_mul(WORDS))
+    if room.len() / WORDS < events {
+        return room;
+    }
+    &room[..events * WORDS]
 }
 
 // A run in rooms that hold the most: how it began, what the check stored, which events stand, how far it is and where the last swap was. The rooms would be
 // Vecs, but the programs have no heap.
 #[derive(Clone, Copy)]
 pub struct Begun {
-    started: Started,
-    source: [Word; ROOM],
-    target: [Word; ROOM],
-    entries: [Entry; EVENT_LIMIT],
-    tags: [usize; EVENT_LIMIT],
-    run: Run,
-    swapped: usize,
+    pub started: Started,
+    pub source: [Word; ROOM],
+    pub target: [Word; ROOM],
+    pub entries: [Entry; EVENT_LIMIT],
+    pub tags: [usize; EVENT_LIMIT],
+    pub run: Run,
+    pub swapped: usize,
 }
 
 impl Begun {
@@ -137,7 +147,7 @@ impl Begun {
     }
 
     // The matching's entries.
-    fn entries(&self) -> &[Entry]
+    pub fn entries(&self) -> &[Entry]
         ensures { result.now ≡ take self.now.started.checked.entries self.now.entries }
     {
         front(&self.entries, self.started.checked.entries)
@@ -186,14 +196,16 @@ impl Begun {
         if !applied.allowed {
             return None;
         }
-        self.run = applied.run;
+        // Field by field, since the bytes between them are copied too where a Run is.
+        self.run.begun = applied.run.begun;
+        self.run.standing = applied.run.standing;
         self.swapped = swap_place(step);
         Some(step)
     }
 }
 
 // How many steps there are, and every step, as it is applied: none of so many is refused.
-fn print_steps(rt: &impl Print, listed: &Listed, mut begun: Begun) {
+fn print_steps(rt: &impl Print, listed: &Listed, begun: &mut Begun) {
     let mut out: Filled<BLOCK> = Filled::new();
     put_count(&mut out, begun.cost());
     for _ in 0..begun.cost() {
@@ -211,10 +223,10 @@ fn print_steps(rt: &impl Print, listed: &Listed, mut begun: Begun) {
 
 // What `laprunto` prints of three texts, and the steps of an accepted matching.
 pub fn print_run(rt: &impl Print, listed: &Listed, texts: Texts<'_>) {
-    let begun = Begun::new(listed, texts);
+    let mut begun = Begun::new(listed, texts);
     let answer = begun.answer();
     print_found(rt, texts, answer);
     if answer.number == 0 {
-        print_steps(rt, listed, begun);
+        print_steps(rt, listed, &mut begun);
     }
 }

@@ -1,6 +1,7 @@
 // What the program `laprunto_shorten` does: the trace of a file shortened, the shortened text and its matching written to two others, the answer printed.
+use crate::filled::Filled;
 use crate::print::{front, print_answer_line};
-use crate::read::{TEXT, read_text};
+use crate::read::{read_file, text_buffer};
 use crate::write::write_file;
 use event::Answer;
 use memory::listed::Listed;
@@ -17,10 +18,11 @@ pub fn shorten_file(
     out_name: &[u8],
     matching_name: &[u8],
 ) {
-    let text = read_text(rt, name);
+    let mut text = Filled::over(text_buffer());
+    read_file(rt, name, &mut text);
     // A Vec needs the heap, which the programs have not: what is made stands at the front of a room.
-    let mut out = [0u8; TEXT];
-    let mut matching = [0u8; TEXT];
+    let mut out = text_buffer();
+    let mut matching = text_buffer();
     let made = match list {
         Ok(listed) => shorten_in(&listed, text.as_slice(), &mut out, &mut matching),
         Err(refusal) => Err(refusal),

@@ -2,14 +2,13 @@
 // matching, the number of its steps and a line for each.
 #![tactic(auto)]
 
-use files::program::judge_named;
-use files::run::print_run;
+use files::program::{Wanted, judge_named};
 
 fn main(rt: HostRuntime) {
     judge_named(
         &rt,
         &rt.stderr(),
+        Wanted::Run,
         b"usage: laprunto_run SOURCE TARGET MATCHING [--list FILE] [--group N] (N is 1 or 2)\n",
-        |listed, texts| print_run(&rt, listed, texts),
     );
 }
