@@ -86,6 +86,7 @@ pub fn shorten(text: &[u8], out: &mut [u8], matching_out: &mut [u8]) -> Result<S
 }
 
 // With the text of a list and a group of it: the list's answer comes first.
+#[tactic(auto, unfolding(crate::specs::Text::shorten_listed, crate::specs::Text::short_out_listed, crate::specs::Text::matching_out_listed))]
 pub fn shorten_listed(
     list: &[u8],
     group: Word,
