@@ -13,12 +13,14 @@ mod vector;
 mod writes;
 mod written;
 
+ghost use Rattle.std.specs.Prelude.{◌≡◌, length};
+
 use check::run_check;
 use event::{Word, number_index};
 use files::filled::Filled;
 use files::list::{NO_LIST, list_of};
 use files::program::{Wanted, judge_files};
-use files::read::read_file;
+use files::read::read_text;
 use lists::run_list;
 use moves::run_move;
 use runs::run_steps;
@@ -120,6 +122,14 @@ fn run_all<F: Fn(&mut Parts<'_>, usize) -> Ran>(
     totals
 }
 
+// Room for a file of vectors.
+#[inline(always)]
+fn vectors_buffer() -> [u8; VECTORS]
+    ensures { 2400000 ≡ length result }
+{
+    [0; VECTORS]
+}
+
 // Every vector of a file run, and the totals printed, with how many have each answer that any has; `back` says what it is for a text to come back, or that
 // steps were followed.
 fn run_file<F: Fn(&mut Parts<'_>, usize) -> Ran>(
@@ -131,8 +141,8 @@ fn run_file<F: Fn(&mut Parts<'_>, usize) -> Ran>(
     requires { F.IsAlwaysCallable run }
 {
     let mut counts: [usize; ANSWERS] = [0; ANSWERS];
-    let mut data: Filled<VECTORS> = Filled::new();
-    read_file(rt, name.as_bytes(), &mut data);
+    let mut data = Filled::over(vectors_buffer());
+    read_text(rt, name.as_bytes(), &mut data);
     let totals = run_all(data.as_slice(), &mut counts, run);
     let Totals {
         vectors,

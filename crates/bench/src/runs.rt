@@ -4,7 +4,7 @@ use super::vector::CheckVector;
 use event::Answer;
 use files::check::Texts;
 use files::filled::Filled;
-use files::run::{Begun, LINE, put_count, put_step};
+use files::run::{Begun, LINE, push_count, push_step};
 use memory::listed::Listed;
 
 // What a vector gives: `counted` says that the text begins with the number of the steps, or that there are none where it is refused; how many steps were
@@ -20,7 +20,7 @@ struct Outcome {
 fn after_step<'a>(listed: &Listed, begun: &mut Begun, lines: &'a [u8]) -> Option<&'a [u8]> {
     let step = begun.step(listed)?;
     let mut line: Filled<LINE> = Filled::new();
-    put_step(&mut line, step, begun.source(), begun.target());
+    push_step(&mut line, step, begun.source(), begun.target());
     lines.strip_prefix(line.as_slice())
 }
 
@@ -51,7 +51,7 @@ fn outcome_in(listed: &Listed, texts: Texts<'_>, lines: &[u8]) -> Outcome {
     let answer = begun.answer();
     let cost = begun.cost();
     let mut count: Filled<LINE> = Filled::new();
-    put_count(&mut count, cost);
+    push_count(&mut count, cost);
     let behind = lines.strip_prefix(count.as_slice());
     Outcome {
         answer,

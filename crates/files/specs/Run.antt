@@ -5,7 +5,8 @@ use Rattle.event.specs.Room.{whole_events}
 use Rattle.rules.specs.Run.{Traced}
 use Rattle.rules.specs.View.{view_in}
 use Rattle.checker.specs.Check.{Lent, lent}
-use Rattle.changes.specs.Apply.{outcome_by, tags_after}
+use Rattle.changes.specs.Apply.{applied_of, outcome_by, tags_after}
+use Rattle.changes.specs.declared.Run.{Run}
 use Rattle.changes.specs.declared.Step.{Step}
 use Rattle.steps.specs.Play.{next_by}
 use Rattle.files.specs.declared.check.Texts.{Texts}
@@ -44,6 +45,10 @@ is_allowed regs b = is_there (outcome_next regs b)
 -- The numbers of the events that stand after it.
 abbrev pub tags_next : List Bool → Begun → List ℕ
 tags_next regs b = tags_after b.tags (outcome_next regs b)
+
+-- How far the run is after it.
+abbrev pub run_next : List Bool → Begun → Run
+run_next regs b = (applied_of b.run (outcome_next regs b)).run
 
 -- A step leaves how the run began, and what the check stored.
 pub record Keeps (old new : Begun) : Type 0 where

@@ -1,6 +1,7 @@
 // The words of a call: the program's name, three names, then options. A word that is none of them is a slip of the hand: the program then says how it
 // is used and prints nothing else, so that nothing is read as a verdict.
 ghost use Rattle.std.specs.Prelude.{◌≡◌, ◌≤◌, length};
+ghost use Rattle.files.specs.Counts.{IsPrefixLen};
 
 use crate::filled::Filled;
 use event::Word;
@@ -33,13 +34,20 @@ pub fn word_buffer() -> [u8; WORD]
     [0; WORD]
 }
 
-// The word at a place. One that is missing, or longer than its room, is empty.
+// The word at a place, at the front of the lent bytes; what comes back is its length. A word that is missing, or longer than the bytes, is empty.
+pub fn word_at(rt: &impl Env, place: usize, buf: &mut [u8]) -> usize
+    ensures { IsPrefixLen result buf.new }
+{
+    rt.arg(place, buf).unwrap_or(0)
+}
+
+// The same in a room of its own.
 #[inline(always)]
-pub fn word_at(rt: &impl Env, place: usize) -> Name
+pub fn name_at(rt: &impl Env, place: usize) -> Name
     ensures { length result ≤ 4096 }
 {
     let mut word = Filled::over(word_buffer());
-    word.fill(|room| rt.arg(place, room).unwrap_or(0));
+    word.fill(|room| word_at(rt, place, room));
     word
 }
 
@@ -59,13 +67,13 @@ fn group_named(word: &[u8]) -> Option<Word> {
 
 // The options with a list or a group more, whose word stands at a place; each may be named once.
 fn with_value(rt: &impl Env, options: Options, name: usize, place: usize) -> Option<Options> {
-    match word_at(rt, name).as_slice() {
+    match name_at(rt, name).as_slice() {
         b"--list" if options.list.is_none() => Some(Options {
             list: Some(place),
             ..options
         }),
         b"--group" if options.group.is_none() => Some(Options {
-            group: Some(group_named(word_at(rt, place).as_slice())?),
+            group: Some(group_named(name_at(rt, place).as_slice())?),
             ..options
         }),
         _ => None,

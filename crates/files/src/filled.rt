@@ -101,8 +101,10 @@ impl<const N: usize> Filled<N> {
     }
 
     // The digits of a number, likewise.
+    #[tactic(auto, using(text::proofs::Decimals::length_wide))]
     pub(crate) fn push_number(&mut self, n: usize)
-        ensures { self.new ≡ self.old ++ take (N - length self.old) (decimal n) }
+        ensures held { self.new ≡ self.old ++ take (N - length self.old) (decimal n) }
+        ensures few { length (decimal n) ≤ 20 }
     {
         if self.free() < DIGITS {
             let mut digits: [u8; DIGITS] = [0; DIGITS];

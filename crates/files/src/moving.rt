@@ -1,7 +1,7 @@
 // What the program `laprunto_move` does: the trace of a file moved to a form, the moved text written to another, the answer printed.
 use crate::filled::Filled;
 use crate::print::{front, print_answer_line};
-use crate::read::{read_file, text_buffer};
+use crate::read::{Text, read_text, text_buffer};
 use crate::write::write_file;
 use event::Answer;
 use memory::listed::Listed;
@@ -10,7 +10,8 @@ use std::rt::Files;
 use writer::moving::move_in;
 
 // The file of this name, moved under a list, whose answer comes first. The other file is written only if the move is done, and `done` is printed only if
-// it is written.
+// it is written. A call, as `list_of` is.
+#[inline(never)]
 pub fn move_file(
     rt: &(impl Files + Print),
     err: &impl Print,
@@ -19,8 +20,8 @@ pub fn move_file(
     name: &[u8],
     out_name: &[u8],
 ) {
-    let mut text = Filled::over(text_buffer());
-    read_file(rt, name, &mut text);
+    let mut text: Text = Filled::new();
+    read_text(rt, name, &mut text);
     // A Vec needs the heap, which the programs have not: what is made stands at the front of a room.
     let mut out = text_buffer();
     let moved = match list {

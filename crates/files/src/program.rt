@@ -1,10 +1,10 @@
 // What the programs `laprunto` and `laprunto_run` do: three files read and checked under the list of the call, and what is wanted of them printed.
-use crate::args::{options_of, word_at};
+use crate::args::{name_at, options_of};
 use crate::check::{Texts, print_check};
 use crate::filled::Filled;
 use crate::list::list_given;
 use crate::print::print_answer_line;
-use crate::read::{read_file, text_buffer};
+use crate::read::{Text, read_text};
 use crate::run::print_run;
 use event::Answer;
 use memory::listed::Listed;
@@ -24,7 +24,24 @@ fn print_wanted(rt: &impl Print, wanted: Wanted, listed: &Listed, texts: Texts<'
     }
 }
 
-// The files of the names of a source, a target and a matching. A refused list has its answer, and no file is read.
+// What is wanted of the files of the names of a source, a target and a matching. A call, as `list_of` is.
+#[inline(never)]
+fn judge_listed(rt: &(impl Files + Print), wanted: Wanted, listed: &Listed, names: [&[u8]; 3]) {
+    let mut source: Text = Filled::new();
+    let mut target: Text = Filled::new();
+    let mut matching: Text = Filled::new();
+    read_text(rt, names[0], &mut source);
+    read_text(rt, names[1], &mut target);
+    read_text(rt, names[2], &mut matching);
+    let texts = Texts {
+        source: source.as_slice(),
+        target: target.as_slice(),
+        matching: matching.as_slice(),
+    };
+    print_wanted(rt, wanted, listed, texts);
+}
+
+// The same, where the list is read. A refused list has its answer, and no file is read.
 pub fn judge_files(
     rt: &(impl Files + Print),
     wanted: Wanted,
@@ -32,20 +49,7 @@ pub fn judge_files(
     names: [&[u8]; 3],
 ) {
     match list {
-        Ok(listed) => {
-            let mut source = Filled::over(text_buffer());
-            let mut target = Filled::over(text_buffer());
-            let mut matching = Filled::over(text_buffer());
-            read_file(rt, names[0], &mut source);
-            read_file(rt, names[1], &mut target);
-            read_file(rt, names[2], &mut matching);
-            let texts = Texts {
-                source: source.as_slice(),
-                target: target.as_slice(),
-                matching: matching.as_slice(),
-            };
-            print_wanted(rt, wanted, &listed, texts);
-        }
+        Ok(listed) => judge_listed(rt, wanted, &listed, names),
         Err(refusal) => print_answer_line(rt, "accepted", refusal),
     }
 }
@@ -60,9 +64,9 @@ pub fn judge_named(
     let Some(options) = options_of(rt, err, usage) else {
         return;
     };
-    let source = word_at(rt, 1);
-    let target = word_at(rt, 2);
-    let matching = word_at(rt, 3);
+    let source = name_at(rt, 1);
+    let target = name_at(rt, 2);
+    let matching = name_at(rt, 3);
     judge_files(
         rt,
         wanted,

@@ -11,6 +11,9 @@ use std::rt::Files;
 // The bytes that a text has room for.
 pub const TEXT: usize = 57301;
 
+// A text that is read.
+pub type Text = Filled<TEXT>;
+
 // One byte more than the longest text, a trace of form 2: a longer file is answer 1 whatever its size.
 #[inline(always)]
 pub fn text_buffer() -> [u8; TEXT]
@@ -51,12 +54,19 @@ fn read_full(file: &mut impl Read, buf: &mut [u8]) -> usize
     done
 }
 
-// The bytes of a file, as many as the room holds.
-pub fn read_file<const N: usize>(rt: &impl Files, name: &[u8], room: &mut Filled<N>)
-    ensures { length room.new ≤ N }
+// The bytes of a file, as many as are lent.
+pub fn read_file(rt: &impl Files, name: &[u8], buf: &mut [u8]) -> usize
+    ensures { IsPrefixLen result buf.new }
 {
-    room.fill(|buf| match opened(rt, name) {
+    match opened(rt, name) {
         Ok(mut file) => read_full(&mut file, buf),
         Err(_) => 0,
-    });
+    }
+}
+
+// The same, as many as a room holds.
+pub fn read_text<const N: usize>(rt: &impl Files, name: &[u8], room: &mut Filled<N>)
+    ensures { length room.new ≤ N }
+{
+    room.fill(|buf| read_file(rt, name, buf));
 }

@@ -1,9 +1,10 @@
 // What the program `laprunto_run` prints of three texts under a list of registers: what `laprunto` prints, and of an accepted matching how many steps there
 // are and every one of them. The lines of the steps are gathered and written in blocks.
-ghost use Rattle.std.specs.Prelude.{◌≡◌, ◌*◌, ◌↔◌, IfNone, IfSome, IsTrue, is_some, replicate, take};
+ghost use Rattle.std.specs.Prelude.{◌≡◌, ◌*◌, ◌≤◌, ◌↔◌, IfNone, IfSome, IsTrue, is_some, length, replicate, take};
 ghost use Rattle.beginning.specs.Start.{StartsIn};
 ghost use Rattle.steps.specs.Play.{swap_place};
-ghost use Rattle.files.specs.Run.{Keeps, lent_zeros, is_allowed, next_step, source_of, tags_next, target_of};
+ghost use Rattle.files.specs.Lines.{Puts, count_line, event_field, pushed, step_line};
+ghost use Rattle.files.specs.Run.{Keeps, lent_zeros, is_allowed, next_step, run_next, source_of, tags_next, target_of};
 
 use crate::check::{ROOM, Texts, print_found};
 use crate::filled::Filled;
@@ -15,14 +16,19 @@ use memory::listed::Listed;
 use steps::{next_listed, swap_place};
 use writer::put::write_event;
 
-// The bytes that a step's line has room for.
+// The bytes that a line of a run has room for.
 pub const LINE: usize = 64;
+
+// The bytes that are enough for the line of every step, whatever its numbers are.
+const LONGEST: usize = 128;
 
 // The bytes of steps that are written at once.
 const BLOCK: usize = 65536;
 
 // A tab and the line of the event of a number, with its LF.
-fn put_event<const N: usize>(out: &mut Filled<N>, room: &[Word], number: usize) {
+fn push_event<const N: usize>(out: &mut Filled<N>, room: &[Word], number: usize)
+    ensures { out.new ≡ pushed N out.old (event_field room.now number) }
+{
     let mut line: [u8; LINE] = [0; LINE];
     out.push(b"\t");
     if number == 0 {
@@ -33,21 +39,26 @@ fn put_event<const N: usize>(out: &mut Filled<N>, room: &[Word], number: usize) 
 }
 
 // The line of how many steps there are.
-pub fn put_count<const N: usize>(out: &mut Filled<N>, steps: usize) {
+pub fn push_count<const N: usize>(out: &mut Filled<N>, steps: usize)
+    ensures { out.new ≡ pushed N out.old (count_line steps) }
+{
     out.push(b"steps\t");
     out.push_number(steps);
     out.push(b"\n");
 }
 
 // The line of a step.
-pub fn put_step<const N: usize>(out: &mut Filled<N>, step: Step, source: &[Word], target: &[Word]) {
+pub fn push_step<const N: usize>(out: &mut Filled<N>, step: Step, source: &[Word], target: &[Word])
+    ensures held { out.new ≡ pushed N out.old (step_line step source.now target.now) }
+    ensures short { length (step_line step source.now target.now) ≤ 128 }
+{
     match step {
         Step::Remove { place, number } => {
             out.push(b"remove\t");
             out.push_number(place);
             out.push(b"\t");
             out.push_number(number);
-            put_event(out, source, number);
+            push_event(out, source, number);
         }
         Step::Swap { place } => {
             out.push(b"swap\t");
@@ -57,10 +68,40 @@ pub fn put_step<const N: usize>(out: &mut Filled<N>, step: Step, source: &[Word]
         Step::Insert { place } => {
             out.push(b"insert\t");
             out.push_number(place);
-            put_event(out, target, place);
+            push_event(out, target, place);
         }
         Step::Done | Step::Stuck => {}
     }
+}
+
+// A line put at a place of the lent bytes, as much of it as fits; what comes back is the place behind it.
+fn put(out: &mut [u8], at: usize, line: &[u8]) -> usize
+    ensures { Puts out.old at line.now out.new result }
+{
+    if out.len() < at {
+        return at;
+    }
+    let size = line.len().min(out.len() - at);
+    out[at..at + size].copy_from_slice(&line[..size]);
+    at + size
+}
+
+// The line of how many steps there are, at a place of the lent bytes.
+pub fn put_count(out: &mut [u8], at: usize, steps: usize) -> usize
+    ensures { Puts out.old at (count_line steps) out.new result }
+{
+    let mut line: Filled<LINE> = Filled::new();
+    push_count(&mut line, steps);
+    put(out, at, line.as_slice())
+}
+
+// The line of a step, there.
+pub fn put_step(out: &mut [u8], at: usize, step: Step, source: &[Word], target: &[Word]) -> usize
+    ensures { Puts out.old at (step_line step source.now target.now) out.new result }
+{
+    let mut line: Filled<LONGEST> = Filled::new();
+    push_step(&mut line, step, source, target);
+    put(out, at, line.as_slice())
 }
 
 // The front of a room that holds so many events.
@@ -71,6 +112,25 @@ fn events_of(room: &[Word], events: usize) -> &[Word]
         return room;
     }
     &room[..events * WORDS]
+}
+
+// The part of the source's room that holds its events, of the target's room that does, and of the room of entries that holds them.
+pub fn source_of(started: Started, room: &[Word]) -> &[Word]
+    ensures { result.now ≡ take (started.checked.source.events * 6) room.now }
+{
+    events_of(room, started.checked.source.events)
+}
+
+pub fn target_of(started: Started, room: &[Word]) -> &[Word]
+    ensures { result.now ≡ take (started.checked.target.events * 6) room.now }
+{
+    events_of(room, started.checked.target.events)
+}
+
+pub fn entries_of(started: Started, room: &[Entry]) -> &[Entry]
+    ensures { result.now ≡ take started.checked.entries room.now }
+{
+    front(room, started.checked.entries)
 }
 
 // A run in rooms that hold the most: how it began, what the check stored, which events stand, how far it is and where the last swap was. The rooms would be
@@ -181,6 +241,7 @@ impl Begun {
         ensures asked { IfSome result (λ s. s ≡ next_step listed.now self.old) }
         ensures swapped { IfSome result (λ s. self.new.swapped ≡ swap_place s) }
         ensures tags { self.new.tags ≡ tags_next listed.now self.old }
+        ensures run { self.new.run ≡ run_next listed.now self.old }
         ensures kept { Keeps self.old self.new }
         ensures none { IfNone result ((self.new.run ≡ self.old.run) × (self.new.swapped ≡ self.old.swapped)) }
     {
@@ -207,7 +268,7 @@ impl Begun {
 // How many steps there are, and every step, as it is applied: none of so many is refused.
 fn print_steps(rt: &impl Print, listed: &Listed, begun: &mut Begun) {
     let mut out: Filled<BLOCK> = Filled::new();
-    put_count(&mut out, begun.cost());
+    push_count(&mut out, begun.cost());
     for _ in 0..begun.cost() {
         let Some(step) = begun.step(listed) else {
             break;
@@ -216,13 +277,13 @@ fn print_steps(rt: &impl Print, listed: &Listed, begun: &mut Begun) {
             print(rt, out.as_slice());
             out.clear();
         }
-        put_step(&mut out, step, begun.source(), begun.target());
+        push_step(&mut out, step, begun.source(), begun.target());
     }
     print(rt, out.as_slice());
 }
 
 // What `laprunto` prints of three texts, and the steps of an accepted matching.
-pub fn print_run(rt: &impl Print, listed: &Listed, texts: Texts<'_>) {
+pub(crate) fn print_run(rt: &impl Print, listed: &Listed, texts: Texts<'_>) {
     let mut begun = Begun::new(listed, texts);
     let answer = begun.answer();
     print_found(rt, texts, answer);

@@ -1,7 +1,7 @@
 // What the program `laprunto_shorten` does: the trace of a file shortened, the shortened text and its matching written to two others, the answer printed.
 use crate::filled::Filled;
 use crate::print::{front, print_answer_line};
-use crate::read::{read_file, text_buffer};
+use crate::read::{Text, read_text, text_buffer};
 use crate::write::write_file;
 use event::Answer;
 use memory::listed::Listed;
@@ -9,7 +9,8 @@ use shorten::shorten_in;
 use std::rt::Files;
 
 // The file of this name, shortened under a list, whose answer comes first. The two others are written only if the shortening is done, and `done` is printed
-// only if they are.
+// only if they are. A call, as `list_of` is.
+#[inline(never)]
 pub fn shorten_file(
     rt: &(impl Files + Print),
     err: &impl Print,
@@ -18,8 +19,8 @@ pub fn shorten_file(
     out_name: &[u8],
     matching_name: &[u8],
 ) {
-    let mut text = Filled::over(text_buffer());
-    read_file(rt, name, &mut text);
+    let mut text: Text = Filled::new();
+    read_text(rt, name, &mut text);
     // A Vec needs the heap, which the programs have not: what is made stands at the front of a room.
     let mut out = text_buffer();
     let mut matching = text_buffer();

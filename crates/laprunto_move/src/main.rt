@@ -1,7 +1,7 @@
 // The program: a form, 1 or 2, the name of a trace and the name of a file to write, and the options `--list` with the name of a list and `--group`. It moves the trace to the form and prints the answer.
 #![tactic(auto)]
 
-use files::args::{is_short, options_of, print_usage, word_at};
+use files::args::{is_short, name_at, options_of, print_usage};
 use files::list::list_given;
 use files::moving::move_file;
 use record::form::Form;
@@ -26,13 +26,13 @@ fn main(rt: HostRuntime) {
     if is_short(&rt) {
         return;
     }
-    let form = word_at(&rt, 1);
+    let form = name_at(&rt, 1);
     let Some(to) = form_named(form.as_slice()) else {
         print_usage(&err, usage);
         return;
     };
-    let name = word_at(&rt, 2);
-    let out_name = word_at(&rt, 3);
+    let name = name_at(&rt, 2);
+    let out_name = name_at(&rt, 3);
     move_file(
         &rt,
         &err,

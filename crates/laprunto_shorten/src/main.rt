@@ -2,7 +2,7 @@
 // writes the shortened text and the matching from the long one to it, and prints the answer.
 #![tactic(auto)]
 
-use files::args::{is_short, options_of, word_at};
+use files::args::{is_short, name_at, options_of};
 use files::list::list_given;
 use files::shortening::shorten_file;
 
@@ -20,9 +20,9 @@ fn main(rt: HostRuntime) {
     if is_short(&rt) {
         return;
     }
-    let name = word_at(&rt, 1);
-    let out_name = word_at(&rt, 2);
-    let matching_name = word_at(&rt, 3);
+    let name = name_at(&rt, 1);
+    let out_name = name_at(&rt, 2);
+    let matching_name = name_at(&rt, 3);
     shorten_file(
         &rt,
         &err,

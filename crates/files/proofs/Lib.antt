@@ -1,0 +1,2 @@
+-- Laws that belong to no one function. Assumes nothing.
+pub mod Lines
