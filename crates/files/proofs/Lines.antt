@@ -23,7 +23,7 @@ use Rattle.changes.specs.declared.Step.TheVariants.{Remove, Swap, Insert}
 use Rattle.files.specs.Lines.{Puts, count_line, event_field, step_line, pushed}
 
 -- as much as fits of two parts, one behind the other
-pub take_both : (k : ℕ) (a b : List ℕ) → take k a ++ take (k - length (take k a)) b ≡ take k (a ++ b)
+take_both : (k : ℕ) (a b : List ℕ) → take k a ++ take (k - length (take k a)) b ≡ take k (a ++ b)
 take_both zero a b = refl
 take_both (suc k) [] b = let z : suc k - 0 ≡ suc k = omega arith in rw z refl
 take_both (suc k) (x ∷ a) b =
@@ -31,7 +31,7 @@ take_both (suc k) (x ∷ a) b =
     rw z (ap (λ (l : List ℕ). x ∷ l) (take_both k a b))
 
 -- two parts put one behind the other
-pub pushed_both : (n : ℕ) (held a b : List ℕ) → pushed n (pushed n held a) b ≡ pushed n held (a ++ b)
+pushed_both : (n : ℕ) (held a b : List ℕ) → pushed n (pushed n held a) b ≡ pushed n held (a ++ b)
 pushed_both n held a b =
     let k : ℕ = n - length held in
     let left : n - length (held ++ take k a) ≡ k - length (take k a) = omega (arith, length-append held (take k a)) in

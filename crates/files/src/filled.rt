@@ -1,6 +1,7 @@
 // Bytes at the front of a room of a fixed size. Today's form would be a Vec, but the programs have no heap.
-ghost use Rattle.std.specs.Prelude.{◌≡◌, ◌+◌, ◌-◌, ◌≤◌, ◌++◌, List, ℕ, [], length, take};
+ghost use Rattle.std.specs.Prelude.{◌≡◌, ◌+◌, ◌≤◌, ◌++◌, List, ℕ, [], length, take};
 ghost use Rattle.text.specs.Number.{decimal};
+ghost use Rattle.files.specs.Lines.{pushed};
 
 use crate::print::front;
 use std::fmt;
@@ -90,7 +91,7 @@ impl<const N: usize> Filled<N> {
     // Bytes put behind those that are held, as many as fit.
     #[inline(always)]
     pub(crate) fn push(&mut self, bytes: &[u8])
-        ensures { self.new ≡ self.old ++ take (N - length self.old) bytes.now }
+        ensures { self.new ≡ pushed N self.old bytes.now }
     {
         let free = self.free();
         if bytes.len() <= free {
@@ -103,7 +104,7 @@ impl<const N: usize> Filled<N> {
     // The digits of a number, likewise.
     #[tactic(auto, using(text::proofs::Decimals::length_wide))]
     pub(crate) fn push_number(&mut self, n: usize)
-        ensures held { self.new ≡ self.old ++ take (N - length self.old) (decimal n) }
+        ensures held { self.new ≡ pushed N self.old (decimal n) }
         ensures few { length (decimal n) ≤ 20 }
     {
         if self.free() < DIGITS {

@@ -24,7 +24,7 @@ pub fn count_of(room: &[Word]) -> usize
 }
 
 // 18: the first event that is outside the layout.
-#[tactic(auto, using(trace::proofs::Judged::sought_start, trace::proofs::Judged::sought_next, trace::proofs::Judged::sought_here, trace::proofs::Judged::sought_end))]
+#[tactic(auto, using(trace::proofs::Judged::sought))]
 fn layout_fault(room: &[Word], n: usize) -> Result<(), Answer>
     requires { n ≤ event_limit }
     ensures { Passes (layout_fault 1 (onward room.now 0 n)) result }
@@ -38,7 +38,7 @@ fn layout_fault(room: &[Word], n: usize) -> Result<(), Answer>
 }
 
 // 19: the first event whose code line a form would lose.
-#[tactic(auto, using(event::proofs::Told::cond_err, event::proofs::Told::cond_ok, trace::proofs::Judged::sought_start, trace::proofs::Judged::sought_next, trace::proofs::Judged::sought_here, trace::proofs::Judged::sought_end))]
+#[tactic(auto, using(event::proofs::Told::cond_err, event::proofs::Told::cond_ok, trace::proofs::Judged::sought))]
 fn loss_of(form: Form, room: &[Word], n: usize) -> Result<(), Answer>
     requires { n ≤ event_limit }
     ensures { Passes (lost form 0 1 (onward room.now 0 n)) result }

@@ -62,6 +62,9 @@ module _ (bad : Event → Bool) (number side : ℕ) where
     pub sought_end : n ≤ i → first_bad bad number side 1 (onward room 0 n) ≡ done
     sought_end h = s.same ∙ rw (onward_end room i n h) (bad_end bad number side (i + 1))
 
+-- the whole of such a search
+pub ruleset sought = (sought_start, sought_next, sought_here, sought_end)
+
 -- what 5 and 6 say, by what they say of the first event
 module _ (regs : List Bool) (side k : ℕ) (m : Memory) (before : List Event) (e : Event) (es : List Event) where
   abbrev pub its_fault : Answer

@@ -75,5 +75,8 @@ module _ (f : Form) (t : List ℕ) (at : ℕ) where
     line_found (Some (Init p v)) h n = found_here ∙ rw h
     line_found (Some (AnEvent v)) h n = absurd (n v refl)
 
+-- what is heard and what is found where a line is taken, in all cases
+pub ruleset next_line = (none_heard, event_heard, line_heard, none_found, event_found, line_found)
+
 pub events_heard : (t : List ℕ) → events_of t ≡ heard_from (form_of t) t (line_len t + 1)
 events_heard t = events_start t

@@ -15,7 +15,7 @@ pub struct Found {
 }
 
 // The first event of the lines that start at a place or after it, if there is one.
-#[tactic(auto, using(text::proofs::Walk::line_in, crate::proofs::Walks::line_heard, crate::proofs::Walks::event_heard, crate::proofs::Walks::none_heard, crate::proofs::Walks::line_found, crate::proofs::Walks::event_found, crate::proofs::Walks::none_found))]
+#[tactic(auto, using(text::proofs::Walk::line_in, crate::proofs::Walks::next_line))]
 pub fn next_event(form: Form, text: &[u8], from: usize) -> Option<Found>
     ensures { (result ≡ found_from form text.now from) × Finds form text.now from result }
 {
