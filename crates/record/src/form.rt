@@ -47,11 +47,21 @@ pub fn limit_of(form: Form) -> usize
 }
 
 // Line 1 of a text, without its LF.
-pub fn header_of(form: Form) -> [u8; 7]
+pub fn header_bytes(form: Form) -> [u8; 7]
     ensures { result ≡ header form }
 {
     match form {
         Form::One => *b"trace\t1",
         Form::Two => *b"trace\t2",
+    }
+}
+
+// The same, lent for as long as the program runs.
+pub fn header_of(form: Form) -> &'static [u8]
+    ensures { result.now ≡ header form }
+{
+    match form {
+        Form::One => b"trace\t1",
+        Form::Two => b"trace\t2",
     }
 }

@@ -4,6 +4,8 @@
 pub mod form;
 pub mod part;
 pub mod shape;
+#[cfg(test)]
+mod tests;
 pub mod word;
 
 ghost use Rattle.std.specs.Prelude.{◌≡◌};

@@ -8,13 +8,13 @@ ghost use Rattle.trace.specs.Reading.{form_of};
 
 use event::{Answer, Number};
 use frame::{head_fault, is_headed};
-use record::form::{Form, header_of, limit_of};
+use record::form::{Form, header_bytes, limit_of};
 
 // Whether line 1 is that of a form, and has a LF.
 pub fn is_of(form: Form, text: &[u8]) -> bool
     ensures { result ≡ headed (header form) (split text.now) }
 {
-    is_headed(text, &header_of(form))
+    is_headed(text, &header_bytes(form))
 }
 
 // The form of a text.
@@ -32,5 +32,5 @@ pub fn form_of(text: &[u8]) -> Form
 pub(crate) fn head_fault_of(form: Form, text: &[u8], side: Number) -> Result<(), Answer>
     ensures { Passes (head_fault side (limit_of form) (header form) text.now) result }
 {
-    head_fault(text, side, limit_of(form), &header_of(form))
+    head_fault(text, side, limit_of(form), &header_bytes(form))
 }

@@ -15,7 +15,7 @@ use event::room::get;
 use event::{Event, Word, index_of};
 use kinds::is_lawful;
 use memory::Memory;
-use record::form::{Form, header_of};
+use record::form::{Form, header_bytes};
 use record::shape::shape_of;
 use record::word::{KIND_WORDS, ORDER_WORDS, ROW, word_in};
 use text::write::{DIGITS, put_number};
@@ -179,7 +179,7 @@ fn put_events(form: Form, out: &mut [u8], at: usize, room: &[Word], n: usize) ->
 fn put_header(form: Form, out: &mut [u8]) -> usize
     ensures { Put out.old 0 (header form ++ 10 ∷ []) out.new result }
 {
-    let after_line = put(out, 0, &header_of(form));
+    let after_line = put(out, 0, &header_bytes(form));
     put(out, after_line, b"\n")
 }
 
