@@ -23,7 +23,7 @@ pub(crate) fn print_found(rt: &impl Print, texts: Texts<'_>, answer: Answer) {
 }
 
 // The answer to three texts, and the line at fault.
-pub(crate) fn print_check(rt: &impl Print, listed: &Listed, texts: Texts<'_>) {
+pub fn print_check(rt: &impl Print, listed: &Listed, texts: Texts<'_>) {
     let mut source_room: [Word; ROOM] = [0; ROOM];
     let mut target_room: [Word; ROOM] = [0; ROOM];
     let mut entry_room: [Entry; EVENT_LIMIT] = [0; EVENT_LIMIT];

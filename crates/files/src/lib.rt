@@ -12,4 +12,6 @@ pub mod program;
 pub mod read;
 pub mod run;
 pub mod shortening;
+#[cfg(test)]
+mod tests;
 pub mod write;

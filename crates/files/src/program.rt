@@ -74,3 +74,56 @@ pub fn judge_named(
         [source.as_slice(), target.as_slice(), matching.as_slice()],
     );
 }
+
+// The texts of the files of these names, shown under a list as the caller says. A refused list has its answer, and no file is read. It stands beside
+// `judge_files`, which asks nothing of its callers: what shows them has to be such as can be called. A call, as `list_of` is.
+#[inline(never)]
+pub fn show_files<F: FnOnce(&Listed, Texts<'_>)>(
+    rt: &(impl Files + Print),
+    list: Result<Listed, Answer>,
+    names: [&[u8]; 3],
+    show: F,
+)
+    requires { F.IsAlwaysCallable show }
+{
+    match list {
+        Ok(listed) => {
+            let mut source: Text = Filled::new();
+            let mut target: Text = Filled::new();
+            let mut matching: Text = Filled::new();
+            read_text(rt, names[0], &mut source);
+            read_text(rt, names[1], &mut target);
+            read_text(rt, names[2], &mut matching);
+            let texts = Texts {
+                source: source.as_slice(),
+                target: target.as_slice(),
+                matching: matching.as_slice(),
+            };
+            show(&listed, texts);
+        }
+        Err(refusal) => print_answer_line(rt, "accepted", refusal),
+    }
+}
+
+// The texts of the files that the words of the call name, as `judge_named` takes them, shown likewise.
+pub fn show_named<F: FnOnce(&Listed, Texts<'_>)>(
+    rt: &(impl Env + Files + Print),
+    err: &impl Print,
+    usage: &[u8],
+    show: F,
+)
+    requires { F.IsAlwaysCallable show }
+{
+    let Some(options) = options_of(rt, err, usage) else {
+        return;
+    };
+    let source = name_at(rt, 1);
+    let target = name_at(rt, 2);
+    let matching = name_at(rt, 3);
+    show_files(
+        rt,
+        list_given(rt, options),
+        [source.as_slice(), target.as_slice(), matching.as_slice()],
+        show,
+    );
+}

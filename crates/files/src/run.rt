@@ -283,7 +283,7 @@ fn print_steps(rt: &impl Print, listed: &Listed, begun: &mut Begun) {
 }
 
 // What `laprunto` prints of three texts, and the steps of an accepted matching.
-pub(crate) fn print_run(rt: &impl Print, listed: &Listed, texts: Texts<'_>) {
+pub fn print_run(rt: &impl Print, listed: &Listed, texts: Texts<'_>) {
     let mut begun = Begun::new(listed, texts);
     let answer = begun.answer();
     print_found(rt, texts, answer);
