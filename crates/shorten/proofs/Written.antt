@@ -11,13 +11,15 @@ use borrow.Author.Tests.{eqb-false, le-leb, lt-leb}
 use Rattle.laws.proofs.Cases.{cases, either}
 use Rattle.event.specs.Answer.{answer, done}
 use Rattle.event.specs.declared.Answer.{Answer}
+use Rattle.registers.specs.Reading.{ListRead}
 use Rattle.std.specs.Prelude.{Result, Ok, Err}
 use Rattle.event.specs.Told.{Refuses}
+use Rattle.registers.specs.Reading.{refused as refused_list, read_as as list_as}
 use Rattle.trace.specs.Reading.{fault_in, survey_in, refused as read_refused}
 use Rattle.trace.specs.Reading.{TraceRead}
 use Rattle.trace.proofs.Readings.{survey_done}
 use Rattle.writer.specs.Put.{Put}
-use Rattle.shorten.specs.Text.{both_fault, part_by, Writes, short_text, short_matching, short_fault, shorten_in, short_out_in, matching_out_in, ShortensIn}
+use Rattle.shorten.specs.Text.{both_fault, part_by, Writes, short_text, short_matching, short_fault, shorten_in, short_out_in, matching_out_in, ShortensIn, shorten_listed, short_out_listed, matching_out_listed, ShortensListed}
 use Rattle.shorten.specs.declared.Shortened.{Shortened}
 
 put_front : {t out after : List ℕ} {n : ℕ} → Put out 0 t after n → length t ≤ length out → after ≡ part_by done t out
@@ -64,3 +66,15 @@ module _ (regs : List Bool) (t out matchingOut : List ℕ) where
       let g = fault_passes (survey_done regs 1 t z).0 in
       let v = rw (p, q) at w in
       record { result = rw g v.result; text = rw g v.text; matching = rw g v.matching }
+
+-- ---- with the text of a list: its refusal, or what comes under it
+
+module _ (list : ListRead) (t out matchingOut : List ℕ) where
+  pub list_refuses : (a : Answer) → Refuses a → refused_list a ≡ list → ShortensListed list t out matchingOut (Err a) out matchingOut
+  unfolding shorten_listed short_out_listed matching_out_listed
+  list_refuses a r q = record { result = (r, rw (← q, r)); text = rw (← q, r); matching = rw (← q, r) }
+
+  pub list_passes : (marks : List Bool) → list_as marks ≡ list → (r : Result Shortened Answer) (after matchingAfter : List ℕ)
+      → ShortensIn marks t out matchingOut r after matchingAfter → ShortensListed list t out matchingOut r after matchingAfter
+  unfolding shorten_listed short_out_listed matching_out_listed
+  list_passes marks q r after matchingAfter w = record { result = rw (← q) w.result; text = rw (← q) w.text; matching = rw (← q) w.matching }
