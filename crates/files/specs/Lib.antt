@@ -2,3 +2,4 @@
 pub mod Counts
 pub mod Lines
 pub mod Run
+pub mod Shown
